@@ -1,0 +1,41 @@
+-- The limits of the paper, each once ("The sheet file", "Expansion", "Refusal table").
+-- Assumes nothing.
+use Prim.Native.Nat.{ℕ, _*_}
+
+-- The sheet file: at most 8,192 bytes and 512 rows; numbers 0 to 255; sheets 0 to 31; boards 0 to 15.
+abbrev pub textMost : ℕ
+textMost = 8192
+
+abbrev pub rowsMost : ℕ
+rowsMost = 512
+
+abbrev pub numberMost : ℕ
+numberMost = 255
+
+abbrev pub sheets : ℕ
+sheets = 32
+
+abbrev pub boards : ℕ
+boards = 16
+
+-- A block, and a walk, has at most 128 messages.
+abbrev pub messagesMost : ℕ
+messagesMost = 128
+
+-- Level 8 is allowed, and a call made there is not; a walk makes at most 1,024 calls.
+abbrev pub levels : ℕ
+levels = 8
+
+abbrev pub callsMost : ℕ
+callsMost = 1024
+
+-- The codes are 0 to 5.
+abbrev pub channels : ℕ
+channels = 6
+
+-- The buffers lent: scratch of 2,048 words, and a trace with two bytes for each of three steps a message.
+abbrev pub scratchLeast : ℕ
+scratchLeast = 2048
+
+abbrev pub traceLeast : ℕ
+traceLeast = 768

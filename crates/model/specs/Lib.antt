@@ -1,1 +1,15 @@
 pub mod Limits
+pub mod Bounded
+pub mod Refusal
+pub mod Text
+pub mod Rows
+pub mod Place
+pub mod Expansion
+pub mod Order
+pub mod Channel
+pub mod Run
+pub mod Race
+pub mod Schedule
+pub mod Answer
+pub mod Verdict
+pub mod Marked

@@ -33,9 +33,9 @@ callsMost = 1024
 abbrev pub channels : ℕ
 channels = 6
 
--- The buffers lent: scratch of 2,048 words, and a trace with two bytes for each of three steps a message.
+-- The buffers lent: scratch of 2,048 words; a trace of 768 bytes, two for each of three steps a message.
 abbrev pub scratchLeast : ℕ
 scratchLeast = 2048
 
 abbrev pub traceLeast : ℕ
-traceLeast = 768
+traceLeast = 2 * (3 * messagesMost)

@@ -1,0 +1,131 @@
+-- What the tests of specs/Bounded say, one law each. Assumes nothing.
+use Prim.Native.Nat.{ℕ, zero, suc, _<_, _≤_}
+use native.Mathlib.Nat.{not-suc-le-zero, le-refl, le-of-suc-le-suc, eq-or-lt-of-le, le-step, lt-suc-self}
+use native.Mathlib.Omega.{arith}
+use mathlib.Core.Path.{_≡_, refl, sym, _∙_, ap, subst}
+use mathlib.Core.Logic.{_⊎_, inl, inr, ⊎-elim}
+use mathlib.Core.Bool.{Bool, true, false, not, cond, _&&_, _||_}
+use mathlib.Core.Option.{Option, none, some}
+use borrow.Author.Tests.{not-true, not-false}
+use Rattle.model.specs.Bounded.{every, any, lowest}
+
+-- the halves of a conjunction that holds
+pub and-left : (a b : Bool) → (a && b) ≡ true → a ≡ true
+and-left true b h = refl
+and-left false b h = h
+
+pub and-right : (a b : Bool) → (a && b) ≡ true → b ≡ true
+and-right true b h = h
+and-right false b h = let z : _≡_ {A = ℕ} 0 1 = cc in absurd (omega arith)
+
+pub and-both : (a b : Bool) → a ≡ true → b ≡ true → (a && b) ≡ true
+and-both a b p q = rw (p, q)
+
+-- a disjunction that holds
+pub or-cases : (a b : Bool) → (a || b) ≡ true → (a ≡ true) ⊎ (b ≡ true)
+or-cases true b h = inl refl
+or-cases false b h = inr h
+
+pub or-left : (a b : Bool) → a ≡ true → (a || b) ≡ true
+or-left a b p = rw p
+
+pub or-right : (a b : Bool) → b ≡ true → (a || b) ≡ true
+or-right true b p = refl
+or-right false b p = p
+
+-- a test passes or fails, and not both
+pub which : (b : Bool) → (b ≡ true) ⊎ (b ≡ false)
+which true = inl refl
+which false = inr refl
+
+pub not-both : {C : Type 0} (b : Bool) → b ≡ true → b ≡ false → C
+not-both b p q = let z : _≡_ {A = ℕ} 0 1 = cc in absurd (omega arith)
+
+pub not-is-true : (b : Bool) → b ≡ false → not b ≡ true
+not-is-true b p = rw p
+
+-- the numbers below n + 1
+below-suc : {k n : ℕ} → k < suc n → (k ≡ n) ⊎ (k < n)
+below-suc h = eq-or-lt-of-le (le-of-suc-le-suc h)
+
+-- every: at each number below the bound, and from each
+pub every-at : (n : ℕ) (p : ℕ → Bool) → every n p ≡ true → (k : ℕ) → k < n → p k ≡ true
+unfolding every
+every-at zero p h k l = absurd (not-suc-le-zero l)
+every-at (suc n) p h k l =
+    ⊎-elim
+    (λ e. subst (λ (j : ℕ). p j ≡ true) (sym e) (and-right (every n p) (p n) h))
+    (λ l′. every-at n p (and-left (every n p) (p n) h) k l′)
+    (below-suc l)
+
+pub every-from : (n : ℕ) (p : ℕ → Bool) → ((k : ℕ) → k < n → p k ≡ true) → every n p ≡ true
+unfolding every
+every-from zero p h = refl
+every-from (suc n) p h =
+    and-both (every n p) (p n) (every-from n p (λ k l. h k (le-step l))) (h n (lt-suc-self n))
+
+-- a number below the bound that fails the test, where not every one passes it
+pub every-not : (n : ℕ) (p : ℕ → Bool) → every n p ≡ false → (k : ℕ) × (k < n) × (p k ≡ false)
+unfolding every
+every-not zero p h = not-both true refl h
+every-not (suc n) p h =
+    ⊎-elim
+    (λ (t : p n ≡ true). let e : every n p ≡ false = fails (every n p) (p n) t h in
+    let r = every-not n p e in
+    (r .0, le-step (r .1), r .2))
+    (λ f. (n, lt-suc-self n, f))
+    (which (p n))
+  where
+    fails : (a b : Bool) → b ≡ true → (a && b) ≡ false → a ≡ false
+    fails true b t f = not-both b t f
+    fails false b t f = refl
+
+-- any: from one number, and some number
+pub any-from : (n : ℕ) (p : ℕ → Bool) (k : ℕ) → k < n → p k ≡ true → any n p ≡ true
+unfolding any
+any-from n p k l h =
+    ⊎-elim
+    (λ (e : every n (λ j. not (p j)) ≡ true). not-both (p k) h (not-true (p k) (every-at n (λ j. not (p j)) e k l)))
+    (λ (e : every n (λ j. not (p j)) ≡ false). not-is-true (every n (λ j. not (p j))) e)
+    (which (every n (λ j. not (p j))))
+
+pub any-some : (n : ℕ) (p : ℕ → Bool) → any n p ≡ true → (k : ℕ) × (k < n) × (p k ≡ true)
+unfolding any
+any-some n p h =
+    let r = every-not n (λ j. not (p j)) (not-true (every n (λ j. not (p j))) h) in
+    (r .0, r .1, not-false (p (r .0)) (r .2))
+
+pub any-none : (n : ℕ) (p : ℕ → Bool) → any n p ≡ false → (k : ℕ) → k < n → p k ≡ false
+any-none n p h k l =
+    ⊎-elim (λ (t : p k ≡ true). not-both (any n p) (any-from n p k l t) h) (λ f. f) (which (p k))
+
+-- lowest: none below the bound passes; or the one found is below it, passes, and no lower one does
+pub record IsLowest (n : ℕ) (p : ℕ → Bool) (k : ℕ) : Type 0 where
+  pub below : k < n
+  pub passes : p k ≡ true
+  pub first : (j : ℕ) → j < k → p j ≡ false
+
+-- what the search for the lowest found
+abbrev pub Found : ℕ → (ℕ → Bool) → Option ℕ → Type 0
+Found n p none = (k : ℕ) → k < n → p k ≡ false
+Found n p (some k) = IsLowest n p k
+
+found-step : (n : ℕ) (p : ℕ → Bool) (o : Option ℕ) → Found n p o
+    → Found (suc n) p (elim o [ none ↦ cond (p n) (some n) none | some k ↦ some k ])
+found-step n p (some k) h = record { below = le-step (h .below); passes = h .passes; first = h .first }
+found-step n p none h = go (p n) refl
+  where
+    go : (b : Bool) → p n ≡ b → Found (suc n) p (cond b (some n) none)
+    go true e = record { below = lt-suc-self n; passes = e; first = h }
+    go false e = λ k l. ⊎-elim (λ i. subst (λ (j : ℕ). p j ≡ false) (sym i) e) (λ l′. h k l′) (below-suc l)
+
+pub lowest-found : (n : ℕ) (p : ℕ → Bool) → Found n p (lowest n p)
+unfolding lowest
+lowest-found zero p = λ k l. absurd (not-suc-le-zero l)
+lowest-found (suc n) p = found-step n p (lowest n p) (lowest-found n p)
+
+pub lowest-none : (n : ℕ) (p : ℕ → Bool) → lowest n p ≡ none → (k : ℕ) → k < n → p k ≡ false
+lowest-none n p e = subst (λ (o : Option ℕ). Found n p o) e (lowest-found n p)
+
+pub lowest-some : (n : ℕ) (p : ℕ → Bool) (k : ℕ) → lowest n p ≡ some k → IsLowest n p k
+lowest-some n p k e = subst (λ (o : Option ℕ). Found n p o) e (lowest-found n p)

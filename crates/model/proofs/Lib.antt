@@ -1,0 +1,3 @@
+pub mod Bounded
+pub mod Causal
+pub mod Marked

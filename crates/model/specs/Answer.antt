@@ -1,0 +1,89 @@
+-- "Refusal table" and "Sheets to try": the answer for a text, a code and the lengths of the two buffers; what the
+-- buffers hold behind the call; and the word and three numbers of each answer. Assumes nothing.
+use Prim.Native.Nat.{ℕ, _*_}
+use mathlib.Core.Bool.{Bool, true, false, cond, _||_}
+use mathlib.Core.List.{List, [], _∷_, _++_}
+use mathlib.Core.Option.{Option, none, some}
+use lib.Dec.{eqb, ltb, leb}
+use lib.ListN.{length, drop, replicate}
+use Rattle.model.specs.Limits.{channels, scratchLeast, traceLeast}
+use Rattle.model.specs.Refusal.{Out, ok, refusal, andThen, channelRefusal, benchRefusal, circleRefusal}
+use Rattle.model.specs.Rows.{Row}
+use Rattle.model.specs.Place.{readOf}
+use Rattle.model.specs.Expansion.{Progress, expand}
+use Rattle.model.specs.Order.{Scenario, Met, nothingMet, metOps, exchangeOf, scenarioOf, hasCircle}
+use Rattle.model.specs.Channel.{channelOf}
+use Rattle.model.specs.Run.{Step}
+use Rattle.model.specs.Race.{raceRuleOf, lowestMessage, lowestEvent}
+use Rattle.model.specs.Schedule.{schedule, bytesOf}
+
+-- the scenario, unless an event is before itself (refusal 11)
+unfoldable pub withoutCircle : Scenario → Out Scenario
+withoutCircle S = cond (hasCircle S) (refusal circleRefusal 0) (ok S)
+
+-- the scenario of the rows read, or refusal 8 to 11
+unfoldable pub expandedOf : List Row → Out Scenario
+expandedOf file = andThen (expand metOps file nothingMet) (λ s. withoutCircle (scenarioOf (exchangeOf s)))
+
+-- the scenario of a text, or refusal 3 to 11
+unfoldable pub sheetOf : List ℕ → Out Scenario
+sheetOf text = andThen (readOf text) expandedOf
+
+-- A sheet is accepted, with its channel and the buffers lent, if no line of the refusal table applies.
+unfoldable pub acceptedOf : List ℕ → ℕ → ℕ → ℕ → Out Scenario
+acceptedOf text code scratchLength traceLength =
+    cond (ltb code channels)
+    (cond (ltb scratchLength scratchLeast || ltb traceLength traceLeast) (refusal benchRefusal 0) (sheetOf text))
+    (refusal channelRefusal 0)
+
+-- Locked names the race, message and event number, and the steps that stop the boards; refused gives number and line.
+pub data Answer : Type 0 where
+  free : Answer
+  locked : ℕ → ℕ → List Step → Answer
+  refused : ℕ → ℕ → Answer
+
+-- the answer for an accepted sheet: the race with the lowest e, then the lowest x, and the schedule for e
+unfoldable pub verdictOf : Scenario → ℕ → Answer
+verdictOf S code =
+    elim (lowestMessage S (raceRuleOf code)) [
+      | none ↦ free
+      | some e ↦ elim (lowestEvent S (raceRuleOf code) e) [
+        | none ↦ free
+        | some x ↦ locked e x (schedule S (channelOf code) e)
+      ]
+    ]
+
+unfoldable pub answerFor : Out Scenario → ℕ → Answer
+answerFor (ok S) code = verdictOf S code
+answerFor (refusal number line) code = refused number line
+
+unfoldable pub answerOf : List ℕ → ℕ → ℕ → ℕ → Answer
+answerOf text code scratchLength traceLength = answerFor (acceptedOf text code scratchLength traceLength) code
+
+-- the refusals that touch neither buffer
+abbrev pub touchesNothing : Answer → Bool
+touchesNothing free = false
+touchesNothing (locked e x ts) = false
+touchesNothing (refused number line) = leb number benchRefusal
+
+-- behind every other call the first 2,048 scratch words are zero and the rest are unchanged
+unfoldable pub scratchAfter : Answer → List ℕ → List ℕ
+scratchAfter a words = cond (touchesNothing a) words (replicate scratchLeast 0 ++ drop scratchLeast words)
+
+-- the trace buffer changes only on "locked", in the bytes of the steps reported
+unfoldable pub traceAfter : Answer → List ℕ → List ℕ
+traceAfter free trace = trace
+traceAfter (locked e x ts) trace = bytesOf ts ++ drop (2 * length ts) trace
+traceAfter (refused number line) trace = trace
+
+-- The word, 0 free, 1 locked, 2 refused, and the three numbers printed behind it.
+pub record Numbers : Type 0 where
+  pub word : ℕ
+  pub one : ℕ
+  pub two : ℕ
+  pub three : ℕ
+
+unfoldable pub numbersOf : Answer → Numbers
+numbersOf free = record { word = 0; one = 0; two = 0; three = 0 }
+numbersOf (locked e x ts) = record { word = 1; one = e; two = x; three = length ts }
+numbersOf (refused number line) = record { word = 2; one = number; two = line; three = 0 }

@@ -1,0 +1,112 @@
+-- "The sheet file" and "Refusal table", 3 to 7: where a row may stand, and the reading of a whole text.
+-- Assumes nothing.
+use Prim.Native.Nat.{ℕ, suc, _+_, _*_}
+use mathlib.Core.Bool.{Bool, true, false, not, cond, _&&_, _||_}
+use mathlib.Core.List.{List, [], _∷_, _++_}
+use mathlib.Core.Option.{Option, none, some}
+use lib.Dec.{eqb, leb, ltb}
+use lib.ListN.{length, getD}
+use Rattle.model.specs.Limits.{textMost, rowsMost, sheets, boards, messagesMost}
+use Rattle.model.specs.Bounded.{among}
+use Rattle.model.specs.Refusal.{Out, ok, refusal, andThen, lengthRefusal, headingRefusal, rowRefusal, placeRefusal, absentRefusal}
+use Rattle.model.specs.Text.{Line, Columns, linesOf, headingOf}
+use Rattle.model.specs.Rows.{Row, sheet, message, order, block, call, rowOf}
+
+-- Where the reader stands: the sheets opened so far, and the board of each event of the open block, by event number.
+pub record Place : Type 0 where
+  pub opened : List ℕ
+  pub events : List ℕ
+
+-- before the first row
+abbrev pub outside : Place
+outside = record { opened = []; events = [] }
+
+-- the open block's events, with a message from board a to board b more: its send is on a and its receive on b
+abbrev pub withMessage : List ℕ → ℕ → ℕ → List ℕ
+withMessage events a b = events ++ (a ∷ b ∷ [])
+
+-- `M a b` may stand here: boards 0 to 15, and no message 129 of the block
+unfoldable pub messageFits : List ℕ → ℕ → ℕ → Bool
+messageFits events a b = ltb a boards && ltb b boards && ltb (length events) (2 * messagesMost)
+
+-- `P x y` may stand here: both events are there, differ, and are on one board
+unfoldable pub orderFits : List ℕ → ℕ → ℕ → Bool
+orderFits events x y =
+    ltb x (length events) && ltb y (length events) && not (eqb x y) && eqb (getD events x 0) (getD events y 0)
+
+-- the place behind a row; nothing where a rule is broken. An S row opens a sheet, 0 to 31 and each at most once
+unfoldable pub moved : Place → Row → Option Place
+moved p (sheet n) =
+    cond (ltb n sheets && not (among n (p .opened))) (some (record { opened = n ∷ p .opened; events = [] })) none
+moved p (message a b) =
+    cond (messageFits (p .events) a b) (some (record { opened = p .opened; events = withMessage (p .events) a b })) none
+moved p (order x y) = cond (orderFits (p .events) x y) (some p) none
+moved p block = some (record { opened = p .opened; events = [] })
+moved p (call n) = cond (ltb n sheets) (some (record { opened = p .opened; events = [] })) none
+
+unfoldable pub isSheet : Row → Bool
+isSheet (sheet n) = true
+isSheet (message a b) = false
+isSheet (order x y) = false
+isSheet block = false
+isSheet (call n) = false
+
+-- every other row stands behind an S row (refusal 6 where there is no place for a row)
+unfoldable pub placed : Place → Row → Option Place
+placed p r = cond (isSheet r || not (eqb (length (p .opened)) 0)) (moved p r) none
+
+-- the line of the row with the given number, from 0; the heading is line 1
+abbrev pub lineOf : ℕ → ℕ
+lineOf i = i + 2
+
+-- a row and the place behind it, unless its form (5, which row 513 has not either) or else its place (6) is refused
+unfoldable pub judged : Columns → ℕ → Place → Line → Out (Row × Place)
+judged c i p l =
+    elim (cond (ltb i rowsMost) (rowOf c l) none) [
+      | none ↦ refusal rowRefusal (lineOf i)
+      | some r ↦ elim (placed p r) [ none ↦ refusal placeRefusal (lineOf i) | some q ↦ ok (r, q) ]
+    ]
+
+-- the rows, read one by one; i is the number of the first
+unfoldable pub rowsFrom : Columns → ℕ → Place → List Line → Out (List Row)
+rowsFrom c i p [] = ok []
+rowsFrom c i p (l ∷ ls) =
+    elim (judged c i p l) [
+      | refusal number line ↦ refusal number line
+      | ok rp ↦ elim (rowsFrom c (suc i) (rp .1) ls) [ refusal number line ↦ refusal number line | ok rs ↦ ok ((rp .0) ∷ rs) ]
+    ]
+
+-- the sheets that the rows open
+unfoldable pub opens : List Row → List ℕ
+opens [] = []
+opens (sheet n ∷ rs) = n ∷ opens rs
+opens (message a b ∷ rs) = opens rs
+opens (order x y ∷ rs) = opens rs
+opens (block ∷ rs) = opens rs
+opens (call n ∷ rs) = opens rs
+
+-- the line of the first call to a sheet that is not among those present; i is the number of the first row
+unfoldable pub strayCall : List ℕ → ℕ → List Row → Option ℕ
+strayCall present i [] = none
+strayCall present i (sheet n ∷ rs) = strayCall present (suc i) rs
+strayCall present i (message a b ∷ rs) = strayCall present (suc i) rs
+strayCall present i (order x y ∷ rs) = strayCall present (suc i) rs
+strayCall present i (block ∷ rs) = strayCall present (suc i) rs
+strayCall present i (call n ∷ rs) = cond (among n present) (strayCall present (suc i) rs) (some (lineOf i))
+
+-- sheet 0 is there (else 7, line 0), and so is every sheet that is called (else 7, the first such call's line)
+unfoldable pub complete : List Row → Out (List Row)
+complete rs =
+    cond (among 0 (opens rs))
+    (elim (strayCall (opens rs) 0 rs) [ none ↦ ok rs | some line ↦ refusal absentRefusal line ])
+    (refusal absentRefusal 0)
+
+-- the rows behind a heading
+unfoldable pub bodyOf : List Line → Out (List Row)
+bodyOf [] = refusal headingRefusal 1
+bodyOf (h ∷ ls) =
+    elim (headingOf h) [ none ↦ refusal headingRefusal 1 | some c ↦ andThen (rowsFrom c 0 outside ls) complete ]
+
+-- the rows of a text, or the refusal, 3 to 7, that it gets
+unfoldable pub readOf : List ℕ → Out (List Row)
+readOf text = cond (ltb 0 (length text) && leb (length text) textMost) (bodyOf (linesOf text)) (refusal lengthRefusal 0)

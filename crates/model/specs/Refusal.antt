@@ -1,0 +1,45 @@
+-- "Refusal table": the eleven numbers, and what a part of the check hands on: a value, or the refusal with its line.
+-- Assumes nothing.
+use Prim.Native.Nat.{ℕ}
+
+pub data Out (A : Type 0) : Type 0 where
+  ok : A → Out A
+  refusal : ℕ → ℕ → Out A
+
+-- go on with what was handed on, unless it was refused
+unfoldable pub andThen : {A B : Type 0} → Out A → (A → Out B) → Out B
+andThen (ok a) f = f a
+andThen (refusal number line) f = refusal number line
+
+abbrev pub channelRefusal : ℕ
+channelRefusal = 1
+
+abbrev pub benchRefusal : ℕ
+benchRefusal = 2
+
+abbrev pub lengthRefusal : ℕ
+lengthRefusal = 3
+
+abbrev pub headingRefusal : ℕ
+headingRefusal = 4
+
+abbrev pub rowRefusal : ℕ
+rowRefusal = 5
+
+abbrev pub placeRefusal : ℕ
+placeRefusal = 6
+
+abbrev pub absentRefusal : ℕ
+absentRefusal = 7
+
+abbrev pub depthRefusal : ℕ
+depthRefusal = 8
+
+abbrev pub callsRefusal : ℕ
+callsRefusal = 9
+
+abbrev pub messagesRefusal : ℕ
+messagesRefusal = 10
+
+abbrev pub circleRefusal : ℕ
+circleRefusal = 11

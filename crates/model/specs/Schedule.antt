@@ -1,0 +1,58 @@
+-- "Races and the schedule": the withholding schedule, and the trace's bytes. Assumes nothing.
+use Prim.Native.Nat.{ℕ, zero, suc, _*_}
+use mathlib.Core.Path.{_≡_}
+use mathlib.Core.Bool.{Bool, true, false, _&&_}
+use mathlib.Core.List.{List, [], _∷_}
+use mathlib.Core.Option.{Option, none, some}
+use lib.Dec.{eqb}
+use Rattle.model.specs.Bounded.{lowest}
+use Rattle.model.specs.Order.{sendOf, receiveOf, Scenario, atOrBefore}
+use Rattle.model.specs.Channel.{Channel}
+use Rattle.model.specs.Run.{State, start, Step, send, deliver, consume, next, allowed}
+
+-- a class of steps: a step for each message that passes the test
+pub record Class : Type 0 where
+  pub step : ℕ → Step
+  pub takes : ℕ → Bool
+
+-- The six classes, in their order. Where the last two are reached, no step of the others is allowed.
+unfoldable pub classesFor : Scenario → ℕ → List Class
+classesFor S e =
+    record { step = consume; takes = λ m. true }
+    ∷ record { step = deliver; takes = λ m. eqb m e }
+    ∷ record { step = deliver; takes = λ m. S .before (receiveOf m) (sendOf e) }
+    ∷ record { step = send; takes = λ m. atOrBefore S (sendOf m) (sendOf e) }
+    ∷ record { step = deliver; takes = λ m. true }
+    ∷ record { step = send; takes = λ m. true }
+    ∷ []
+
+module _ (S : Scenario) (c : Channel) where
+  -- the first class with an allowed step, and in it the lowest message
+  unfoldable pub choose : List Class → State → Option Step
+  choose [] s = none
+  choose (k ∷ ks) s =
+      elim (lowest (S .count) (λ m. k .takes m && allowed S c s (k .step m))) [
+        | some m ↦ some (k .step m)
+        | none ↦ choose ks s
+      ]
+
+  -- the schedule for e from the state s, for at most so many steps
+  unfoldable pub scheduleFrom : ℕ → ℕ → State → List Step
+  scheduleFrom e zero s = []
+  scheduleFrom e (suc fuel) s =
+      elim (choose (classesFor S e) s) [ none ↦ [] | some t ↦ t ∷ scheduleFrom e fuel (next S s t) ]
+
+  -- from the start, until stuck: three steps a message are always enough
+  unfoldable pub schedule : ℕ → List Step
+  schedule e = scheduleFrom e (3 * S .count) start
+
+-- two bytes a step: 0 send, 1 deliver, 2 consume; then the message
+unfoldable pub bytesOf : List Step → List ℕ
+bytesOf [] = []
+bytesOf (send m ∷ ts) = 0 ∷ m ∷ bytesOf ts
+bytesOf (deliver m ∷ ts) = 1 ∷ m ∷ bytesOf ts
+bytesOf (consume m ∷ ts) = 2 ∷ m ∷ bytesOf ts
+
+-- the bytes are those of the steps
+abbrev pub Spells : List ℕ → List Step → Type 0
+Spells bytes ts = bytes ≡ bytesOf ts

@@ -43,9 +43,13 @@ module _ (S : Scenario) where
   unfoldable pub everyEvent : (Event → Bool) → Bool
   everyEvent p = every (S .count) (λ m. p (sendOf m) && p (receiveOf m))
 
+  -- y is before x on x's board
+  unfoldable pub isAhead : Event → Event → Bool
+  isAhead y x = S .before y x && eqb (board S y) (board S x)
+
   -- an event is ready when it is not done and all events before it on its board are done
   unfoldable pub ready : State → Event → Bool
-  ready s x = not (s .done x) && everyEvent (λ y. not (S .before y x && eqb (board S y) (board S x)) || s .done y)
+  ready s x = not (s .done x) && everyEvent (λ y. not (isAhead y x) || s .done y)
 
   unfoldable pub bufferEmpty : State → ℕ → Bool
   bufferEmpty s b = every (S .count) (λ m. not (s .holds b m))

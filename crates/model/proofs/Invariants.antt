@@ -11,17 +11,12 @@ use Rattle.model.specs.Order.{Event, sendOf, receiveOf, number, messageO
 use Rattle.model.specs.Channel.{Channel, ToSend, ToDeliver, noEarlierUnderWay, channelEmpty, inOrder, alone}
 use Rattle.model.specs.Run.{Step, send, deliver, consume}
 use Rattle.model.proofs.Bounded.{or-cases, or-left, or-right, which, not-both}
+use Rattle.model.proofs.Events.{at-or-before-cases}
 use Rattle.model.proofs.Causal.{Causal, LastLink}
-use Rattle.model.proofs.Phases.{equal-or-not, doneAt, bump, bump-same, bump-other, bump-cases, same-number, messageIn, phaseIn}
+use Rattle.model.proofs.Phases.{equal-or-not, doneAt, bump, bump-same, bump-other, bump-cases, messageIn, phaseIn}
 use Rattle.model.proofs.Rules.{Ready, SendRule, DeliverRule, MaySend, MayDeliver, MayConsume, May}
 
 module _ (S : Scenario) where
-  -- at or before: the same event, or before
-  pub atOrBefore-cases : (x y : Event) → atOrBefore S x y ≡ true → (x ≡ y) ⊎ (S .before x y ≡ true)
-  unfolding atOrBefore
-  atOrBefore-cases x y h =
-      ⊎-elim (λ e. inl (same-number x y e)) (λ b. inr b) (or-cases (eqb (number x) (number y)) (S .before x y) h)
-
   module _ (φ : ℕ → ℕ) where
     -- a message sent has no message under way whose send is before its own
     abbrev pub Passed : Type 0
@@ -147,7 +142,7 @@ module _ (S : Scenario) where
 
       done-below : (x y : Event) → atOrBefore S x y ≡ true → doneAt φ y ≡ true → doneAt φ x ≡ true
       done-below x y h d =
-          ⊎-elim (λ e. subst (λ (z : Event). doneAt φ z ≡ true) (sym e) d) (λ b. I .closed x y b d) (atOrBefore-cases x y h)
+          ⊎-elim (λ e. subst (λ (z : Event). doneAt φ z ≡ true) (sym e) d) (λ b. I .closed x y b d) (at-or-before-cases S x y h)
 
       closed-bump : (x y : Event) → S .before x y ≡ true → doneAt (bump φ m) y ≡ true → doneAt (bump φ m) x ≡ true
       closed-bump x y b d =

@@ -1,7 +1,11 @@
 pub mod Bounded
 pub mod Causal
+pub mod Events
 pub mod Invariants
+pub mod Least
 pub mod Marked
 pub mod Phases
+pub mod Progress
 pub mod Rank
 pub mod Rules
+pub mod Suited

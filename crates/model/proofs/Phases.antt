@@ -64,13 +64,6 @@ receive-no-send : (k m : ℕ) → eqb (number (receiveOf k)) (number (sendOf m))
 unfolding number
 receive-no-send k m = ne-eqb (2 * k + 1) (2 * m) (λ e. omega arith)
 
--- events of one number are one event
-pub same-number : (x y : Event) → eqb (number x) (number y) ≡ true → x ≡ y
-same-number (sendOf k) (sendOf m) h = ap sendOf (eqb-true k m (sym (same-sends k m) ∙ h))
-same-number (sendOf k) (receiveOf m) h = not-both _ h (send-no-receive k m)
-same-number (receiveOf k) (sendOf m) h = not-both _ h (receive-no-send k m)
-same-number (receiveOf k) (receiveOf m) h = ap receiveOf (eqb-true k m (sym (same-receives k m) ∙ h))
-
 -- a test of a phase at the message that moves, and at another
 at-moved : (φ : ℕ → ℕ) (m k : ℕ) (P : Bool → ℕ → Type 0) → (k ≡ m → P true (suc (φ m))) → P false (φ k) → P (eqb k m) (bump φ m k)
 at-moved φ m k P moved other =

@@ -181,6 +181,10 @@ module _ (S : Scenario) where
           none-use (S .count) (λ k. eqb (φ k) 1 && S .before (sendOf k) (receiveOf m)) h f l (and-both (eqb (φ f) 1) (S .before (sendOf f) (receiveOf m)) (eq-eqb (φ f) 1 p) b)
       sendRule-use channelEmpty m h = λ f l p. none-use (S .count) (λ k. eqb (φ k) 1) h f l (eq-eqb (φ f) 1 p)
 
+      sendRule-none : (r : ToSend) (m : ℕ) → r ≡ ToSend.always → maySend S c r (view S φ) m ≡ true
+      unfolding maySend
+      sendRule-none r m e = rw (e, maySend)
+
       -- where nothing is under way, no rule forbids to send
       sendRule-quiet : (r : ToSend) (m : ℕ) → Quiet → maySend S c r (view S φ) m ≡ true
       unfolding maySend
@@ -285,10 +289,12 @@ module _ (S : Scenario) where
               ready = ready-use C φ (receiveOf m) (and-right (i && w) r h);
             }
 
-        pub send-on : (m : ℕ) → m < S .count → Ready C φ (sendOf m) → BoardFree (S .source m) → Quiet → allowed S c (view S φ) (send m) ≡ true
+        pub send-on : (m : ℕ) → m < S .count → Ready C φ (sendOf m) → BoardFree (S .source m)
+            → (Quiet ⊎ (c .toSend ≡ ToSend.always)) → allowed S c (view S φ) (send m) ≡ true
         unfolding allowed
         send-on m l r b q =
-            rw (lt-ltb m (S .count) l, ready-on C φ (sendOf m) r, boardFree-on (S .source m) b, sendRule-quiet (c .toSend) m q)
+            let u : maySend S c (c .toSend) (view S φ) m ≡ true = ⊎-elim (sendRule-quiet (c .toSend) m) (sendRule-none (c .toSend) m) q in
+            rw (lt-ltb m (S .count) l, ready-on C φ (sendOf m) r, boardFree-on (S .source m) b, u)
 
         pub deliver-on : (m : ℕ) → MayDeliver m → allowed S c (view S φ) (deliver m) ≡ true
         unfolding allowed

@@ -113,32 +113,43 @@ module _ (S : Scenario) where
       done-stays (sendOf k) d = le-leb 1 (bump φ m k) (grows 1 k (leb-true 1 (φ k) d))
       done-stays (receiveOf k) d = le-leb 3 (bump φ m k) (grows 3 k (leb-true 3 (φ k) d))
 
-      -- an event newly done was ready, and a receive newly done had its send done
-      newly : (y : Event) → doneAt φ y ≡ false → doneAt (bump φ m) y ≡ true
-          → Ready S C φ y × ((k : ℕ) → y ≡ receiveOf k → doneAt φ (sendOf k) ≡ true)
-      newly (sendOf k) u d =
+      -- an event newly done is the send of m, or its receive
+      pub newly-is : (y : Event) → doneAt φ y ≡ false → doneAt (bump φ m) y ≡ true
+          → ((y ≡ sendOf m) × (φ m ≡ 0)) ⊎ ((y ≡ receiveOf m) × (φ m ≡ 2))
+      newly-is (sendOf k) u d =
           let low : φ k < 1 = leb-false 1 (φ k) u in
           let high : 1 ≤ bump φ m k = leb-true 1 (bump φ m k) d in
           ⊎-elim
-          (λ (e : (k ≡ m) × (bump φ m k ≡ suc (φ m))).
-            (
-              subst (λ (q : ℕ). Ready S C φ (sendOf q)) (sym (e .0)) (M .sent (omega (arith, ap φ (e .0))) .ready),
-              λ q i. (let z : _≡_ {A = ℕ} 0 1 = cc in absurd (omega arith)),
-            ))
+          (λ (e : (k ≡ m) × (bump φ m k ≡ suc (φ m))). inl (ap sendOf (e .0), omega (arith, ap φ (e .0))))
           (λ (e : (k ≡ m → ⊥) × (bump φ m k ≡ φ k)). absurd (omega (arith, e .1)))
           (bump-cases φ m k)
-      newly (receiveOf k) u d =
+      newly-is (receiveOf k) u d =
           let low : φ k < 3 = leb-false 3 (φ k) u in
           let high : 3 ≤ bump φ m k = leb-true 3 (bump φ m k) d in
           ⊎-elim
-          (λ (e : (k ≡ m) × (bump φ m k ≡ suc (φ m))).
-            let p : φ m ≡ 2 = omega (arith, ap φ (e .0), e .1) in
-            (
-              subst (λ (q : ℕ). Ready S C φ (receiveOf q)) (sym (e .0)) (M .consumed p .ready),
-              λ q i. (let z : k ≡ q = cc in le-leb 1 (φ q) (omega (arith, ap φ z, ap φ (e .0)))),
-            ))
+          (λ (e : (k ≡ m) × (bump φ m k ≡ suc (φ m))). inr (ap receiveOf (e .0), omega (arith, ap φ (e .0), e .1)))
           (λ (e : (k ≡ m → ⊥) × (bump φ m k ≡ φ k)). absurd (omega (arith, e .1)))
           (bump-cases φ m k)
+
+      -- it was ready, and a receive newly done had its send done
+      newly : (y : Event) → doneAt φ y ≡ false → doneAt (bump φ m) y ≡ true
+          → Ready S C φ y × ((k : ℕ) → y ≡ receiveOf k → doneAt φ (sendOf k) ≡ true)
+      newly y u d =
+          ⊎-elim
+          (λ (e : (y ≡ sendOf m) × (φ m ≡ 0)).
+            let at : y ≡ sendOf m = e .0 in
+            (
+              subst (λ (z : Event). Ready S C φ z) (sym at) (M .sent (e .1) .ready),
+              λ k i. (let z : _≡_ {A = ℕ} 0 1 = cc in absurd (omega arith)),
+            ))
+          (λ (e : (y ≡ receiveOf m) × (φ m ≡ 2)).
+            let at : y ≡ receiveOf m = e .0 in
+            let p : φ m ≡ 2 = e .1 in
+            (
+              subst (λ (z : Event). Ready S C φ z) (sym at) (M .consumed p .ready),
+              λ k i. (let z : m ≡ k = cc in le-leb 1 (φ k) (omega (arith, ap φ z))),
+            ))
+          (newly-is y u d)
 
       done-below : (x y : Event) → atOrBefore S x y ≡ true → doneAt φ y ≡ true → doneAt φ x ≡ true
       done-below x y h d =

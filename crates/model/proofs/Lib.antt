@@ -2,6 +2,7 @@ pub mod Bounded
 pub mod Causal
 pub mod Events
 pub mod Invariants
+pub mod Jam
 pub mod Least
 pub mod Marked
 pub mod Phases

@@ -1,3 +1,6 @@
 pub mod Bounded
 pub mod Causal
 pub mod Marked
+pub mod Events
+pub mod Closure
+pub mod Order

@@ -1,0 +1,59 @@
+-- Events and their numbers, the events of the messages below a bound, and "at or before" taken apart.
+-- Assumes nothing.
+use Prim.Native.Nat.{ℕ, _+_, _*_, _/_, _%_, _<_}
+use native.Mathlib.Omega.{arith}
+use mathlib.Core.Path.{_≡_, refl, sym, _∙_, ap, subst}
+use mathlib.Core.Logic.{_⊎_, inl, inr, ⊎-elim, _↔_}
+use mathlib.Core.Bool.{Bool, true, false, cond, _||_}
+use lib.Dec.{eqb}
+use borrow.Author.Tests.{eqb-true, eqb-false, eq-eqb}
+use Rattle.model.specs.Order.{Event, sendOf, receiveOf, number, event, messageOf, Scenario, atOrBefore}
+use Rattle.model.proofs.Bounded.{or-cases, or-left, or-right}
+
+pub event-number : (x : Event) → event (number x) ≡ x
+unfolding event number
+event-number (sendOf m) =
+    let d : 2 * m / 2 ≡ m = omega arith in
+    let r : 2 * m % 2 ≡ 0 = omega arith in
+    rw (r, d)
+event-number (receiveOf m) =
+    let d : (2 * m + 1) / 2 ≡ m = omega arith in
+    let r : (2 * m + 1) % 2 ≡ 1 = omega arith in
+    rw (r, d)
+
+pub number-event : (k : ℕ) → number (event k) ≡ k
+unfolding event number
+number-event k = go (eqb (k % 2) 0) refl
+  where
+    go : (b : Bool) → eqb (k % 2) 0 ≡ b → number (cond b (sendOf (k / 2)) (receiveOf (k / 2))) ≡ k
+    go true e = let r : k % 2 ≡ 0 = eqb-true (k % 2) 0 e in omega arith
+    go false e = let r : k % 2 ≡ 0 → ⊥ = eqb-false (k % 2) 0 e in omega arith
+
+pub number-injective : (x y : Event) → number x ≡ number y → x ≡ y
+number-injective x y e = sym (event-number x) ∙ ap event e ∙ event-number y
+
+-- the events of the messages below n have the numbers below 2 n
+pub below-number : (x : Event) (n : ℕ) → messageOf x < n ↔ number x < 2 * n
+unfolding number messageOf
+below-number (sendOf m) n = omega arith
+below-number (receiveOf m) n = omega arith
+
+pub below-event : (k n : ℕ) → k < 2 * n → messageOf (event k) < n
+below-event k n h = below-number (event k) n .1 (rw number-event h)
+
+-- "at or before" is equality or "before"
+pub at-or-before-cases : (S : Scenario) (x y : Event) → atOrBefore S x y ≡ true → (x ≡ y) ⊎ (S .before x y ≡ true)
+unfolding atOrBefore
+at-or-before-cases S x y h =
+    ⊎-elim
+    (λ e. inl (number-injective x y (eqb-true (number x) (number y) e)))
+    (λ b. inr b)
+    (or-cases (eqb (number x) (number y)) (S .before x y) h)
+
+pub at-or-before-same : (S : Scenario) (x y : Event) → x ≡ y → atOrBefore S x y ≡ true
+unfolding atOrBefore
+at-or-before-same S x y e = or-left (eqb (number x) (number y)) (S .before x y) (eq-eqb (number x) (number y) (ap number e))
+
+pub at-or-before-before : (S : Scenario) (x y : Event) → S .before x y ≡ true → atOrBefore S x y ≡ true
+unfolding atOrBefore
+at-or-before-before S x y b = or-right (eqb (number x) (number y)) (S .before x y) b

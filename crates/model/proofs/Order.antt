@@ -17,22 +17,65 @@ use Rattle.model.proofs.Closure.{linked-below, closure-holds, closure-t
 use Rattle.model.proofs.Causal.{LastLink}
 
 module _ (E : Exchange) where
-  abbrev eventsDirect : ℕ → ℕ → Bool
-  eventsDirect x y = direct E (event x) (event y)
-
-  -- both events of a pair are the exchange's
+  -- both events of a pair are the exchange's, and the two events of every P row are
   abbrev pub BothInside : Event → Event → Type 0
   BothInside x y = (messageOf x < E .count) × (messageOf y < E .count)
+
+  abbrev pub RowsInside : Type 0
+  RowsInside = (x y : Event) → E .ordered x y ≡ true → BothInside x y
+
+  -- What the three sources say.
+  direct-cases : (x y : Event) → direct E x y ≡ true → (E .ordered x y ≡ true) ⊎ (isOwn E x y ≡ true) ⊎ (isEarlier E x y ≡ true)
+  unfolding direct
+  direct-cases x y h =
+      ⊎-elim
+      (λ p. ⊎-elim (λ o. inl o) (λ o. inr (inl o)) (or-cases (E .ordered x y) (isOwn E x y) p))
+      (λ e. inr (inr e))
+      (or-cases (E .ordered x y || isOwn E x y) (isEarlier E x y) h)
+
+  pub own-parts : (x y : Event) → isOwn E x y ≡ true → (m : ℕ) × (x ≡ sendOf m) × (y ≡ receiveOf m) × (m < E .count)
+  unfolding isOwn
+  own-parts (sendOf m) (sendOf k) h = not-both false h refl
+  own-parts (sendOf m) (receiveOf k) h =
+      (m, refl,
+        ap receiveOf (sym (eqb-true m k (and-left (eqb m k) (ltb m (E .count)) h))),
+        ltb-true m (E .count) (and-right (eqb m k) (ltb m (E .count)) h))
+  own-parts (receiveOf m) (sendOf k) h = not-both false h refl
+  own-parts (receiveOf m) (receiveOf k) h = not-both false h refl
+
+  own-inside : (x y : Event) → isOwn E x y ≡ true → BothInside x y
+  unfolding messageOf
+  own-inside x y h = let p = own-parts x y h in (rw (p .1) (p .3), rw (p .2) (p .3))
+
+  pub record EarlierBlock (x y : Event) : Type 0 where
+    pub inside : BothInside x y
+    pub oneBoard : boardOf (E .source) (E .target) x ≡ boardOf (E .source) (E .target) y
+    pub laterBlock : E .block (messageOf x) < E .block (messageOf y)
+
+  pub earlier-parts : (x y : Event) → isEarlier E x y ≡ true → EarlierBlock x y
+  unfolding isEarlier isEvent
+  earlier-parts x y h =
+      let a = ltb (messageOf x) (E .count) in
+      let b = ltb (messageOf y) (E .count) in
+      let c = eqb (boardOf (E .source) (E .target) x) (boardOf (E .source) (E .target) y) in
+      let d = ltb (E .block (messageOf x)) (E .block (messageOf y)) in
+      let abc = and-left (a && b && c) d h in
+      let ab = and-left (a && b) c abc in
+      record {
+        inside = (ltb-true (messageOf x) (E .count) (and-left a b ab), ltb-true (messageOf y) (E .count) (and-right a b ab));
+        oneBoard = eqb-true (boardOf (E .source) (E .target) x) (boardOf (E .source) (E .target) y) (and-right (a && b) c abc);
+        laterBlock = ltb-true (E .block (messageOf x)) (E .block (messageOf y)) (and-right (a && b && c) d h);
+      }
+
+  -- The computed test, from the closure of the sources over the event numbers.
+  abbrev eventsDirect : ℕ → ℕ → Bool
+  eventsDirect x y = direct E (event x) (event y)
 
   pub before-inside : (x y : Event) → scenarioOf E .before x y ≡ true → BothInside x y
   unfolding scenarioOf beforeTable
   before-inside x y h =
       let t = linked-below (2 * E .count) eventsDirect (2 * E .count) (number x) (number y) h in
       (below-number x (E .count) .1 (t .0), below-number y (E .count) .1 (t .1))
-
-  pub before-transitive : (x y z : Event) → scenarioOf E .before x y ≡ true → scenarioOf E .before y z ≡ true → scenarioOf E .before x z ≡ true
-  unfolding scenarioOf beforeTable
-  before-transitive x y z p q = closure-transitive (2 * E .count) eventsDirect (number x) (number y) (number z) p q
 
   before-direct : (x y : Event) → BothInside x y → direct E x y ≡ true → scenarioOf E .before x y ≡ true
   unfolding scenarioOf beforeTable
@@ -42,14 +85,54 @@ module _ (E : Exchange) where
       (below-number y (E .count) .0 (b .1))
       (rw (event-number x, event-number y) h)
 
-  -- inside every transitive relation that holds the sources
-  module _ (Q : Event → Event → Type 0) (holds : (x y : Event) → direct E x y ≡ true → Q x y)
-      (transitive : (x y z : Event) → Q x y → Q y z → Q x z) where
-    before-least-direct : (x y : Event) → scenarioOf E .before x y ≡ true → Q x y
-    unfolding scenarioOf beforeTable
-    before-least-direct x y h =
-        subst₂ (λ (a b : Event). Q a b) (event-number x) (event-number y)
-        (closure-least (2 * E .count) eventsDirect (λ a b. Q (event a) (event b))
-          (λ a b p q d. holds (event a) (event b) d)
-          (λ a b c p q. transitive (event a) (event b) (event c) p q)
-          (number x) (number y) h)
+  -- It holds the three sources and is transitive.
+  pub before-row : RowsInside → (x y : Event) → E .ordered x y ≡ true → scenarioOf E .before x y ≡ true
+  unfolding direct
+  before-row inside x y h =
+      before-direct x y (inside x y h)
+      (or-left (E .ordered x y || isOwn E x y) (isEarlier E x y) (or-left (E .ordered x y) (isOwn E x y) h))
+
+  pub before-own : (x y : Event) → isOwn E x y ≡ true → scenarioOf E .before x y ≡ true
+  unfolding direct
+  before-own x y h =
+      before-direct x y (own-inside x y h)
+      (or-left (E .ordered x y || isOwn E x y) (isEarlier E x y) (or-right (E .ordered x y) (isOwn E x y) h))
+
+  pub before-earlier : (x y : Event) → isEarlier E x y ≡ true → scenarioOf E .before x y ≡ true
+  unfolding direct
+  before-earlier x y h =
+      before-direct x y (earlier-parts x y h .inside) (or-right (E .ordered x y || isOwn E x y) (isEarlier E x y) h)
+
+  pub before-transitive : (x y z : Event) → scenarioOf E .before x y ≡ true → scenarioOf E .before y z ≡ true → scenarioOf E .before x z ≡ true
+  unfolding scenarioOf beforeTable
+  before-transitive x y z p q = closure-transitive (2 * E .count) eventsDirect (number x) (number y) (number z) p q
+
+  -- It lies inside every transitive relation that holds the three sources.
+  pub before-least : (Q : Event → Event → Type 0)
+      → ((x y : Event) → E .ordered x y ≡ true → Q x y)
+      → ((x y : Event) → isOwn E x y ≡ true → Q x y)
+      → ((x y : Event) → isEarlier E x y ≡ true → Q x y)
+      → ((x y z : Event) → Q x y → Q y z → Q x z)
+      → (x y : Event) → scenarioOf E .before x y ≡ true → Q x y
+  unfolding scenarioOf beforeTable
+  before-least Q rows owns earliers transitive x y h =
+      subst₂ (λ (a b : Event). Q a b) (event-number x) (event-number y)
+      (closure-least (2 * E .count) eventsDirect (λ a b. Q (event a) (event b)) (λ a b p q d. source (event a) (event b) d)
+        (λ a b c p q. transitive (event a) (event b) (event c) p q) (number x) (number y) h)
+    where
+      source : (a b : Event) → direct E a b ≡ true → Q a b
+      source a b d = ⊎-elim (rows a b) (⊎-elim (owns a b) (earliers a b)) (direct-cases a b d)
+
+  -- So the test is exactly the relation.
+  before-relation : (x y : Event) → scenarioOf E .before x y ≡ true → Before E x y
+  before-relation = before-least (Before E) (λ x y h. row h) (λ x y h. own h) (λ x y h. earlier h) (λ x y z p q. link p q)
+
+  relation-before : RowsInside → {x y : Event} → Before E x y → scenarioOf E .before x y ≡ true
+  relation-before inside (row {x = x} {y = y} h) = before-row inside x y h
+  relation-before inside (own {x = x} {y = y} h) = before-own x y h
+  relation-before inside (earlier {x = x} {y = y} h) = before-earlier x y h
+  relation-before inside (link {x = x} {y = y} {z = z} p q) =
+      before-transitive x y z (relation-before inside p) (relation-before inside q)
+
+  pub before-exact : RowsInside → (x y : Event) → scenarioOf E .before x y ≡ true ↔ Before E x y
+  before-exact inside x y = (before-relation x y, λ p. relation-before inside p)

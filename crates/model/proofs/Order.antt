@@ -14,7 +14,14 @@ use Rattle.model.proofs.Events.{
   event-number, number-event, below-number, at-or-before-cases, at-or-before-same, at-or-before-before
 }
 use Rattle.model.proofs.Closure.{linked-below, closure-holds, closure-transitive, closure-least}
-use Rattle.model.proofs.Causal.{LastLink}
+use Rattle.model.proofs.Causal.{LastLink, Causal}
+
+-- no event is before itself, unless the scenario has a circle
+pub no-circle : (S : Scenario) → hasCircle S ≡ false → (x : Event) → messageOf x < S .count → S .before x x ≡ false
+unfolding hasCircle
+no-circle S h x l =
+    subst (λ (y : Event). S .before y y ≡ false) (event-number x)
+    (any-none (2 * S .count) (λ k. S .before (event k) (event k)) h (number x) (below-number x (S .count) .0 l))
 
 module _ (E : Exchange) where
   -- both events of a pair are the exchange's, and the two events of every P row are
@@ -136,3 +143,54 @@ module _ (E : Exchange) where
 
   pub before-exact : RowsInside → (x y : Event) → scenarioOf E .before x y ≡ true ↔ Before E x y
   before-exact inside x y = (before-relation x y, λ p. relation-before inside p)
+
+  -- the two events of every P row are on one board
+  abbrev pub RowsOnOneBoard : Type 0
+  RowsOnOneBoard = (x y : Event) → E .ordered x y ≡ true → boardOf (E .source) (E .target) x ≡ boardOf (E .source) (E .target) y
+
+  -- what is before an event that is at or before another is before that other
+  before-at-or-before : (x y z : Event) → scenarioOf E .before x y ≡ true → atOrBefore (scenarioOf E) y z ≡ true → scenarioOf E .before x z ≡ true
+  before-at-or-before x y z p q =
+      ⊎-elim
+      (λ e. subst (λ (w : Event). scenarioOf E .before x w ≡ true) e p)
+      (λ b. before-transitive x y z p b)
+      (at-or-before-cases (scenarioOf E) y z q)
+
+  -- a link on one board is its own last link
+  on-one-board : (x y : Event) → scenarioOf E .before x y ≡ true
+      → boardOf (E .source) (E .target) x ≡ boardOf (E .source) (E .target) y
+      → LastLink (scenarioOf E) x y
+  unfolding scenarioOf
+  on-one-board x y b e = inl (x, at-or-before-same (scenarioOf E) x x refl, b, e)
+
+  -- the last link of a chain, by induction on the relation
+  relation-last : RowsInside → RowsOnOneBoard → {x y : Event} → Before E x y → LastLink (scenarioOf E) x y
+  relation-last inside oneBoard (row {x = x} {y = y} h) = on-one-board x y (before-row inside x y h) (oneBoard x y h)
+  relation-last inside oneBoard (own {x = x} {y = y} h) =
+      let p = own-parts x y h in inr (p .0, p .2, at-or-before-same (scenarioOf E) x (sendOf (p .0)) (p .1))
+  relation-last inside oneBoard (earlier {x = x} {y = y} h) =
+      on-one-board x y (before-earlier x y h) (earlier-parts x y h .oneBoard)
+  relation-last inside oneBoard (link {x = x} {y = y} {z = z} p q) = carried (relation-before inside p) (relation-last inside oneBoard q)
+    where
+      carried : scenarioOf E .before x y ≡ true → LastLink (scenarioOf E) y z → LastLink (scenarioOf E) x z
+      carried b (inl l) =
+          inl (l .0, at-or-before-before (scenarioOf E) x (l .0) (before-at-or-before x y (l .0) b (l .1)), l .2, l .3)
+      carried b (inr l) =
+          inr (l .0, l .1, at-or-before-before (scenarioOf E) x (sendOf (l .0)) (before-at-or-before x y (sendOf (l .0)) b (l .2)))
+
+  own-both : (m : ℕ) → m < E .count → isOwn E (sendOf m) (receiveOf m) ≡ true
+  unfolding isOwn
+  own-both m h = and-both (eqb m m) (ltb m (E .count)) (eq-eqb m m refl) (lt-ltb m (E .count) h)
+
+  -- all that the theorem uses of "before"
+  pub causal : RowsInside → RowsOnOneBoard → hasCircle (scenarioOf E) ≡ false → Causal (scenarioOf E)
+  unfolding scenarioOf
+  causal inside oneBoard noCircle =
+      record {
+        inside = before-inside;
+        own = λ m h. before-own (sendOf m) (receiveOf m) (own-both m h);
+        trans = before-transitive;
+        irreflexive = λ x b.
+          not-both (scenarioOf E .before x x) b (no-circle (scenarioOf E) noCircle x (before-inside x x b .0));
+        lastLink = λ x y h. relation-last inside oneBoard (before-relation x y h);
+      }

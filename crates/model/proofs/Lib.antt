@@ -4,3 +4,4 @@ pub mod Marked
 pub mod Events
 pub mod Closure
 pub mod Order
+pub mod Standing

@@ -5,3 +5,4 @@ pub mod Events
 pub mod Closure
 pub mod Order
 pub mod Standing
+pub mod Walked

@@ -2,11 +2,10 @@
 -- every transitive relation that holds the test. Assumes nothing.
 use Prim.Native.Nat.{ℕ, zero, suc, _<_, _≤_}
 use native.Mathlib.Nat.{not-suc-le-zero, le-of-suc-le-suc, eq-or-lt-of-le}
-use native.Mathlib.Omega.{arith}
 use mathlib.Core.Path.{_≡_, refl, sym, _∙_, ap, subst}
 use mathlib.Core.Logic.{_⊎_, inl, inr, ⊎-elim}
 use mathlib.Core.Bool.{Bool, true, false, _&&_, _||_}
-use mathlib.Core.List.{List, [], _∷_}
+use mathlib.Core.List.{[]}
 use lib.Dec.{ltb}
 use lib.ListN.{length, getD, List·getD-eq-default}
 use borrow.Author.Tests.{ltb-true, ltb-false}
@@ -91,9 +90,9 @@ module _ (n : ℕ) (r : ℕ → ℕ → Bool) where
   unfolding linked
   linked-through k x y p q =
       rw (reads-inside n (oneMore k) x y
-        (linked-below k x k p .0) (linked-below k k y q .1))
+      (linked-below k x k p .0) (linked-below k k y q .1))
       (or-right (reads (linked n r k) x y) (reads (linked n r k) x k && reads (linked n r k) k y)
-        (and-both (reads (linked n r k) x k) (reads (linked n r k) k y) p q))
+      (and-both (reads (linked n r k) x k) (reads (linked n r k) k y) p q))
 
   -- the number linked over, k, is reached and left without it
   linked-to : (k x : ℕ) → Over (suc k) x k → Over k x k
@@ -118,13 +117,13 @@ module _ (n : ℕ) (r : ℕ → ℕ → Bool) where
       within over =
           ⊎-elim
           (λ p₁. ⊎-elim
-            (λ q₁. linked-more k x y (over x y p₁ q₁))
-            (λ q₂. linked-through k x y (over x k p₁ (q₂ .0)) (q₂ .1))
-            (linked-split k j y q))
+          (λ q₁. linked-more k x y (over x y p₁ q₁))
+          (λ q₂. linked-through k x y (over x k p₁ (q₂ .0)) (q₂ .1))
+          (linked-split k j y q))
           (λ p₂. ⊎-elim
-            (λ q₁. linked-through k x y (p₂ .0) (over k y (p₂ .1) q₁))
-            (λ q₂. linked-through k x y (p₂ .0) (q₂ .1))
-            (linked-split k j y q))
+          (λ q₁. linked-through k x y (p₂ .0) (over k y (p₂ .1) q₁))
+          (λ q₂. linked-through k x y (p₂ .0) (q₂ .1))
+          (linked-split k j y q))
           (linked-split k x j p)
 
   linked-keeps : (k x y : ℕ) → x < n → y < n → r x y ≡ true → Over k x y

@@ -4,5 +4,7 @@ pub mod Marked
 pub mod Events
 pub mod Closure
 pub mod Order
+pub mod Refusal
 pub mod Standing
 pub mod Walked
+pub mod Accepted

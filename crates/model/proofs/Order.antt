@@ -1,18 +1,13 @@
 -- The test "before" is exactly the relation "before" of specs/Order, and how a chain of it ends. Assumes nothing.
 use Prim.Native.Nat.{ℕ, _*_, _<_}
-use mathlib.Core.Path.{_≡_, refl, sym, _∙_, ap, subst, subst₂}
+use mathlib.Core.Path.{_≡_, refl, sym, ap, subst, subst₂}
 use mathlib.Core.Logic.{_⊎_, inl, inr, ⊎-elim, _↔_}
 use mathlib.Core.Bool.{Bool, true, false, _&&_, _||_}
 use lib.Dec.{eqb, ltb}
 use borrow.Author.Tests.{eqb-true, eq-eqb, ltb-true, lt-ltb}
-use Rattle.model.specs.Order.{
-  Event, sendOf, receiveOf, number, event, messageOf, Exchange, boardOf, isEvent, isOwn, isEarlier, Before, row, own,
-  earlier, link, direct, reads, beforeTable, Scenario, scenarioOf, board, atOrBefore, hasCircle
-}
+use Rattle.model.specs.Order.{Event, sendOf, receiveOf, number, event, messageOf, Exchange, boardOf, isEvent, isOwn, isEarlier, Before, row, own, earlier, link, direct, beforeTable, Scenario, scenarioOf, atOrBefore, hasCircle}
 use Rattle.model.proofs.Bounded.{and-left, and-right, and-both, or-cases, or-left, or-right, not-both, any-none}
-use Rattle.model.proofs.Events.{
-  event-number, number-event, below-number, at-or-before-cases, at-or-before-same, at-or-before-before
-}
+use Rattle.model.proofs.Events.{event-number, below-number, at-or-before-cases, at-or-before-same, at-or-before-before}
 use Rattle.model.proofs.Closure.{linked-below, closure-holds, closure-transitive, closure-least}
 use Rattle.model.proofs.Causal.{LastLink, Causal}
 
@@ -43,10 +38,12 @@ module _ (E : Exchange) where
   pub own-parts : (x y : Event) → isOwn E x y ≡ true → (m : ℕ) × (x ≡ sendOf m) × (y ≡ receiveOf m) × (m < E .count)
   unfolding isOwn
   own-parts (sendOf m) (sendOf k) h = not-both false h refl
-  own-parts (sendOf m) (receiveOf k) h =
-      (m, refl,
-        ap receiveOf (sym (eqb-true m k (and-left (eqb m k) (ltb m (E .count)) h))),
-        ltb-true m (E .count) (and-right (eqb m k) (ltb m (E .count)) h))
+  own-parts (sendOf m) (receiveOf k) h = (
+    m,
+    refl,
+    ap receiveOf (sym (eqb-true m k (and-left (eqb m k) (ltb m (E .count)) h))),
+    ltb-true m (E .count) (and-right (eqb m k) (ltb m (E .count)) h),
+  )
   own-parts (receiveOf m) (sendOf k) h = not-both false h refl
   own-parts (receiveOf m) (receiveOf k) h = not-both false h refl
 
@@ -125,7 +122,7 @@ module _ (E : Exchange) where
   before-least Q rows owns earliers transitive x y h =
       subst₂ (λ (a b : Event). Q a b) (event-number x) (event-number y)
       (closure-least (2 * E .count) eventsDirect (λ a b. Q (event a) (event b)) (λ a b p q d. source (event a) (event b) d)
-        (λ a b c p q. transitive (event a) (event b) (event c) p q) (number x) (number y) h)
+      (λ a b c p q. transitive (event a) (event b) (event c) p q) (number x) (number y) h)
     where
       source : (a b : Event) → direct E a b ≡ true → Q a b
       source a b d = ⊎-elim (rows a b) (⊎-elim (owns a b) (earliers a b)) (direct-cases a b d)
@@ -191,6 +188,6 @@ module _ (E : Exchange) where
         own = λ m h. before-own (sendOf m) (receiveOf m) (own-both m h);
         trans = before-transitive;
         irreflexive = λ x b.
-          not-both (scenarioOf E .before x x) b (no-circle (scenarioOf E) noCircle x (before-inside x x b .0));
+            not-both (scenarioOf E .before x x) b (no-circle (scenarioOf E) noCircle x (before-inside x x b .0));
         lastLink = λ x y h. relation-last inside oneBoard (before-relation x y h);
       }

@@ -1,24 +1,21 @@
 -- The rows of a text that is read stand where they may: each M row has boards and room, and each P row two events of one
 -- board of the open block. So do the rows behind every S row, from an empty block on. Assumes nothing.
-use Prim.Native.Nat.{ℕ, zero, suc, _*_, _<_}
-use mathlib.Core.Path.{_≡_, refl, sym, _∙_, ap, subst}
-use mathlib.Core.Logic.{_⊎_, inl, inr, ⊎-elim}
+use Prim.Native.Nat.{ℕ, suc}
+use mathlib.Core.Path.{_≡_, refl, sym, subst}
 use mathlib.Core.Bool.{Bool, true, false, not, cond, _&&_, _||_}
 use mathlib.Core.List.{List, [], _∷_}
 use mathlib.Core.Option.{Option, none, some}
 use native.Mathlib.Omega.{arith}
 use lib.Dec.{eqb, leb, ltb}
-use lib.ListN.{length, getD, drop}
+use lib.ListN.{length, drop}
 use Rattle.model.specs.Limits.{textMost, rowsMost, sheets}
 use Rattle.model.specs.Bounded.{among}
-use Rattle.model.specs.Refusal.{Out, ok, refusal, andThen, headingRefusal, rowRefusal, placeRefusal, absentRefusal}
+use Rattle.model.specs.Refusal.{ok, refusal, andThen, headingRefusal, rowRefusal, placeRefusal, absentRefusal}
 use Rattle.model.specs.Text.{Line, Columns, linesOf, headingOf}
 use Rattle.model.specs.Rows.{Row, sheet, message, order, block, call, rowOf}
-use Rattle.model.specs.Place.{
-  Place, outside, withMessage, messageFits, orderFits, moved, isSheet, placed, lineOf, judged, rowsFrom, opens, strayCall,
-  complete, bodyOf, readOf
-}
+use Rattle.model.specs.Place.{Place, outside, withMessage, messageFits, orderFits, moved, isSheet, placed, lineOf, judged, rowsFrom, opens, strayCall, complete, bodyOf, readOf}
 use Rattle.model.specs.Expansion.{startOf}
+use Rattle.model.proofs.Refusal.{not-refused, and-then-ok, passed, cond-ok}
 
 -- the rows may stand behind the open block's events, given by their boards; S, B and C rows open a block
 abbrev pub Fits : List ℕ → List Row → Type 0
@@ -29,24 +26,10 @@ Fits events (order x y ∷ rs) = (orderFits events x y ≡ true) × Fits events 
 Fits events (block ∷ rs) = Fits [] rs
 Fits events (call n ∷ rs) = Fits [] rs
 
--- what was handed on is no refusal
-pub not-refused : {A C : Type 0} {a : A} {number line : ℕ} → refusal number line ≡ ok a → C
-not-refused e = let z : _≡_ {A = ℕ} 0 1 = cc in absurd (omega arith)
-
--- two parts, one after the other, hand on a value where each does
-pub and-then-ok : {A B : Type 0} (o : Out A) (f : A → Out B) (b : B) → andThen o f ≡ ok b → (a : A) × (o ≡ ok a) × (f a ≡ ok b)
-unfolding andThen
-and-then-ok (ok a) f b e = (a, refl, e)
-and-then-ok (refusal number line) f b e = not-refused e
-
--- a value that is there only on a test, or handed on only on a test
-pub cond-some : {A : Type 0} (t : Bool) (a b : A) → cond t (some a) none ≡ some b → (t ≡ true) × (a ≡ b)
+-- a value that is there only on a test
+cond-some : {A : Type 0} (t : Bool) (a b : A) → cond t (some a) none ≡ some b → (t ≡ true) × (a ≡ b)
 cond-some true a b e = (refl, cc)
 cond-some false a b e = let z : _≡_ {A = ℕ} 0 1 = cc in absurd (omega arith)
-
-pub cond-ok : {A : Type 0} (t : Bool) (o : Out A) (number line : ℕ) (a : A) → cond t o (refusal number line) ≡ ok a → (t ≡ true) × (o ≡ ok a)
-cond-ok true o number line a e = (refl, e)
-cond-ok false o number line a e = not-refused e
 
 -- a row that is moved over fits, if the rows behind it fit behind the place that it leaves
 moved-fits : (p q : Place) (r : Row) (rs : List Row) → moved p r ≡ some q → Fits (q .events) rs → Fits (p .events) (r ∷ rs)
@@ -96,13 +79,6 @@ judged-moved c i p l rp e = form (cond (ltb i rowsMost) (rowOf c l) none) e
         → moved p (rp .0) ≡ some (rp .1)
     form none e = not-refused e
     form (some r) e = place r (placed p r) refl e
-
--- the rows of a reading that is not refused, the first of them and the others
-passed : {A B : Type 0} (o : Out A) (f : A → Out B) (b : B)
-    → elim o [ refusal number line ↦ refusal number line | ok a ↦ f a ] ≡ ok b
-    → (a : A) × (o ≡ ok a) × (f a ≡ ok b)
-passed (ok a) f b e = (a, refl, e)
-passed (refusal number line) f b e = not-refused e
 
 rows-fit : (c : Columns) (i : ℕ) (p : Place) (ls : List Line) (rs : List Row) → rowsFrom c i p ls ≡ ok rs → Fits (p .events) rs
 unfolding rowsFrom

@@ -4,23 +4,22 @@ use Prim.Native.Nat.{ℕ, zero, suc, _+_, _*_, _<_, _≤_}
 use native.Mathlib.Omega.{arith}
 use native.Mathlib.Nat.{eq-or-lt-of-le, le-of-suc-le-suc, not-suc-le-zero}
 use mathlib.Core.Path.{_≡_, refl, sym, _∙_, ap, subst, subst₂}
-use mathlib.Core.Logic.{_⊎_, inl, inr, ⊎-elim}
-use mathlib.Core.Bool.{Bool, true, false, not, cond, _&&_, _||_}
+use mathlib.Core.Logic.{⊎-elim}
+use mathlib.Core.Bool.{Bool, true, false, not, _&&_}
 use mathlib.Core.List.{List, [], _∷_, _++_}
-use lib.Dec.{eqb, ltb, lit<, lit≤}
+use lib.Dec.{eqb, ltb}
 use lib.ListN.{length, getD, drop, length-append, length-drop, List·getD-append, drop-of-length-le}
 use lib.Seq.{getD-drop, drop-append-le, getD-at}
 use borrow.Author.Tests.{ltb-true, ltb-false, eqb-true, eqb-false, not-true}
 use Rattle.model.specs.Limits.{boards, messagesMost, levels, callsMost}
-use Rattle.model.specs.Refusal.{Out, ok, refusal, andThen, depthRefusal, callsRefusal, messagesRefusal}
+use Rattle.model.specs.Refusal.{Out, ok, refusal, callsRefusal, messagesRefusal}
 use Rattle.model.specs.Rows.{Row, sheet, message, order, block, call}
 use Rattle.model.specs.Place.{withMessage, messageFits, orderFits, lineOf}
-use Rattle.model.specs.Expansion.{
-  Walk, freshWalk, Progress, startOf, blockOpened, callMade, messageMet, orderMet, walkRows, callAt, expand
-}
+use Rattle.model.specs.Expansion.{freshWalk, Progress, startOf, blockOpened, callMade, messageMet, orderMet, walkRows, callAt, expand}
 use Rattle.model.specs.Order.{Met, nothingMet, metOps, listed}
 use Rattle.model.proofs.Bounded.{and-left, and-right, or-cases, which, not-both}
-use Rattle.model.proofs.Standing.{Fits, not-refused, and-then-ok, sheet-fits}
+use Rattle.model.proofs.Refusal.{not-refused, and-then-ok}
+use Rattle.model.proofs.Standing.{Fits, sheet-fits}
 
 -- two different events on one board, by the board of each event
 pub record OnOneBoard (events : List ℕ) (x y : ℕ) : Type 0 where
@@ -60,7 +59,7 @@ more-behind events more x y h =
       secondThere = omega (arith, length-append events more);
       differ = h .differ;
       sameBoard =
-        List·getD-append events more 0 x (h .firstThere) ∙ h .sameBoard ∙ sym (List·getD-append events more 0 y (h .secondThere));
+          List·getD-append events more 0 x (h .firstThere) ∙ h .sameBoard ∙ sym (List·getD-append events more 0 y (h .secondThere));
     }
 
 more-in-front : (k : ℕ) (events : List ℕ) (x y : ℕ) → OnOneBoard (drop k events) x y → OnOneBoard events (k + x) (k + y)
@@ -97,7 +96,7 @@ pub record Sound (s : Progress Met) : Type 0 where
 abbrev pub Opened : Progress Met → List ℕ → Type 0
 Opened s events = drop (2 * s .walk .first) (s .kept .events) ≡ events
 
-sound-start : Sound (record { walk = freshWalk; kept = nothingMet })
+pub sound-start : Sound (record { walk = freshWalk; kept = nothingMet })
 unfolding listed
 sound-start =
     record {
@@ -114,7 +113,7 @@ sound-start =
 
 -- a message met
 module _ (s : Progress Met) (a b : ℕ) (h : Sound s) where
-  sound-message : a < boards → b < boards → s .walk .count < messagesMost → Sound (messageMet metOps a b s)
+  pub sound-message : a < boards → b < boards → s .walk .count < messagesMost → Sound (messageMet metOps a b s)
   unfolding messageMet metOps
   sound-message p q room =
       record {
@@ -126,25 +125,25 @@ module _ (s : Progress Met) (a b : ℕ) (h : Sound s) where
         boardsMost = below-more boards (s .kept .events) a b (h .boardsMost) p q;
         ordersOnBoards = λ x y l. more-behind (s .kept .events) (a ∷ b ∷ []) x y (h .ordersOnBoards x y l);
         openBlock = λ k f l. ⊎-elim
-          (λ e. getD-at (s .kept .blocks) (s .kept .open′) [] 0 k (h .blocksLength ∙ sym e))
-          (λ l′. List·getD-append (s .kept .blocks) (s .kept .open′ ∷ []) 0 k (omega arith) ∙ h .openBlock k f l′)
-          (eq-or-lt-of-le (le-of-suc-le-suc l));
+            (λ e. getD-at (s .kept .blocks) (s .kept .open′) [] 0 k (h .blocksLength ∙ sym e))
+            (λ l′. List·getD-append (s .kept .blocks) (s .kept .open′ ∷ []) 0 k (omega arith) ∙ h .openBlock k f l′)
+            (eq-or-lt-of-le (le-of-suc-le-suc l));
         earlierBlocks = λ k l. rw (List·getD-append (s .kept .blocks) (s .kept .open′ ∷ []) 0 k (omega arith)) (h .earlierBlocks k l);
       }
 
-  opened-message : (e : List ℕ) → Opened s e → Opened (messageMet metOps a b s) (withMessage e a b)
+  pub opened-message : (e : List ℕ) → Opened s e → Opened (messageMet metOps a b s) (withMessage e a b)
   unfolding messageMet metOps
   opened-message e o =
       drop-append-le (2 * s .walk .first) (s .kept .events) (a ∷ b ∷ []) (omega (arith, h))
       ∙ ap (λ (l : List ℕ). l ++ (a ∷ b ∷ [])) o
 
 -- a P row met
-sound-order : (s : Progress Met) (x y : ℕ) (e : List ℕ) → Sound s → Opened s e → OnOneBoard e x y → Sound (orderMet metOps x y s)
+pub sound-order : (s : Progress Met) (x y : ℕ) (e : List ℕ) → Sound s → Opened s e → OnOneBoard e x y → Sound (orderMet metOps x y s)
 unfolding orderMet metOps listed
 sound-order s x y e h o p =
     let base : ℕ = 2 * s .walk .first in
     let there : OnOneBoard (s .kept .events) (base + x) (base + y) =
-      more-in-front base (s .kept .events) x y (subst (λ (l : List ℕ). OnOneBoard l x y) (sym o) p) in
+    more-in-front base (s .kept .events) x y (subst (λ (l : List ℕ). OnOneBoard l x y) (sym o) p) in
     record {
       eventsLength = h .eventsLength;
       blocksLength = h .blocksLength;
@@ -153,22 +152,22 @@ sound-order s x y e h o p =
       callsMade = h .callsMade;
       boardsMost = h .boardsMost;
       ordersOnBoards = λ x′ y′ l. ⊎-elim
-        (λ c. subst₂ (λ (u v : ℕ). OnOneBoard (s .kept .events) u v)
+          (λ c. subst₂ (λ (u v : ℕ). OnOneBoard (s .kept .events) u v)
           (sym (eqb-true x′ (base + x) (and-left (eqb x′ (base + x)) (eqb y′ (base + y)) c)))
           (sym (eqb-true y′ (base + y) (and-right (eqb x′ (base + x)) (eqb y′ (base + y)) c)))
           there)
-        (h .ordersOnBoards x′ y′)
-        (or-cases (eqb x′ (base + x) && eqb y′ (base + y)) (listed x′ y′ (s .kept .orders)) l);
+          (h .ordersOnBoards x′ y′)
+          (or-cases (eqb x′ (base + x) && eqb y′ (base + y)) (listed x′ y′ (s .kept .orders)) l);
       openBlock = h .openBlock;
       earlierBlocks = h .earlierBlocks;
     }
 
-opened-order : (s : Progress Met) (x y : ℕ) (e : List ℕ) → Opened s e → Opened (orderMet metOps x y s) e
+pub opened-order : (s : Progress Met) (x y : ℕ) (e : List ℕ) → Opened s e → Opened (orderMet metOps x y s) e
 unfolding orderMet metOps
 opened-order s x y e o = o
 
 -- a block opened, which has no event yet, and a call made
-sound-block : (s : Progress Met) → Sound s → Sound (blockOpened metOps s)
+pub sound-block : (s : Progress Met) → Sound s → Sound (blockOpened metOps s)
 unfolding blockOpened metOps
 sound-block s h =
     record {
@@ -181,16 +180,16 @@ sound-block s h =
       ordersOnBoards = h .ordersOnBoards;
       openBlock = λ k f l. absurd (omega arith);
       earlierBlocks = λ k l. ⊎-elim
-        (λ t. omega (arith, h .earlierBlocks k (ltb-true k (s .walk .first) t)))
-        (λ f. omega (arith, h .openBlock k (ltb-false k (s .walk .first) f) l))
-        (which (ltb k (s .walk .first)));
+          (λ t. omega (arith, h .earlierBlocks k (ltb-true k (s .walk .first) t)))
+          (λ f. omega (arith, h .openBlock k (ltb-false k (s .walk .first) f) l))
+          (which (ltb k (s .walk .first)));
     }
 
-opened-block : (s : Progress Met) → Sound s → Opened (blockOpened metOps s) []
+pub opened-block : (s : Progress Met) → Sound s → Opened (blockOpened metOps s) []
 unfolding blockOpened metOps
 opened-block s h = drop-of-length-le (s .kept .events) {i = 2 * s .walk .count} (omega arith)
 
-sound-call : (s : Progress Met) → Sound s → s .walk .calls < callsMost → Sound (callMade metOps s)
+pub sound-call : (s : Progress Met) → Sound s → s .walk .calls < callsMost → Sound (callMade metOps s)
 unfolding callMade
 sound-call s h room =
     record {
@@ -210,7 +209,7 @@ abbrev pub Keeps : (ℕ → ℕ → Progress Met → Out (Progress Met)) → Typ
 Keeps callOf = (n line : ℕ) (s t : Progress Met) → Sound s → callOf n line s ≡ ok t → Sound t
 
 -- the rows of a sheet, if the calls in them do
-walk-sound : (callOf : ℕ → ℕ → Progress Met → Out (Progress Met)) → Keeps callOf
+pub walk-sound : (callOf : ℕ → ℕ → Progress Met → Out (Progress Met)) → Keeps callOf
     → (e : List ℕ) (rs : List Row) (line : ℕ) (s t : Progress Met) → Fits e rs → Sound s → Opened s e
     → walkRows metOps callOf rs line s ≡ ok t
     → Sound t
@@ -223,7 +222,7 @@ walk-sound callOf keeps e (message a b ∷ rs) line s t f h o w = go (ltb (s .wa
     go : (c : Bool) → ltb (s .walk .count) messagesMost ≡ c
         → elim c [ true ↦ walkRows metOps callOf rs (suc line) (messageMet metOps a b s) | false ↦ refusal messagesRefusal line ] ≡ ok t
         → (Sound (messageMet metOps a b s) → Opened (messageMet metOps a b s) (withMessage e a b)
-          → walkRows metOps callOf rs (suc line) (messageMet metOps a b s) ≡ ok t → Sound t)
+        → walkRows metOps callOf rs (suc line) (messageMet metOps a b s) ≡ ok t → Sound t)
         → Sound t
     go true room w behind =
         let p = message-parts e a b (f .0) in
@@ -241,7 +240,7 @@ walk-sound callOf keeps e (call n ∷ rs) line s t f h o w =
 
 module _ (file : List Row) (fits : Fits [] file) where
   -- so each level of calls keeps it
-  call-sound : (left : ℕ) → Keeps (callAt metOps left file)
+  pub call-sound : (left : ℕ) → Keeps (callAt metOps left file)
   unfolding callAt
   call-sound zero n line s t h w = not-refused w
   call-sound (suc left) n line s t h w = go (ltb (s .walk .calls) callsMost) refl w (call-sound left)

@@ -19,7 +19,7 @@ use Rattle.model.proofs.Bounded.{not-both}
 use Rattle.model.proofs.Events.{below-number}
 use Rattle.model.proofs.Refusal.{and-then-ok, cond-ok, cond-refused}
 use Rattle.model.proofs.Causal.{Causal}
-use Rattle.model.proofs.Order.{RowsInside, RowsOnOneBoard, causal}
+use Rattle.model.proofs.Order.{boardIn, RowsInside, RowsOnOneBoard, causal}
 use Rattle.model.proofs.Standing.{read-fits}
 use Rattle.model.proofs.Walked.{Sound, expanded-sound}
 
@@ -62,6 +62,12 @@ accepted-parts text code scratchLength traceLength S e =
       noCircle = f .0;
     }
 
+-- an event's board stands at its number
+pub board-at : (s : Progress Met) (x : Event) → boardIn (exchangeOf s) x ≡ getD (s .kept .events) (number x) 0
+unfolding exchangeOf boardOf number
+board-at s (sendOf m) = refl
+board-at s (receiveOf m) = refl
+
 -- the exchange of a sound walk: its P rows are between its own events, on one board
 module _ (s : Progress Met) (h : Sound s) where
   pub rows-inside : RowsInside (exchangeOf s)
@@ -70,15 +76,9 @@ module _ (s : Progress Met) (h : Sound s) where
       let p = h .ordersOnBoards (number x) (number y) l in
       (below-number x (s .walk .count) .1 (omega arith), below-number y (s .walk .count) .1 (omega arith))
 
-  -- an event's board stands at its number
-  pub board-at : (x : Event) → boardOf (exchangeOf s .source) (exchangeOf s .target) x ≡ getD (s .kept .events) (number x) 0
-  unfolding exchangeOf boardOf number
-  board-at (sendOf m) = refl
-  board-at (receiveOf m) = refl
-
   pub rows-on-one-board : RowsOnOneBoard (exchangeOf s)
   unfolding exchangeOf
-  rows-on-one-board x y l = board-at x ∙ h .ordersOnBoards (number x) (number y) l .sameBoard ∙ sym (board-at y)
+  rows-on-one-board x y l = board-at s x ∙ h .ordersOnBoards (number x) (number y) l .sameBoard ∙ sym (board-at s y)
 
 module _ (text : List ℕ) (code scratchLength traceLength : ℕ) (S : Scenario) (e : acceptedOf text code scratchLength traceLength ≡ ok S) where
   pub accepted-sound : Sound (accepted-parts text code scratchLength traceLength S e .walked)
@@ -110,4 +110,4 @@ module _ (text : List ℕ) (code scratchLength traceLength : ℕ) (S : Scenario)
   accepted-boards x =
       let a = accepted-parts text code scratchLength traceLength S e in
       subst (λ (T : Scenario). board T x < boards) (a .scenario)
-      (rw (board-at (a .walked) accepted-sound x) (accepted-sound .boardsMost (number x)))
+      (rw (board-at (a .walked) x) (accepted-sound .boardsMost (number x)))

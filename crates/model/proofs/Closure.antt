@@ -5,7 +5,7 @@ use native.Mathlib.Nat.{not-suc-le-zero, le-of-suc-le-suc, eq-or-lt-of-le}
 use mathlib.Core.Path.{_≡_, refl, sym, _∙_, ap, subst}
 use mathlib.Core.Logic.{_⊎_, inl, inr, ⊎-elim}
 use mathlib.Core.Bool.{Bool, true, false, _&&_, _||_}
-use mathlib.Core.List.{[]}
+use mathlib.Core.List.{List, []}
 use lib.Dec.{ltb}
 use lib.ListN.{length, getD, List·getD-eq-default}
 use borrow.Author.Tests.{ltb-true, ltb-false}
@@ -27,19 +27,23 @@ cells-at (suc n) f (suc k) d h = cells-at n (λ j. f (suc j)) k d (le-of-suc-le-
 pub cells-past : {A : Type 0} (n : ℕ) (f : ℕ → A) (k : ℕ) (d : A) → n ≤ k → getD (cells n f) k d ≡ d
 cells-past n f k d h = List·getD-eq-default (cells n f) d (rw cells-length h)
 
+-- the rows of a table
+abbrev rowIn : ℕ → (ℕ → ℕ → Bool) → ℕ → List Bool
+rowIn n r x = cells n (λ y. r x y)
+
 -- a table's test is the relation below n, and fails outside
 pub reads-inside : (n : ℕ) (r : ℕ → ℕ → Bool) (x y : ℕ) → x < n → y < n → reads (tabled n r) x y ≡ r x y
 unfolding reads tabled
-reads-inside n r x y p q = rw (cells-at n (λ x′. cells n (λ y′. r x′ y′)) x [] p) (cells-at n (λ y′. r x y′) y false q)
+reads-inside n r x y p q = rw (cells-at n (rowIn n r) x [] p) (cells-at n (r x) y false q)
 
 pub reads-outside : (n : ℕ) (r : ℕ → ℕ → Bool) (x y : ℕ) → (n ≤ x) ⊎ (n ≤ y) → reads (tabled n r) x y ≡ false
 unfolding reads tabled
-reads-outside n r x y (inl p) = rw (cells-past n (λ x′. cells n (λ y′. r x′ y′)) x [] p)
+reads-outside n r x y (inl p) = rw (cells-past n (rowIn n r) x [] p)
 reads-outside n r x y (inr q) = go (ltb x n) refl
   where
-    go : (b : Bool) → ltb x n ≡ b → getD (getD (cells n (λ x′. cells n (λ y′. r x′ y′))) x []) y false ≡ false
-    go true e = rw (cells-at n (λ x′. cells n (λ y′. r x′ y′)) x [] (ltb-true x n e)) (cells-past n (λ y′. r x y′) y false q)
-    go false e = rw (cells-past n (λ x′. cells n (λ y′. r x′ y′)) x [] (ltb-false x n e))
+    go : (b : Bool) → ltb x n ≡ b → getD (getD (cells n (rowIn n r)) x []) y false ≡ false
+    go true e = rw (cells-at n (rowIn n r) x [] (ltb-true x n e)) (cells-past n (r x) y false q)
+    go false e = rw (cells-past n (rowIn n r) x [] (ltb-false x n e))
 
 -- what a table holds: both numbers are below n, and the relation holds of them
 pub reads-true : (n : ℕ) (r : ℕ → ℕ → Bool) (x y : ℕ) → reads (tabled n r) x y ≡ true → (x < n) × (y < n) × (r x y ≡ true)
@@ -56,13 +60,16 @@ reads-true n r x y h =
         (which (ltb k n))
 
 module _ (n : ℕ) (r : ℕ → ℕ → Bool) where
-  -- r links x to y over numbers below k
+  -- r links x to y over numbers below k: the test, and that it passes
+  abbrev pub over : ℕ → ℕ → ℕ → Bool
+  over k x y = reads (linked n r k) x y
+
   abbrev pub Over : ℕ → ℕ → ℕ → Type 0
-  Over k x y = reads (linked n r k) x y ≡ true
+  Over k x y = over k x y ≡ true
 
   -- the test over one number more
   abbrev oneMore : ℕ → ℕ → ℕ → Bool
-  oneMore k x y = reads (linked n r k) x y || reads (linked n r k) x k && reads (linked n r k) k y
+  oneMore k x y = over k x y || over k x k && over k k y
 
   pub linked-below : (k x y : ℕ) → Over k x y → (x < n) × (y < n)
   unfolding linked
@@ -73,26 +80,23 @@ module _ (n : ℕ) (r : ℕ → ℕ → Bool) where
   linked-split : (k x y : ℕ) → Over (suc k) x y → Over k x y ⊎ (Over k x k × Over k k y)
   unfolding linked
   linked-split k x y h =
-      let t = reads-true n (oneMore k) x y h in
       ⊎-elim
       (λ a. inl a)
-      (λ b. inr (and-left (reads (linked n r k) x k) (reads (linked n r k) k y) b, and-right (reads (linked n r k) x k) (reads (linked n r k) k y) b))
-      (or-cases (reads (linked n r k) x y) (reads (linked n r k) x k && reads (linked n r k) k y) (t .2))
+      (λ b. inr (and-left (over k x k) (over k k y) b, and-right (over k x k) (over k k y) b))
+      (or-cases (over k x y) (over k x k && over k k y) (reads-true n (oneMore k) x y h .2))
 
   linked-more : (k x y : ℕ) → Over k x y → Over (suc k) x y
   unfolding linked
   linked-more k x y h =
       let t = linked-below k x y h in
-      rw (reads-inside n (oneMore k) x y (t .0) (t .1))
-      (or-left (reads (linked n r k) x y) (reads (linked n r k) x k && reads (linked n r k) k y) h)
+      rw (reads-inside n (oneMore k) x y (t .0) (t .1)) (or-left (over k x y) (over k x k && over k k y) h)
 
   linked-through : (k x y : ℕ) → Over k x k → Over k k y → Over (suc k) x y
   unfolding linked
   linked-through k x y p q =
-      rw (reads-inside n (oneMore k) x y
-      (linked-below k x k p .0) (linked-below k k y q .1))
-      (or-right (reads (linked n r k) x y) (reads (linked n r k) x k && reads (linked n r k) k y)
-      (and-both (reads (linked n r k) x k) (reads (linked n r k) k y) p q))
+      let b = and-both (over k x k) (over k k y) p q in
+      rw (reads-inside n (oneMore k) x y (linked-below k x k p .0) (linked-below k k y q .1))
+      (or-right (over k x y) (over k x k && over k k y) b)
 
   -- the number linked over, k, is reached and left without it
   linked-to : (k x : ℕ) → Over (suc k) x k → Over k x k
@@ -102,10 +106,12 @@ module _ (n : ℕ) (r : ℕ → ℕ → Bool) where
   linked-from k y h = ⊎-elim (λ a. a) (λ b. b .1) (linked-split k k y h)
 
   -- the invariant: transitive over the numbers below k
-  linked-over : (k j x y : ℕ) → j < k → Over k x j → Over k j y → Over k x y
+  pub linked-over : (k j x y : ℕ) → j < k → Over k x j → Over k j y → Over k x y
   linked-over zero j x y l p q = absurd (not-suc-le-zero l)
   linked-over (suc k) j x y l p q =
-      ⊎-elim last (λ l′. within (λ a b. linked-over k j a b l′)) (eq-or-lt-of-le (le-of-suc-le-suc l))
+      ⊎-elim last
+      (λ l′. within (λ a b. linked-over k j a b l′) (linked-split k x j p) (linked-split k j y q))
+      (eq-or-lt-of-le (le-of-suc-le-suc l))
     where
       last : j ≡ k → Over (suc k) x y
       last e =
@@ -113,18 +119,13 @@ module _ (n : ℕ) (r : ℕ → ℕ → Bool) where
           (linked-to k x (subst (λ (i : ℕ). Over (suc k) x i) e p))
           (linked-from k y (subst (λ (i : ℕ). Over (suc k) i y) e q))
 
-      within : ((a b : ℕ) → Over k a j → Over k j b → Over k a b) → Over (suc k) x y
-      within over =
-          ⊎-elim
-          (λ p₁. ⊎-elim
-          (λ q₁. linked-more k x y (over x y p₁ q₁))
-          (λ q₂. linked-through k x y (over x k p₁ (q₂ .0)) (q₂ .1))
-          (linked-split k j y q))
-          (λ p₂. ⊎-elim
-          (λ q₁. linked-through k x y (p₂ .0) (over k y (p₂ .1) q₁))
-          (λ q₂. linked-through k x y (p₂ .0) (q₂ .1))
-          (linked-split k j y q))
-          (linked-split k x j p)
+      within : ((a b : ℕ) → Over k a j → Over k j b → Over k a b)
+          → Over k x j ⊎ (Over k x k × Over k k j) → Over k j y ⊎ (Over k j k × Over k k y)
+          → Over (suc k) x y
+      within joined (inl p₁) (inl q₁) = linked-more k x y (joined x y p₁ q₁)
+      within joined (inl p₁) (inr q₂) = linked-through k x y (joined x k p₁ (q₂ .0)) (q₂ .1)
+      within joined (inr p₂) (inl q₁) = linked-through k x y (p₂ .0) (joined k y (p₂ .1) q₁)
+      within joined (inr p₂) (inr q₂) = linked-through k x y (p₂ .0) (q₂ .1)
 
   linked-keeps : (k x y : ℕ) → x < n → y < n → r x y ≡ true → Over k x y
   unfolding linked

@@ -19,6 +19,10 @@ no-circle S h x l =
     (any-none (2 * S .count) (λ k. S .before (event k) (event k)) h (number x) (below-number x (S .count) .0 l))
 
 module _ (E : Exchange) where
+  -- the board of an event
+  abbrev pub boardIn : Event → ℕ
+  boardIn x = boardOf (E .source) (E .target) x
+
   -- both events of a pair are the exchange's, and the two events of every P row are
   abbrev pub BothInside : Event → Event → Type 0
   BothInside x y = (messageOf x < E .count) × (messageOf y < E .count)
@@ -53,7 +57,7 @@ module _ (E : Exchange) where
 
   pub record EarlierBlock (x y : Event) : Type 0 where
     pub inside : BothInside x y
-    pub oneBoard : boardOf (E .source) (E .target) x ≡ boardOf (E .source) (E .target) y
+    pub oneBoard : boardIn x ≡ boardIn y
     pub laterBlock : E .block (messageOf x) < E .block (messageOf y)
 
   pub earlier-parts : (x y : Event) → isEarlier E x y ≡ true → EarlierBlock x y
@@ -61,13 +65,13 @@ module _ (E : Exchange) where
   earlier-parts x y h =
       let a = ltb (messageOf x) (E .count) in
       let b = ltb (messageOf y) (E .count) in
-      let c = eqb (boardOf (E .source) (E .target) x) (boardOf (E .source) (E .target) y) in
+      let c = eqb (boardIn x) (boardIn y) in
       let d = ltb (E .block (messageOf x)) (E .block (messageOf y)) in
       let abc = and-left (a && b && c) d h in
       let ab = and-left (a && b) c abc in
       record {
         inside = (ltb-true (messageOf x) (E .count) (and-left a b ab), ltb-true (messageOf y) (E .count) (and-right a b ab));
-        oneBoard = eqb-true (boardOf (E .source) (E .target) x) (boardOf (E .source) (E .target) y) (and-right (a && b) c abc);
+        oneBoard = eqb-true (boardIn x) (boardIn y) (and-right (a && b) c abc);
         laterBlock = ltb-true (E .block (messageOf x)) (E .block (messageOf y)) (and-right (a && b && c) d h);
       }
 
@@ -143,7 +147,7 @@ module _ (E : Exchange) where
 
   -- the two events of every P row are on one board
   abbrev pub RowsOnOneBoard : Type 0
-  RowsOnOneBoard = (x y : Event) → E .ordered x y ≡ true → boardOf (E .source) (E .target) x ≡ boardOf (E .source) (E .target) y
+  RowsOnOneBoard = (x y : Event) → E .ordered x y ≡ true → boardIn x ≡ boardIn y
 
   -- what is before an event that is at or before another is before that other
   before-at-or-before : (x y z : Event) → scenarioOf E .before x y ≡ true → atOrBefore (scenarioOf E) y z ≡ true → scenarioOf E .before x z ≡ true
@@ -155,7 +159,7 @@ module _ (E : Exchange) where
 
   -- a link on one board is its own last link
   on-one-board : (x y : Event) → scenarioOf E .before x y ≡ true
-      → boardOf (E .source) (E .target) x ≡ boardOf (E .source) (E .target) y
+      → boardIn x ≡ boardIn y
       → LastLink (scenarioOf E) x y
   unfolding scenarioOf
   on-one-board x y b e = inl (x, at-or-before-same (scenarioOf E) x x refl, b, e)

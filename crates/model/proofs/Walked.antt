@@ -142,8 +142,7 @@ pub sound-order : (s : Progress Met) (x y : ℕ) (e : List ℕ) → Sound s → 
 unfolding orderMet metOps listed
 sound-order s x y e h o p =
     let base : ℕ = 2 * s .walk .first in
-    let there : OnOneBoard (s .kept .events) (base + x) (base + y) =
-    more-in-front base (s .kept .events) x y (subst (λ (l : List ℕ). OnOneBoard l x y) (sym o) p) in
+    let there = more-in-front base (s .kept .events) x y (subst (λ (l : List ℕ). OnOneBoard l x y) (sym o) p) in
     record {
       eventsLength = h .eventsLength;
       blocksLength = h .blocksLength;

@@ -93,10 +93,12 @@ module _ (S : Scenario) where
         none : (y : Event) → doneAt (λ m. 0) y ≡ true → ⊥
         none (sendOf m) d = not-both false d refl
         none (receiveOf m) d = not-both false d refl
+
         sends₀ : (r : ToSend) → SendInv (λ m. 0) r
         sends₀ ToSend.always = tt
         sends₀ noEarlierUnderWay = λ e g l b p. omega arith
         sends₀ channelEmpty = (λ e g l b p. omega arith, λ k m p q. absurd (omega arith))
+
         delivers₀ : (r : ToDeliver) → DeliverInv (λ m. 0) r
         delivers₀ ToDeliver.always = tt
         delivers₀ inOrder = λ e g l u b p. omega arith
@@ -137,18 +139,16 @@ module _ (S : Scenario) where
       newly y u d =
           ⊎-elim
           (λ (e : (y ≡ sendOf m) × (φ m ≡ 0)).
-            let at : y ≡ sendOf m = e .0 in
-            (
-              subst (λ (z : Event). Ready S C φ z) (sym at) (M .sent (e .1) .ready),
-              λ k i. (let z : _≡_ {A = ℕ} 0 1 = cc in absurd (omega arith)),
-            ))
+          let at : y ≡ sendOf m = e .0 in (
+            subst (λ (z : Event). Ready S C φ z) (sym at) (M .sent (e .1) .ready),
+            λ k i. (let z : _≡_ {A = ℕ} 0 1 = cc in absurd (omega arith)),
+          ))
           (λ (e : (y ≡ receiveOf m) × (φ m ≡ 2)).
-            let at : y ≡ receiveOf m = e .0 in
-            let p : φ m ≡ 2 = e .1 in
-            (
-              subst (λ (z : Event). Ready S C φ z) (sym at) (M .consumed p .ready),
-              λ k i. (let z : m ≡ k = cc in le-leb 1 (φ k) (omega (arith, ap φ z))),
-            ))
+          let at : y ≡ receiveOf m = e .0 in
+          let p : φ m ≡ 2 = e .1 in (
+            subst (λ (z : Event). Ready S C φ z) (sym at) (M .consumed p .ready),
+            λ k i. (let z : m ≡ k = cc in le-leb 1 (φ k) (omega (arith, ap φ z))),
+          ))
           (newly-is y u d)
 
       done-below : (x y : Event) → atOrBefore S x y ≡ true → doneAt φ y ≡ true → doneAt φ x ≡ true
@@ -160,12 +160,12 @@ module _ (S : Scenario) where
           ⊎-elim
           (λ (o : doneAt φ y ≡ true). done-stays x (I .closed x y b o))
           (λ (u : doneAt φ y ≡ false).
-            let n = newly y u d in
-            done-stays x
-            (⊎-elim
-            (λ (l : (z : Event) × (atOrBefore S x z ≡ true) × (S .before z y ≡ true) × (board S z ≡ board S y)). done-below x (l .0) (l .1) (n .0 .earlier (l .0) (l .2) (l .3)))
-            (λ (l : (k : ℕ) × (y ≡ receiveOf k) × (atOrBefore S x (sendOf k) ≡ true)). done-below x (sendOf (l .0)) (l .2) (n .1 (l .0) (l .1)))
-            (C .lastLink x y b)))
+          let n = newly y u d in
+          done-stays x
+          (⊎-elim
+          (λ (l : (z : Event) × (atOrBefore S x z ≡ true) × (S .before z y ≡ true) × (board S z ≡ board S y)). done-below x (l .0) (l .1) (n .0 .earlier (l .0) (l .2) (l .3)))
+          (λ (l : (k : ℕ) × (y ≡ receiveOf k) × (atOrBefore S x (sendOf k) ≡ true)). done-below x (sendOf (l .0)) (l .2) (n .1 (l .0) (l .1)))
+          (C .lastLink x y b)))
           (which (doneAt φ y))
 
       -- a message sent, and one before it that is not: the first would not have been ready
@@ -182,9 +182,9 @@ module _ (S : Scenario) where
       late j e g o l b p =
           ⊎-elim
           (λ (i : (g ≡ m) × (bump φ m g ≡ suc (φ m))).
-            let k : (e ≡ m) → ⊥ = λ q. differ e g b (q ∙ sym (i .0)) in
-            let h : bump φ m e ≡ φ e = bump-other φ m e k in
-            absurd (omega (arith, sent-before e g (omega arith) b, ap φ (i .0), i .1)))
+          let k : (e ≡ m) → ⊥ = λ q. differ e g b (q ∙ sym (i .0)) in
+          let h : bump φ m e ≡ φ e = bump-other φ m e k in
+          absurd (omega (arith, sent-before e g (omega arith) b, ap φ (i .0), i .1)))
           (λ (i : (g ≡ m → ⊥) × (bump φ m g ≡ φ g)). (omega (arith, i .1), where-e))
           (bump-cases φ m g)
         where
@@ -192,7 +192,7 @@ module _ (S : Scenario) where
           where-e =
               ⊎-elim
               (λ (i : (e ≡ m) × (bump φ m e ≡ suc (φ m))).
-                ⊎-elim (λ (q : suc (φ m) ≡ j). inr (i .0, q)) (λ q. inl (omega (arith, ap φ (i .0), i .1))) (equal-or-not (suc (φ m)) j))
+              ⊎-elim (λ (q : suc (φ m) ≡ j). inr (i .0, q)) (λ q. inl (omega (arith, ap φ (i .0), i .1))) (equal-or-not (suc (φ m)) j))
               (λ (i : (e ≡ m → ⊥) × (bump φ m e ≡ φ e)). inl (omega (arith, i .1)))
               (bump-cases φ m e)
 
@@ -208,24 +208,24 @@ module _ (S : Scenario) where
           ⊎-elim
           (λ (u : 1 ≤ φ e). old e g u b (q .0))
           (λ (u : (e ≡ m) × (suc (φ m) ≡ 1)).
-            let b′ : S .before (sendOf g) (sendOf m) ≡ true = subst (λ (k : ℕ). S .before (sendOf g) (sendOf k) ≡ true) (u .0) b in
-            rule (M .sent (omega (arith, u .1))) g (I .inside g (omega (arith, q .0))) (q .0)
-            (C .trans (sendOf g) (sendOf m) (receiveOf m) b′ (C .own m (M .inside))))
+          let b′ : S .before (sendOf g) (sendOf m) ≡ true = subst (λ (k : ℕ). S .before (sendOf g) (sendOf k) ≡ true) (u .0) b in
+          rule (M .sent (omega (arith, u .1))) g (I .inside g (omega (arith, q .0))) (q .0)
+          (C .trans (sendOf g) (sendOf m) (receiveOf m) b′ (C .own m (M .inside))))
           (q .1)
 
       single-bump : Single φ → (MaySend S φ c C m → (f : ℕ) → f < S .count → φ f ≡ 1 → ⊥) → Single (bump φ m)
       single-bump old rule k l p q =
           ⊎-elim
           (λ (i : (k ≡ m) × (suc (φ m) ≡ 1)).
-            ⊎-elim
-            (λ (j : (l ≡ m) × (suc (φ m) ≡ 1)). i .0 ∙ sym (j .0))
-            (λ (j : φ l ≡ 1). absurd (rule (M .sent (omega (arith, i .1))) l (I .inside l (omega arith)) j))
-            (arrives 1 l q))
+          ⊎-elim
+          (λ (j : (l ≡ m) × (suc (φ m) ≡ 1)). i .0 ∙ sym (j .0))
+          (λ (j : φ l ≡ 1). absurd (rule (M .sent (omega (arith, i .1))) l (I .inside l (omega arith)) j))
+          (arrives 1 l q))
           (λ (i : φ k ≡ 1).
-            ⊎-elim
-            (λ (j : (l ≡ m) × (suc (φ m) ≡ 1)). absurd (rule (M .sent (omega (arith, j .1))) k (I .inside k (omega arith)) i))
-            (λ (j : φ l ≡ 1). old k l i j)
-            (arrives 1 l q))
+          ⊎-elim
+          (λ (j : (l ≡ m) × (suc (φ m) ≡ 1)). absurd (rule (M .sent (omega (arith, j .1))) k (I .inside k (omega arith)) i))
+          (λ (j : φ l ≡ 1). old k l i j)
+          (arrives 1 l q))
           (arrives 1 k p)
 
       sends-bump : (r : ToSend) → SendInv φ r → (MaySend S φ c C m → SendRule S φ r m) → SendInv (bump φ m) r
@@ -242,25 +242,25 @@ module _ (S : Scenario) where
           ⊎-elim
           (λ (u : 2 ≤ φ e). old e g u t b (q .0))
           (λ (u : (e ≡ m) × (suc (φ m) ≡ 2)).
-            let i : e ≡ m = u .0 in
-            rule (M .delivered (omega (arith, u .1))) g (I .inside g (omega (arith, q .0)))
-            (λ (k : g ≡ m). differ e g b (i ∙ sym k)) (q .0) (t ∙ ap (S .target) i)
-            (subst (λ (k : ℕ). S .before (sendOf g) (sendOf k) ≡ true) i b))
+          let i : e ≡ m = u .0 in
+          rule (M .delivered (omega (arith, u .1))) g (I .inside g (omega (arith, q .0)))
+          (λ (k : g ≡ m). differ e g b (i ∙ sym k)) (q .0) (t ∙ ap (S .target) i)
+          (subst (λ (k : ℕ). S .before (sendOf g) (sendOf k) ≡ true) i b))
           (q .1)
 
       oneHeld-bump : c .eager ≡ true → (k l : ℕ) → bump φ m k ≡ 2 → bump φ m l ≡ 2 → S .target k ≡ S .target l → k ≡ l
       oneHeld-bump e k l p q t =
           ⊎-elim
           (λ (i : (k ≡ m) × (suc (φ m) ≡ 2)).
-            ⊎-elim
-            (λ (j : (l ≡ m) × (suc (φ m) ≡ 2)). i .0 ∙ sym (j .0))
-            (λ (j : φ l ≡ 2). absurd (M .delivered (omega (arith, i .1)) .free e l (I .inside l (omega arith)) (sym t ∙ ap (S .target) (i .0)) j))
-            (arrives 2 l q))
+          ⊎-elim
+          (λ (j : (l ≡ m) × (suc (φ m) ≡ 2)). i .0 ∙ sym (j .0))
+          (λ (j : φ l ≡ 2). absurd (M .delivered (omega (arith, i .1)) .free e l (I .inside l (omega arith)) (sym t ∙ ap (S .target) (i .0)) j))
+          (arrives 2 l q))
           (λ (i : φ k ≡ 2).
-            ⊎-elim
-            (λ (j : (l ≡ m) × (suc (φ m) ≡ 2)). absurd (M .delivered (omega (arith, j .1)) .free e k (I .inside k (omega arith)) (t ∙ ap (S .target) (j .0)) i))
-            (λ (j : φ l ≡ 2). I .oneHeld e k l i j t)
-            (arrives 2 l q))
+          ⊎-elim
+          (λ (j : (l ≡ m) × (suc (φ m) ≡ 2)). absurd (M .delivered (omega (arith, j .1)) .free e k (I .inside k (omega arith)) (t ∙ ap (S .target) (j .0)) i))
+          (λ (j : φ l ≡ 2). I .oneHeld e k l i j t)
+          (arrives 2 l q))
           (arrives 2 k p)
 
       pub inv-bump : Inv (bump φ m)
@@ -268,10 +268,10 @@ module _ (S : Scenario) where
           record {
             most = λ k. ⊎-elim (λ i. omega (arith, i .1, M .phase)) (λ i. omega (arith, i .1, I .most k)) (bump-cases φ m k);
             inside = λ k l.
-              ⊎-elim
-              (λ (i : (k ≡ m) × (bump φ m k ≡ suc (φ m))). subst (λ (q : ℕ). q < S .count) (sym (i .0)) (M .inside))
-              (λ (i : (k ≡ m → ⊥) × (bump φ m k ≡ φ k)). I .inside k (omega (arith, i .1)))
-              (bump-cases φ m k);
+                ⊎-elim
+                (λ (i : (k ≡ m) × (bump φ m k ≡ suc (φ m))). subst (λ (q : ℕ). q < S .count) (sym (i .0)) (M .inside))
+                (λ (i : (k ≡ m → ⊥) × (bump φ m k ≡ φ k)). I .inside k (omega (arith, i .1)))
+                (bump-cases φ m k);
             closed = closed-bump;
             oneHeld = oneHeld-bump;
             sends = sends-bump (c .toSend) (I .sends) (λ h. h .rule);

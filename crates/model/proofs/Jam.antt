@@ -41,13 +41,14 @@ module _ (S : Scenario) (C : Causal S) (c : Channel) where
             let p : φ m ≡ 2 = sym (ap φ i) ∙ J .held in
             let W : Waits S C φ (receiveOf m) x = subst (λ (k : ℕ). Waits S C φ (receiveOf k) x) i (J .waits) in
             not-both (doneAt φ x) (M .consumed p .ready .earlier x (W .isBefore) (W .onBoard)) (W .undone)
+
         absurd-done : doneAt (bump φ m) x ≡ true → doneAt (bump φ m) x ≡ false
         absurd-done d =
             ⊎-elim
             (λ (s : (x ≡ sendOf m) × (φ m ≡ 0)).
-              let at : S .source m ≡ S .target e = subst (λ (y : Event). board S y ≡ S .target e) (s .0) (J .waits .onBoard) in
-              absurd (M .sent (s .1) .free eager e jam-inside (sym at) (J .held)))
+            let at : S .source m ≡ S .target e = subst (λ (y : Event). board S y ≡ S .target e) (s .0) (J .waits .onBoard) in
+            absurd (M .sent (s .1) .free eager e jam-inside (sym at) (J .held)))
             (λ (s : (x ≡ receiveOf m) × (φ m ≡ 2)).
-              let at : S .target m ≡ S .target e = subst (λ (y : Event). board S y ≡ S .target e) (s .0) (J .waits .onBoard) in
-              absurd (other (I .oneHeld eager e m (J .held) (s .1) (sym at))))
+            let at : S .target m ≡ S .target e = subst (λ (y : Event). board S y ≡ S .target e) (s .0) (J .waits .onBoard) in
+            absurd (other (I .oneHeld eager e m (J .held) (s .1) (sym at))))
             (newly-is S C c φ I m M x (J .waits .undone) d)

@@ -16,7 +16,6 @@ pub record IsLeast (n : ℕ) (p : ℕ → Bool) (R : ℕ → ℕ → Bool) (k : 
 module _ (p : ℕ → Bool) (R : ℕ → ℕ → Bool)
     (transitive : (i j k : ℕ) → R i j ≡ true → R j k ≡ true → R i k ≡ true)
     (irreflexive : (i : ℕ) → R i i ≡ true → ⊥) where
-
   Outcome : ℕ → Type 0
   Outcome n = ((i : ℕ) → i < n → p i ≡ true → ⊥) ⊎ ((k : ℕ) × IsLeast n p R k)
 
@@ -28,36 +27,48 @@ module _ (p : ℕ → Bool) (R : ℕ → ℕ → Bool)
   with-top : (n : ℕ) → p n ≡ true → Outcome n → Outcome (suc n)
   unfolding Outcome
   with-top n t (inl none) =
-      inr (n, record {
-        below = lt-suc-self n;
-        passes = t;
-        least = below-cases n (λ i. p i ≡ true → R i n ≡ true → ⊥) (λ q r. irreflexive n r) (λ i l q r. none i l q);
-      })
+      inr (
+        n,
+        record {
+          below = lt-suc-self n;
+          passes = t;
+          least = below-cases n (λ i. p i ≡ true → R i n ≡ true → ⊥) (λ q r. irreflexive n r) (λ i l q r. none i l q);
+        },
+      )
   with-top n t (inr (k, h)) =
       ⊎-elim
       (λ (r : R n k ≡ true).
-        inr (n, record {
+      inr (
+        n,
+        record {
           below = lt-suc-self n;
           passes = t;
           least = below-cases n (λ i. p i ≡ true → R i n ≡ true → ⊥) (λ q s. irreflexive n s) (λ i l q s. h .least i l q (transitive i n k s r));
-        }))
+        },
+      ))
       (λ (r : R n k ≡ false).
-        inr (k, record {
+      inr (
+        k,
+        record {
           below = le-step (h .below);
           passes = h .passes;
           least = below-cases n (λ i. p i ≡ true → R i k ≡ true → ⊥) (λ q s. not-both (R n k) s r) (λ i l q s. h .least i l q s);
-        }))
+        },
+      ))
       (which (R n k))
 
   without-top : (n : ℕ) → p n ≡ false → Outcome n → Outcome (suc n)
   unfolding Outcome
   without-top n f (inl none) = inl (below-cases n (λ i. p i ≡ true → ⊥) (λ t. not-both (p n) t f) none)
   without-top n f (inr (k, h)) =
-      inr (k, record {
-        below = le-step (h .below);
-        passes = h .passes;
-        least = below-cases n (λ i. p i ≡ true → R i k ≡ true → ⊥) (λ t r. not-both (p n) t f) (h .least);
-      })
+      inr (
+        k,
+        record {
+          below = le-step (h .below);
+          passes = h .passes;
+          least = below-cases n (λ i. p i ≡ true → R i k ≡ true → ⊥) (λ t r. not-both (p n) t f) (h .least);
+        },
+      )
 
   outcome : (n : ℕ) → Outcome n
   unfolding Outcome

@@ -120,6 +120,7 @@ module _ (S : Scenario) where
       d : (x : Event) → false ≡ doneAt (λ m. 0) x
       d (sendOf m) = refl
       d (receiveOf m) = refl
+
       h : (b m : ℕ) → false ≡ (eqb b (S .target m) && false)
       h b m = sym (and-false (eqb b (S .target m)))
 
@@ -132,8 +133,10 @@ module _ (S : Scenario) where
         d (sendOf k) =
             rw (same-sends k m) (at-moved φ m k (λ b p. (b || leb 1 (φ k)) ≡ leb 1 p) (λ e. sym (le-leb 1 (suc (φ m)) (omega arith))) refl)
         d (receiveOf k) = rw (receive-no-send k m) (leb-kept φ m 3 (λ e. omega arith) k)
+
         w : (k : ℕ) → with (λ j. eqb (φ j) 1) m true k ≡ eqb (bump φ m k) 1
         w k = at-moved φ m k (λ b p. cond b true (eqb (φ k) 1) ≡ eqb p 1) (λ e. sym (eq-eqb (suc (φ m)) 1 (omega arith))) refl
+
         g : (b k : ℕ) → (eqb b (S .target k) && eqb (φ k) 2) ≡ (eqb b (S .target k) && eqb (bump φ m k) 2)
         g b k = ap (λ t. eqb b (S .target k) && t) (eqb-kept φ m 2 (λ e. omega arith) (λ e. omega arith) k)
 
@@ -144,11 +147,14 @@ module _ (S : Scenario) where
         d : (y : Event) → doneAt φ y ≡ doneAt (bump φ m) y
         d (sendOf k) = leb-kept φ m 1 (λ e. omega arith) k
         d (receiveOf k) = leb-kept φ m 3 (λ e. omega arith) k
+
         w : (k : ℕ) → with (λ j. eqb (φ j) 1) m false k ≡ eqb (bump φ m k) 1
         w k = at-moved φ m k (λ b p. cond b false (eqb (φ k) 1) ≡ eqb p 1) (λ e. sym (ne-eqb (suc (φ m)) 1 (λ u. omega arith))) refl
+
         into : (t : Bool) → cond (t && true) true (t && false) ≡ (t && true)
         into true = refl
         into false = refl
+
         g : (b k : ℕ) → withHeld (λ c j. eqb c (S .target j) && eqb (φ j) 2) (S .target m) m true b k ≡ (eqb b (S .target k) && eqb (bump φ m k) 2)
         g b k =
             at-moved φ m k (λ v p. cond (eqb b (S .target m) && v) true (eqb b (S .target k) && eqb (φ k) 2) ≡ (eqb b (S .target k) && eqb p 2))
@@ -163,11 +169,14 @@ module _ (S : Scenario) where
         d (sendOf k) = rw (send-no-receive k m) (leb-kept φ m 1 (λ e. omega arith) k)
         d (receiveOf k) =
             rw (same-receives k m) (at-moved φ m k (λ b p. (b || leb 3 (φ k)) ≡ leb 3 p) (λ e. sym (le-leb 3 (suc (φ m)) (omega arith))) refl)
+
         w : (k : ℕ) → eqb (φ k) 1 ≡ eqb (bump φ m k) 1
         w k = eqb-kept φ m 1 (λ e. omega arith) (λ e. omega arith) k
+
         out : (t u : Bool) → cond (t && true) false (t && u) ≡ (t && false)
         out true u = refl
         out false u = refl
+
         g : (b k : ℕ) → withHeld (λ c j. eqb c (S .target j) && eqb (φ j) 2) (S .target m) m false b k ≡ (eqb b (S .target k) && eqb (bump φ m k) 2)
         g b k =
             at-moved φ m k (λ v p. cond (eqb b (S .target m) && v) false (eqb b (S .target k) && eqb (φ k) 2) ≡ (eqb b (S .target k) && eqb p 2))

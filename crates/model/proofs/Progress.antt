@@ -25,10 +25,10 @@ pub in-phase : (n j : ℕ) (φ : ℕ → ℕ) → ((k : ℕ) × (k < n) × (φ k
 in-phase n j φ =
     ⊎-elim
     (λ (t : every n (λ k. not (eqb (φ k) j)) ≡ true).
-      inr (λ k l p. not-both (eqb (φ k) j) (eq-eqb (φ k) j p) (not-true (eqb (φ k) j) (every-at n (λ i. not (eqb (φ i) j)) t k l))))
+    inr (λ k l p. not-both (eqb (φ k) j) (eq-eqb (φ k) j p) (not-true (eqb (φ k) j) (every-at n (λ i. not (eqb (φ i) j)) t k l))))
     (λ (f : every n (λ k. not (eqb (φ k) j)) ≡ false).
-      let r = every-not n (λ i. not (eqb (φ i) j)) f in
-      inl (r .0, r .1, eqb-true (φ (r .0)) j (not-false (eqb (φ (r .0)) j) (r .2))))
+    let r = every-not n (λ i. not (eqb (φ i) j)) f in
+    inl (r .0, r .1, eqb-true (φ (r .0)) j (not-false (eqb (φ (r .0)) j) (r .2))))
     (which (every n (λ k. not (eqb (φ k) j))))
 
 module _ (S : Scenario) (C : Causal S) where
@@ -42,18 +42,17 @@ module _ (S : Scenario) (C : Causal S) where
   least-event p x l t =
       let at : p (event (number x)) ≡ true = subst (λ (z : Event). p z ≡ true) (sym (event-number x)) t in
       let r =
-            least-below (λ k. p (event k)) (λ i j. S .before (event i) (event j)) (λ i j k. C .trans (event i) (event j) (event k))
-            (λ i. C .irreflexive (event i)) (2 * S .count) (number x) (below-number x (S .count) .0 l) at in
-      let y = event (r .0) in
-      (
+      least-below (λ k. p (event k)) (λ i j. S .before (event i) (event j)) (λ i j k. C .trans (event i) (event j) (event k))
+      (λ i. C .irreflexive (event i)) (2 * S .count) (number x) (below-number x (S .count) .0 l) at in
+      let y = event (r .0) in (
         y,
         record {
           inside = below-event (r .0) (S .count) (r .1 .below);
           passes = r .1 .passes;
           least = λ z b q.
-            r .1 .least (number z) (below-number z (S .count) .0 (C .inside z y b .0))
-            (subst (λ (w : Event). p w ≡ true) (sym (event-number z)) q)
-            (subst (λ (w : Event). S .before w y ≡ true) (sym (event-number z)) b);
+              r .1 .least (number z) (below-number z (S .count) .0 (C .inside z y b .0))
+              (subst (λ (w : Event). p w ≡ true) (sym (event-number z)) q)
+              (subst (λ (w : Event). S .before w y ≡ true) (sym (event-number z)) b);
         },
       )
 
@@ -65,8 +64,8 @@ module _ (S : Scenario) (C : Causal S) where
     deliverable alone single m l p = (m, l, p, λ f k d q. d (single refl f m q p))
     deliverable inOrder single m l p =
         let r =
-              least-below (λ k. eqb (φ k) 1) (λ i j. S .before (sendOf i) (sendOf j)) (λ i j k. C .trans (sendOf i) (sendOf j) (sendOf k))
-              (λ i. C .irreflexive (sendOf i)) (S .count) m l (eq-eqb (φ m) 1 p) in
+        least-below (λ k. eqb (φ k) 1) (λ i j. S .before (sendOf i) (sendOf j)) (λ i j k. C .trans (sendOf i) (sendOf j) (sendOf k))
+        (λ i. C .irreflexive (sendOf i)) (S .count) m l (eq-eqb (φ m) 1 p) in
         (r .0, r .1 .below, eqb-true (φ (r .0)) 1 (r .1 .passes), λ f k d q t b. r .1 .least f k (eq-eqb (φ f) 1 q) b)
 
     -- a buffer that holds nothing is empty, on an eager channel; on a lazy one nothing is asked
@@ -103,12 +102,18 @@ module _ (S : Scenario) (C : Causal S) where
     least-moves p (receiveOf g) u L back h q =
         let low : φ g < 3 = leb-false 3 (φ g) u in
         let sent : 1 ≤ φ g = leb-true 1 (φ g) (least-ready′ (which (leb 1 (φ g)))) in
-        inr (g, refl, L .inside, ⊎-elim (λ (e : φ g ≡ 1). inl e) (λ (n : φ g ≡ 1 → ⊥).
-          inr (consume-on S φ c C g (record { inside = L .inside; held = omega arith; ready = least-ready p (receiveOf g) u L back })))
-          (equal-or-not (φ g) 1))
+        inr (
+          g,
+          refl,
+          L .inside,
+          ⊎-elim (λ (e : φ g ≡ 1). inl e) (λ (n : φ g ≡ 1 → ⊥).
+              inr (consume-on S φ c C g (record { inside = L .inside; held = omega arith; ready = least-ready p (receiveOf g) u L back })))
+              (equal-or-not (φ g) 1),
+        )
       where
         own : S .before (sendOf g) (receiveOf g) ≡ true
         own = C .own g (L .inside)
+
         least-ready′ : (leb 1 (φ g) ≡ true) ⊎ (leb 1 (φ g) ≡ false) → leb 1 (φ g) ≡ true
         least-ready′ (inl t) = t
         least-ready′ (inr f) = absurd (L .least (sendOf g) own (back (sendOf g) own f))
@@ -122,10 +127,10 @@ module _ (S : Scenario) (C : Causal S) where
       undone-above y x u d =
           ⊎-elim
           (λ (t : atOrBefore S y x ≡ true).
-            ⊎-elim
-            (λ (e : y ≡ x). not-both (doneAt φ x) d (subst (λ (z : Event). doneAt φ z ≡ false) e u))
-            (λ (b : S .before y x ≡ true). not-both (doneAt φ y) (I .closed y x b d) u)
-            (at-or-before-cases S y x t))
+          ⊎-elim
+          (λ (e : y ≡ x). not-both (doneAt φ x) d (subst (λ (z : Event). doneAt φ z ≡ false) e u))
+          (λ (b : S .before y x ≡ true). not-both (doneAt φ y) (I .closed y x b d) u)
+          (at-or-before-cases S y x t))
           (λ f. f)
           (which (atOrBefore S y x))
 
@@ -142,14 +147,14 @@ module _ (S : Scenario) (C : Causal S) where
       waits-escapes byOrigin n v settled e p (receiveOf g) W =
           ⊎-elim
           (λ (t : atOrBefore S (sendOf g) (sendOf e) ≡ true).
-            ⊎-elim
-            (λ (i : sendOf g ≡ sendOf e). let k : g ≡ e = cc in absurd (other k))
-            (λ (b : S .before (sendOf g) (sendOf e) ≡ true).
-              let sent : 1 ≤ φ g = leb-true 1 (φ g) (I .closed (sendOf g) (sendOf e) b (le-leb 1 (φ e) (omega arith))) in
-              let low : φ g < 3 = leb-false 3 (φ g) (W .undone) in
-              let passed : φ g ≡ 1 → ⊥ = settled refl e g p (W .onBoard) b in
-              absurd (other (I .oneHeld v g e (omega arith) p (W .onBoard))))
-            (at-or-before-cases S (sendOf g) (sendOf e) t))
+          ⊎-elim
+          (λ (i : sendOf g ≡ sendOf e). let k : g ≡ e = cc in absurd (other k))
+          (λ (b : S .before (sendOf g) (sendOf e) ≡ true).
+          let sent : 1 ≤ φ g = leb-true 1 (φ g) (I .closed (sendOf g) (sendOf e) b (le-leb 1 (φ e) (omega arith))) in
+          let low : φ g < 3 = leb-false 3 (φ g) (W .undone) in
+          let passed : φ g ≡ 1 → ⊥ = settled refl e g p (W .onBoard) b in
+          absurd (other (I .oneHeld v g e (omega arith) p (W .onBoard))))
+          (at-or-before-cases S (sendOf g) (sendOf e) t))
           (λ f. not-is-true (atOrBefore S (sendOf g) (sendOf e)) f)
           (which (atOrBefore S (sendOf g) (sendOf e)))
         where
@@ -172,8 +177,8 @@ module _ (S : Scenario) (C : Causal S) where
           ⊎-elim
           (λ (t : ready S (view S φ) (receiveOf e) ≡ true). inl (consume-on S φ c C e (record { inside = l; held = p; ready = ready-use S C φ (receiveOf e) t })))
           (λ (f : ready S (view S φ) (receiveOf e) ≡ false).
-            let w = ready-not S C φ (receiveOf e) (lt-leb 3 (φ e) (omega arith)) f in
-            inr (w .0, w .1, waits-races v e p (w .0) (w .1)))
+          let w = ready-not S C φ (receiveOf e) (lt-leb 3 (φ e) (omega arith)) f in
+          inr (w .0, w .1, waits-races v e p (w .0) (w .1)))
           (which (ready S (view S φ) (receiveOf e)))
 
       -- with clear buffers a step is allowed, unless all is done
@@ -181,16 +186,16 @@ module _ (S : Scenario) (C : Causal S) where
       clear-moves h f =
           ⊎-elim
           (λ (w : (k : ℕ) × (k < S .count) × (φ k ≡ 1)).
-            let d = deliver-some h single-alone (w .0) (w .1) (w .2) in
-            (deliver (d .0), d .1))
+          let d = deliver-some h single-alone (w .0) (w .1) (w .2) in
+          (deliver (d .0), d .1))
           (λ (q : Quiet S φ).
-            let u = finished-not S φ f in
-            let y = least-event (λ z. not (doneAt φ z)) (u .0) (u .1) (not-is-true (doneAt φ (u .0)) (u .2)) in
-            ⊎-elim
-            (λ s. (send (s .0), s .2))
-            (λ s. ⊎-elim (λ (e : φ (s .0) ≡ 1). absurd (q (s .0) (s .2) e)) (λ a. (consume (s .0), a)) (s .3))
-            (least-moves (λ z. not (doneAt φ z)) (y .0) (not-true (doneAt φ (y .0)) (y .1 .passes)) (y .1)
-              (λ z b n. not-is-true (doneAt φ z) n) h (inl q)))
+          let u = finished-not S φ f in
+          let y = least-event (λ z. not (doneAt φ z)) (u .0) (u .1) (not-is-true (doneAt φ (u .0)) (u .2)) in
+          ⊎-elim
+          (λ s. (send (s .0), s .2))
+          (λ s. ⊎-elim (λ (e : φ (s .0) ≡ 1). absurd (q (s .0) (s .2) e)) (λ a. (consume (s .0), a)) (s .3))
+          (least-moves (λ z. not (doneAt φ z)) (y .0) (not-true (doneAt φ (y .0)) (y .1 .passes)) (y .1)
+          (λ z b n. not-is-true (doneAt φ z) n) h (inl q)))
           (in-phase (S .count) 1 φ)
 
       -- no race: some step is allowed, unless all is done
@@ -199,13 +204,13 @@ module _ (S : Scenario) (C : Causal S) where
       progress none f =
           ⊎-elim
           (λ (v : c .eager ≡ true).
-            ⊎-elim
-            (λ (w : (k : ℕ) × (k < S .count) × (φ k ≡ 2)).
-              ⊎-elim
-              (λ a. (consume (w .0), a))
-              (λ (s : (y : Event) × Waits S C φ (receiveOf (w .0)) y × (isRace S r (w .0) y ≡ true)). absurd (none (w .0) (s .0) (w .1) (s .2)))
-              (held-moves v (w .0) (w .1) (w .2)))
-            (λ (h : (k : ℕ) → k < S .count → φ k ≡ 2 → ⊥). clear-moves (λ e. h) f)
-            (in-phase (S .count) 2 φ))
+          ⊎-elim
+          (λ (w : (k : ℕ) × (k < S .count) × (φ k ≡ 2)).
+          ⊎-elim
+          (λ a. (consume (w .0), a))
+          (λ (s : (y : Event) × Waits S C φ (receiveOf (w .0)) y × (isRace S r (w .0) y ≡ true)). absurd (none (w .0) (s .0) (w .1) (s .2)))
+          (held-moves v (w .0) (w .1) (w .2)))
+          (λ (h : (k : ℕ) → k < S .count → φ k ≡ 2 → ⊥). clear-moves (λ e. h) f)
+          (in-phase (S .count) 2 φ))
           (λ (l : c .eager ≡ false). clear-moves (λ e. not-both (c .eager) e l) f)
           (which (c .eager))

@@ -23,8 +23,8 @@ rank-bump zero φ m h = absurd (not-suc-le-zero h)
 rank-bump (suc n) φ m h =
     ⊎-elim
     (λ (e : m ≡ n).
-      let top : bump φ m n ≡ suc (φ n) = subst (λ (k : ℕ). bump φ k n ≡ suc (φ n)) (sym e) (bump-same φ n) in
-      omega (arith, top, rank-above n φ m (omega arith)))
+    let top : bump φ m n ≡ suc (φ n) = subst (λ (k : ℕ). bump φ k n ≡ suc (φ n)) (sym e) (bump-same φ n) in
+    omega (arith, top, rank-above n φ m (omega arith)))
     (λ (l : m < n). omega (arith, bump-other φ m n (λ e. omega arith), rank-bump n φ m l))
     (eq-or-lt-of-le (le-of-suc-le-suc h))
 

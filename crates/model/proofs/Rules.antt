@@ -54,11 +54,11 @@ others-use n m p h k l d t =
 others-from : (n m : ℕ) (p : ℕ → Bool) → ((k : ℕ) → k < n → (k ≡ m → ⊥) → p k ≡ true → ⊥) → every n (λ k. eqb k m || not (p k)) ≡ true
 others-from n m p h =
     every-from n (λ j. eqb j m || not (p j)) (λ k l.
-      ⊎-elim
-      (λ (e : k ≡ m). or-left (eqb k m) (not (p k)) (eq-eqb k m e))
-      (λ (d : k ≡ m → ⊥).
-        ⊎-elim (λ (t : p k ≡ true). absurd (h k l d t)) (λ f. or-right (eqb k m) (not (p k)) (not-is-true (p k) f)) (which (p k)))
-      (equal-or-not k m))
+    ⊎-elim
+    (λ (e : k ≡ m). or-left (eqb k m) (not (p k)) (eq-eqb k m e))
+    (λ (d : k ≡ m → ⊥).
+    ⊎-elim (λ (t : p k ≡ true). absurd (h k l d t)) (λ f. or-right (eqb k m) (not (p k)) (not-is-true (p k) f)) (which (p k)))
+    (equal-or-not k m))
 
 module _ (S : Scenario) where
   -- every event of the scenario, by its message
@@ -110,9 +110,9 @@ module _ (S : Scenario) where
         record {
           undone = not-true (doneAt φ x) (and-left (not (doneAt φ x)) (everyEvent S (settled x)) h);
           earlier = λ y b e.
-            implies (isAhead S y x) (doneAt φ y)
-            (everyEvent-at (settled x) (and-right (not (doneAt φ x)) (everyEvent S (settled x)) h) y (C .inside y x b .0))
-            (and-both (S .before y x) (eqb (board S y) (board S x)) b (eq-eqb (board S y) (board S x) e));
+              implies (isAhead S y x) (doneAt φ y)
+              (everyEvent-at (settled x) (and-right (not (doneAt φ x)) (everyEvent S (settled x)) h) y (C .inside y x b .0))
+              (and-both (S .before y x) (eqb (board S y) (board S x)) b (eq-eqb (board S y) (board S x) e));
         }
 
     pub ready-on : (x : Event) → Ready x → ready S (view S φ) x ≡ true
@@ -120,17 +120,16 @@ module _ (S : Scenario) where
     ready-on x r =
         and-both (not (doneAt φ x)) (everyEvent S (settled x)) (not-is-true (doneAt φ x) (r .undone))
         (everyEvent-from (settled x) (λ y l.
-          implies-from (isAhead S y x) (doneAt φ y) (λ t.
-            r .earlier y (and-left (S .before y x) (eqb (board S y) (board S x)) t)
-            (eqb-true (board S y) (board S x) (and-right (S .before y x) (eqb (board S y) (board S x)) t)))))
+        implies-from (isAhead S y x) (doneAt φ y) (λ t.
+        r .earlier y (and-left (S .before y x) (eqb (board S y) (board S x)) t)
+        (eqb-true (board S y) (board S x) (and-right (S .before y x) (eqb (board S y) (board S x)) t)))))
 
     pub ready-not : (x : Event) → doneAt φ x ≡ false → ready S (view S φ) x ≡ false → (y : Event) × Waits x y
     unfolding ready settled isAhead
     ready-not x u h =
         let fails : everyEvent S (settled x) ≡ false = and-fails (not (doneAt φ x)) (everyEvent S (settled x)) (not-is-true (doneAt φ x) u) h in
         let r = everyEvent-not (settled x) fails in
-        let w : (isAhead S (r .0) x ≡ true) × (doneAt φ (r .0) ≡ false) = implies-not (isAhead S (r .0) x) (doneAt φ (r .0)) (r .2) in
-        (
+        let w : (isAhead S (r .0) x ≡ true) × (doneAt φ (r .0) ≡ false) = implies-not (isAhead S (r .0) x) (doneAt φ (r .0)) (r .2) in (
           r .0,
           record {
             isBefore = and-left (S .before (r .0) x) (eqb (board S (r .0)) (board S x)) (w .0);
@@ -154,8 +153,8 @@ module _ (S : Scenario) where
     unfolding bufferEmpty
     empty-on b h =
         none-from (S .count) (λ m. eqb b (S .target m) && eqb (φ m) 2) (λ k l t.
-          h k l (sym (eqb-true b (S .target k) (and-left (eqb b (S .target k)) (eqb (φ k) 2) t)))
-          (eqb-true (φ k) 2 (and-right (eqb b (S .target k)) (eqb (φ k) 2) t)))
+        h k l (sym (eqb-true b (S .target k) (and-left (eqb b (S .target k)) (eqb (φ k) 2) t)))
+        (eqb-true (φ k) 2 (and-right (eqb b (S .target k)) (eqb (φ k) 2) t)))
 
     -- nothing is under way
     abbrev pub Quiet : Type 0
@@ -191,7 +190,7 @@ module _ (S : Scenario) where
       sendRule-quiet ToSend.always m q = refl
       sendRule-quiet noEarlierUnderWay m q =
           none-from (S .count) (λ k. eqb (φ k) 1 && S .before (sendOf k) (receiveOf m)) (λ f l t.
-            q f l (eqb-true (φ f) 1 (and-left (eqb (φ f) 1) (S .before (sendOf f) (receiveOf m)) t)))
+          q f l (eqb-true (φ f) 1 (and-left (eqb (φ f) 1) (S .before (sendOf f) (receiveOf m)) t)))
       sendRule-quiet channelEmpty m q = none-from (S .count) (λ k. eqb (φ k) 1) (λ f l t. q f l (eqb-true (φ f) 1 t))
 
       -- under way to m's board, with a send before m's
@@ -212,11 +211,11 @@ module _ (S : Scenario) where
       deliverRule-on ToDeliver.always m h = refl
       deliverRule-on inOrder m h =
           others-from (S .count) m (overtaken m) (λ f l d t.
-            let way = eqb (φ f) 1 in
-            let there = eqb (S .target f) (S .target m) in
-            let both : (way && there) ≡ true = and-left (way && there) (S .before (sendOf f) (sendOf m)) t in
-            h f l d (eqb-true (φ f) 1 (and-left way there both)) (eqb-true (S .target f) (S .target m) (and-right way there both))
-            (and-right (way && there) (S .before (sendOf f) (sendOf m)) t))
+          let way = eqb (φ f) 1 in
+          let there = eqb (S .target f) (S .target m) in
+          let both : (way && there) ≡ true = and-left (way && there) (S .before (sendOf f) (sendOf m)) t in
+          h f l d (eqb-true (φ f) 1 (and-left way there both)) (eqb-true (S .target f) (S .target m) (and-right way there both))
+          (and-right (way && there) (S .before (sendOf f) (sendOf m)) t))
       deliverRule-on alone m h = others-from (S .count) m (λ k. eqb (φ k) 1) (λ f l d t. h f l d (eqb-true (φ f) 1 t))
 
       -- an eager board sends, or takes a delivery, only while its buffer is empty

@@ -20,7 +20,7 @@ module _ (S : Scenario) (C : Causal S) where
     pub plain : r ≡ byEvent → (c .toSend ≡ ToSend.always) × (c .toDeliver ≡ ToDeliver.always)
     -- where races go by origin, a message held has none under way to its board that was sent before it
     pub settled : r ≡ byOrigin → (φ : ℕ → ℕ) → Inv S C c φ → (e g : ℕ) → φ e ≡ 2 → S .target g ≡ S .target e
-      → S .before (sendOf g) (sendOf e) ≡ true → φ g ≡ 1 → ⊥
+        → S .before (sendOf g) (sendOf e) ≡ true → φ g ≡ 1 → ⊥
     -- deliveries are made alone just where sends wait for an empty channel
     pub ring : c .toDeliver ≡ alone → c .toSend ≡ channelEmpty
 

@@ -16,3 +16,4 @@ pub mod Invariants
 pub mod Suited
 pub mod Progress
 pub mod Jam
+pub mod Withholding

@@ -119,7 +119,7 @@ module _ (S : Scenario) (C : Causal S) where
         least-ready′ (inr f) = absurd (L .least (sendOf g) own (back (sendOf g) own f))
 
     module _ (r : RaceRule) (U : Suited S C c r) where
-      single-alone : c .toDeliver ≡ alone → Single S φ
+      pub single-alone : c .toDeliver ≡ alone → Single S φ
       single-alone e = subst (λ (s : ToSend). SendInv S φ s) (U .ring e) (I .sends) .1
 
       -- an event not done is not at or before one that is

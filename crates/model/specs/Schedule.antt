@@ -15,16 +15,28 @@ pub record Class : Type 0 where
   pub step : ℕ → Step
   pub takes : ℕ → Bool
 
--- The six classes, in their order. Where the last two are reached, no step of the others is allowed.
-unfoldable pub classesFor : Scenario → ℕ → List Class
-classesFor S e =
-    record { step = consume; takes = λ m. true }
-    ∷ record { step = deliver; takes = λ m. eqb m e }
-    ∷ record { step = deliver; takes = λ m. S .before (receiveOf m) (sendOf e) }
-    ∷ record { step = send; takes = λ m. atOrBefore S (sendOf m) (sendOf e) }
-    ∷ record { step = deliver; takes = λ m. true }
-    ∷ record { step = send; takes = λ m. true }
-    ∷ []
+-- The six classes. Where the last two are reached, no step of the four before them is allowed.
+abbrev pub anyConsume : Class
+anyConsume = record { step = consume; takes = λ m. true }
+
+abbrev pub deliveryOf : ℕ → Class
+deliveryOf e = record { step = deliver; takes = λ m. eqb m e }
+
+-- a delivery whose receive is before e's send, and a send at or before e's send
+abbrev pub neededDelivery : Scenario → ℕ → Class
+neededDelivery S e = record { step = deliver; takes = λ m. S .before (receiveOf m) (sendOf e) }
+
+abbrev pub neededSend : Scenario → ℕ → Class
+neededSend S e = record { step = send; takes = λ m. atOrBefore S (sendOf m) (sendOf e) }
+
+abbrev pub anyDelivery : Class
+anyDelivery = record { step = deliver; takes = λ m. true }
+
+abbrev pub anySend : Class
+anySend = record { step = send; takes = λ m. true }
+
+abbrev pub classesFor : Scenario → ℕ → List Class
+classesFor S e = anyConsume ∷ deliveryOf e ∷ neededDelivery S e ∷ neededSend S e ∷ anyDelivery ∷ anySend ∷ []
 
 module _ (S : Scenario) (c : Channel) where
   -- the first class with an allowed step, and in it the lowest message

@@ -9,7 +9,7 @@ use lib.Dec.{eqb, leb, ltb}
 use Rattle.model.specs.Bounded.{every}
 use Rattle.model.specs.Order.{Event, sendOf, receiveOf, number, messageOf, Scenario, board, boardOf}
 use Rattle.model.specs.Channel.{Channel, ToSend, ToDeliver, noEarlierUnderWay, channelEmpty, inOrder, alone}
-use Rattle.model.specs.Run.{State, Step, send, deliver, consume, everyEvent, isAhead, ready, bufferEmpty, boardFree, maySend, mayDeliver, allowed, finished}
+use Rattle.model.specs.Run.{State, Step, send, deliver, consume, everyEvent, isAhead, ready, bufferEmpty, boardFree, maySend, mayDeliver, allowed, noStep, finished, stuck}
 use Rattle.model.proofs.Bounded.{and-left, and-right, and-both, or-cases, or-left, or-right, which, not-both, not-is-true, every-at, every-from, every-not}
 use Rattle.model.proofs.Causal.{Causal}
 use Rattle.model.proofs.Phases.{equal-or-not, doneAt, view, messageIn, phaseIn}
@@ -24,7 +24,7 @@ and-not true b h = inr h
 and-not false b h = inl refl
 
 -- "a implies b", as a test
-implies : (a b : Bool) → (not a || b) ≡ true → a ≡ true → b ≡ true
+pub implies : (a b : Bool) → (not a || b) ≡ true → a ≡ true → b ≡ true
 implies true b h t = h
 implies false b h t = not-both false t refl
 
@@ -32,7 +32,7 @@ implies-from : (a b : Bool) → (a ≡ true → b ≡ true) → (not a || b) ≡
 implies-from true b h = h refl
 implies-from false b h = refl
 
-implies-not : (a b : Bool) → (not a || b) ≡ false → (a ≡ true) × (b ≡ false)
+pub implies-not : (a b : Bool) → (not a || b) ≡ false → (a ≡ true) × (b ≡ false)
 implies-not true b h = (refl, h)
 implies-not false b h = not-both true refl h
 
@@ -304,3 +304,41 @@ module _ (S : Scenario) where
         unfolding allowed
         consume-on m d =
             rw (lt-ltb m (S .count) (d .inside), eq-eqb (S .target m) (S .target m) refl, eq-eqb (φ m) 2 (d .held), ready-on C φ (receiveOf m) (d .ready))
+
+module _ (S : Scenario) (c : Channel) (s : State) where
+  -- stuck: not finished, and no step allowed
+  pub stuck-on : finished S s ≡ false → ((t : Step) → allowed S c s t ≡ true → ⊥) → stuck S c s ≡ true
+  unfolding stuck noStep
+  stuck-on f n =
+      and-both (not (finished S s)) (noStep S c s) (not-is-true (finished S s) f)
+      (every-from (S .count) _ (λ m l.
+        and-both (not (allowed S c s (send m)) && not (allowed S c s (deliver m))) (not (allowed S c s (consume m)))
+        (and-both (not (allowed S c s (send m))) (not (allowed S c s (deliver m))) (forbidden (send m)) (forbidden (deliver m))) (forbidden (consume m))))
+    where
+      forbidden : (t : Step) → not (allowed S c s t) ≡ true
+      forbidden t = ⊎-elim (λ a. absurd (n t a)) (λ f. not-is-true (allowed S c s t) f) (which (allowed S c s t))
+
+  pub stuck-unfinished : stuck S c s ≡ true → finished S s ≡ false
+  unfolding stuck
+  stuck-unfinished h = not-true (finished S s) (and-left (not (finished S s)) (noStep S c s) h)
+
+pub may-inside : (S : Scenario) (φ : ℕ → ℕ) (c : Channel) (C : Causal S) (t : Step) → May S φ c C t → messageIn t < S .count
+may-inside S φ c C (send m) h = h .inside
+may-inside S φ c C (deliver m) h = h .inside
+may-inside S φ c C (consume m) h = h .inside
+
+pub stuck-forbids : (S : Scenario) (φ : ℕ → ℕ) (c : Channel) (C : Causal S) → stuck S c (view S φ) ≡ true
+    → (t : Step) → allowed S c (view S φ) t ≡ true → ⊥
+unfolding stuck noStep
+stuck-forbids S φ c C h t a = not-both (allowed S c (view S φ) t) a (not-true (allowed S c (view S φ) t) (each t at))
+  where
+    on : Step → Bool
+    on u = not (allowed S c (view S φ) u)
+    at : (on (send (messageIn t)) && on (deliver (messageIn t)) && on (consume (messageIn t))) ≡ true
+    at =
+        every-at (S .count) (λ m. on (send m) && on (deliver m) && on (consume m))
+        (and-right (not (finished S (view S φ))) (noStep S c (view S φ)) h) (messageIn t) (may-inside S φ c C t (may-use S φ c C t a))
+    each : (u : Step) → (on (send (messageIn u)) && on (deliver (messageIn u)) && on (consume (messageIn u))) ≡ true → on u ≡ true
+    each (send m) p = and-left (on (send m)) (on (deliver m)) (and-left (on (send m) && on (deliver m)) (on (consume m)) p)
+    each (deliver m) p = and-right (on (send m)) (on (deliver m)) (and-left (on (send m) && on (deliver m)) (on (consume m)) p)
+    each (consume m) p = and-right (on (send m) && on (deliver m)) (on (consume m)) p

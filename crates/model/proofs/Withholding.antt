@@ -2,14 +2,14 @@
 -- holds, and the schedule goes on until no step is left. Assumes nothing.
 use Prim.Native.Nat.{ℕ, zero, suc, _+_, _*_, _<_, _≤_}
 use native.Mathlib.Omega.{arith}
-use mathlib.Core.Path.{_≡_, refl, sym, _∙_, ap, subst}
+use mathlib.Core.Path.{_≡_, refl, sym, _∙_, ap, subst, subst⁻¹}
 use mathlib.Core.Logic.{_⊎_, inl, inr, ⊎-elim}
 use mathlib.Core.Bool.{Bool, true, false, not, _&&_, _||_}
 use mathlib.Core.List.{List, [], _∷_}
 use mathlib.Core.Option.{Option, none, some}
 use borrow.Author.Tests.{eq-eqb, eqb-true, leb-true, leb-false, le-leb, lt-leb, not-true}
 use lib.Dec.{eqb, leb}
-use Rattle.model.specs.Bounded.{lowest}
+use Rattle.model.specs.Bounded.{every, lowest}
 use Rattle.model.specs.Order.{Event, sendOf, receiveOf, messageOf, Scenario, board, boardOf, atOrBefore}
 use Rattle.model.specs.Channel.{Channel, ToSend, ToDeliver, alone}
 use Rattle.model.specs.Run.{State, Step, send, deliver, consume, next, allowed, isOrderFrom, noStep, after, finished, stuck}
@@ -17,12 +17,12 @@ use Rattle.model.specs.Race.{RaceRule, byEvent, byOrigin, never, origin,
 use Rattle.model.specs.Schedule.{
   Class, anyConsume, deliveryOf, neededDelivery, neededSend, anyDelivery, anySend, classesFor, choose, scheduleFrom,
 }
-use Rattle.model.proofs.Bounded.{and-left, and-right, and-both, which, not-both, not-is-true, every-from, IsLowest, Found, lowest-found}
+use Rattle.model.proofs.Bounded.{and-left, and-right, and-both, which, not-both, not-is-true, every-at, every-from, every-not, IsLowest, Found, lowest-found}
 use Rattle.model.proofs.Events.{at-or-before-cases, at-or-before-same, at-or-before-before}
 use Rattle.model.proofs.Causal.{Causal}
 use Rattle.model.proofs.Phases.{equal-or-not, doneAt, bump, bump-same, bump-other, bump-cases, view, messageIn, phaseIn, view-next}
 use Rattle.model.proofs.Rank.{rank, rank-bump, rank-less}
-use Rattle.model.proofs.Rules.{Waits, Quiet, May, MayDeliver, DeliverRule, may-use, deliver-on}
+use Rattle.model.proofs.Rules.{implies, implies-not, finished-use, stuck-on, Waits, Quiet, May, MayDeliver, DeliverRule, may-inside, may-use, deliver-on}
 use Rattle.model.proofs.Invariants.{Inv, Moves, moves, may-phase, newly-is, inv-bump}
 use Rattle.model.proofs.Suited.{Suited}
 use Rattle.model.proofs.Progress.{in-phase, LeastEvent, least-event, deliver-some, least-moves, Clear, single-alone, held-moves}
@@ -56,6 +56,17 @@ module _ (S : Scenario) (c : Channel) where
   choose-allowed [] s = tt
   choose-allowed (k ∷ ks) s = choose-first k ks s (Lawful s) (λ m l t a. a) (λ n. choose-allowed ks s)
 
+  -- the schedule is an order, from any state
+  pub schedule-order : (e fuel : ℕ) (s : State) → isOrderFrom S c s (scheduleFrom S c e fuel s) ≡ true
+  unfolding scheduleFrom isOrderFrom Lawful
+  schedule-order e zero s = refl
+  schedule-order e (suc fuel) s = go (choose S c (classesFor S e) s) (choose-allowed (classesFor S e) s) (schedule-order e fuel)
+    where
+      go : (o : Option Step) → Lawful s o → ((u : State) → isOrderFrom S c u (scheduleFrom S c e fuel u) ≡ true)
+          → isOrderFrom S c s (elim o [ none ↦ [] | some t ↦ t ∷ scheduleFrom S c e fuel (next S s t) ]) ≡ true
+      go none a later = refl
+      go (some t) a later = and-both (allowed S c s t) _ a (later (next S s t))
+
 -- The race (e, x), on an eager channel, by the channel's rule.
 module _ (S : Scenario) (C : Causal S) (c : Channel) (r : RaceRule) (U : Suited S C c r) (eager : c .eager ≡ true)
     (e : ℕ) (x : Event) (inside : e < S .count) (onBoard : board S x ≡ S .target e)
@@ -67,10 +78,10 @@ module _ (S : Scenario) (C : Causal S) (c : Channel) (r : RaceRule) (U : Suited 
 
   -- e is not delivered, and nothing was done that e's send does not need: no other send, and where races go by the event
   -- itself no delivery of another message either
-  record Withheld (φ : ℕ → ℕ) : Type 0 where
-    early : φ e ≤ 1
-    sends : (m : ℕ) → 1 ≤ φ m → Needed (sendOf m)
-    receives : r ≡ byEvent → (m : ℕ) → 2 ≤ φ m → Needed (receiveOf m)
+  pub record Withheld (φ : ℕ → ℕ) : Type 0 where
+    pub early : φ e ≤ 1
+    pub sends : (m : ℕ) → 1 ≤ φ m → Needed (sendOf m)
+    pub receives : r ≡ byEvent → (m : ℕ) → 2 ≤ φ m → Needed (receiveOf m)
 
   -- what is before a needed event is needed
   needed-below : (z y : Event) → S .before z y ≡ true → Needed y → Needed z
@@ -97,17 +108,15 @@ module _ (S : Scenario) (C : Causal S) (c : Channel) (r : RaceRule) (U : Suited 
       not-both _ (W .sends g (omega (arith, leb-true 3 (φ g) d))) (not-true (atOrBefore S (sendOf g) (sendOf e)) o)
 
   -- where the schedule stands: e is withheld, or a board is jammed
-  Course : (ℕ → ℕ) → Type 0
+  abbrev pub Course : (ℕ → ℕ) → Type 0
   Course φ = Withheld φ ⊎ ((d : ℕ) × (y : Event) × Jammed S C c φ d y)
 
-  course-start : Course (λ m. 0)
-  unfolding Course
+  pub course-start : Course (λ m. 0)
   course-start = inl (record { early = omega arith; sends = λ m l. absurd (omega arith); receives = λ p m l. absurd (omega arith) })
 
   module _ (φ : ℕ → ℕ) (I : Inv S C c φ) where
     -- some message is not consumed
     course-short : Course φ → (k : ℕ) × (k < S .count) × (φ k < 3)
-    unfolding Course
     course-short (inl W) = (e, inside, omega (arith, W .early))
     course-short (inr (d, y, J)) = (d, jam-inside S C c φ I eager d y J, omega (arith, J .held))
 
@@ -238,13 +247,11 @@ module _ (S : Scenario) (C : Causal S) (c : Channel) (r : RaceRule) (U : Suited 
       Leads (some t) = Course (bump φ (messageIn t))
 
       consumes : (m : ℕ) → allowed S c (view S φ) (consume m) ≡ true → Course (bump φ m)
-      unfolding Course
       consumes m a =
           let p : φ m ≡ 2 = may-use S φ c C (consume m) a .held in
           inl (withheld-bump W m (λ i. absurd (omega (arith, ap φ i, W .early))) (λ z. absurd (omega arith)) (λ b z. absurd (omega arith)))
 
       delivers-e : (m : ℕ) → m ≡ e → allowed S c (view S φ) (deliver m) ≡ true → Course (bump φ m)
-      unfolding Course
       delivers-e m i a =
           let M = may-use S φ c C (deliver m) a in
           let J =
@@ -254,13 +261,11 @@ module _ (S : Scenario) (C : Causal S) (c : Channel) (r : RaceRule) (U : Suited 
 
       -- a delivery of another message, which by the event's rule e's send needs
       delivers : (m : ℕ) → (m ≡ e → ⊥) → (r ≡ byEvent → Needed (receiveOf m)) → allowed S c (view S φ) (deliver m) ≡ true → Course (bump φ m)
-      unfolding Course
       delivers m other needed a =
           let p : φ m ≡ 1 = may-use S φ c C (deliver m) a .underWay in
           inl (withheld-bump W m (λ i. absurd (other i)) (λ z. absurd (omega arith)) (λ b z. needed b))
 
       sends-needed : (m : ℕ) → Needed (sendOf m) → allowed S c (view S φ) (send m) ≡ true → Course (bump φ m)
-      unfolding Course
       sends-needed m n a =
           let p : φ m ≡ 0 = may-phase S C c φ (send m) (may-use S φ c C (send m) a) in
           inl (withheld-bump W m (λ i. p) (λ z. n) (λ b z. absurd (omega arith)))
@@ -290,3 +295,84 @@ module _ (S : Scenario) (C : Causal S) (c : Channel) (r : RaceRule) (U : Suited 
           choose-first S c anyDelivery (anySend ∷ []) s Leads
           (λ m l t a. delivers m (λ i. n₂ m l (eq-eqb m e i) a) (λ b. absurd (plain b)) a) (λ n₅.
           ⊎-elim (λ g. absurd (n₅ (g .0) (g .1) refl (g .2))) (λ g. absurd (n₄ (g .0) (g .1) (g .2) (g .3))) (origin-step W empty))))))
+
+    -- every message held may be consumed, or one of them jams its board
+    settle : ((k : ℕ) → k < S .count → φ k ≡ 2 → allowed S c (view S φ) (consume k) ≡ true)
+        ⊎ ((d : ℕ) × (y : Event) × Jammed S C c φ d y)
+    settle =
+        ⊎-elim
+        (λ (t : every (S .count) moves-on ≡ true). inl (λ k l p. implies (eqb (φ k) 2) _ (every-at (S .count) moves-on t k l) (eq-eqb (φ k) 2 p)))
+        (λ (f : every (S .count) moves-on ≡ false).
+          let w = every-not (S .count) moves-on f in
+          let u = implies-not (eqb (φ (w .0)) 2) (allowed S c (view S φ) (consume (w .0))) (w .2) in
+          let p : φ (w .0) ≡ 2 = eqb-true (φ (w .0)) 2 (u .0) in
+          ⊎-elim
+          (λ (a : allowed S c (view S φ) (consume (w .0)) ≡ true). not-both (allowed S c (view S φ) (consume (w .0))) a (u .1))
+          (λ (h : (y : Event) × Waits S C φ (receiveOf (w .0)) y × (isRace S r (w .0) y ≡ true)). inr (w .0, h .0, record { held = p; waits = h .1 }))
+          (held-moves S C c φ I r U eager (w .0) (w .1) p))
+        (which (every (S .count) moves-on))
+      where
+        moves-on : ℕ → Bool
+        moves-on k = not (eqb (φ k) 2) || allowed S c (view S φ) (consume k)
+
+    course-next : Course φ → (t : Step) → choose S c (classesFor S e) (view S φ) ≡ some t → allowed S c (view S φ) t ≡ true
+        → Course (bump φ (messageIn t))
+    unfolding Leads
+    course-next K t i a = ⊎-elim (λ W. ⊎-elim (λ h. on W h) jam settle) jam K
+      where
+        jam : (d : ℕ) × (y : Event) × Jammed S C c φ d y → Course (bump φ (messageIn t))
+        jam (d, y, J) = inr (d, y, jam-bump S C c φ I eager d y J (messageIn t) (moves S C c φ t (may-use S φ c C t a)))
+        on : Withheld φ → ((k : ℕ) → k < S .count → φ k ≡ 2 → allowed S c (view S φ) (consume k) ≡ true) → Course (bump φ (messageIn t))
+        on W h = subst (Leads W h) i (withheld-leads W h)
+
+    -- where nothing is chosen, no step is allowed
+    Stops : Option Step → Type 0
+    Stops none = (t : Step) → allowed S c (view S φ) t ≡ true → ⊥
+    Stops (some t) = Unit {0}
+
+    chosen-none : Stops (choose S c (classesFor S e) (view S φ))
+    unfolding Stops choose
+    chosen-none =
+        let s = view S φ in
+        choose-first S c anyConsume (deliveryOf e ∷ neededDelivery S e ∷ neededSend S e ∷ anyDelivery ∷ anySend ∷ []) s Stops (λ m l t a. tt) (λ n₁.
+        choose-first S c (deliveryOf e) (neededDelivery S e ∷ neededSend S e ∷ anyDelivery ∷ anySend ∷ []) s Stops (λ m l t a. tt) (λ n₂.
+        choose-first S c (neededDelivery S e) (neededSend S e ∷ anyDelivery ∷ anySend ∷ []) s Stops (λ m l t a. tt) (λ n₃.
+        choose-first S c (neededSend S e) (anyDelivery ∷ anySend ∷ []) s Stops (λ m l t a. tt) (λ n₄.
+        choose-first S c anyDelivery (anySend ∷ []) s Stops (λ m l t a. tt) (λ n₅.
+        choose-first S c anySend [] s Stops (λ m l t a. tt) (λ n₆. nothing n₁ n₅ n₆))))))
+      where
+        nothing : NoneOf S c anyConsume (view S φ) → NoneOf S c anyDelivery (view S φ) → NoneOf S c anySend (view S φ)
+            → (t : Step) → allowed S c (view S φ) t ≡ true → ⊥
+        nothing n₁ n₅ n₆ (send m) a = n₆ m (may-use S φ c C (send m) a .inside) refl a
+        nothing n₁ n₅ n₆ (deliver m) a = n₅ m (may-use S φ c C (deliver m) a .inside) refl a
+        nothing n₁ n₅ n₆ (consume m) a = n₁ m (may-use S φ c C (consume m) a .inside) refl a
+
+    course-unfinished : Course φ → finished S (view S φ) ≡ false
+    course-unfinished K =
+        let k = course-short K in
+        ⊎-elim (λ t. absurd (omega (arith, finished-use S φ t (k .0) (k .1), k .2))) (λ f. f) (which (finished S (view S φ)))
+
+    -- nothing is chosen: stuck
+    course-stuck : Course φ → choose S c (classesFor S e) (view S φ) ≡ none → stuck S c (view S φ) ≡ true
+    unfolding Stops
+    course-stuck K i = stuck-on S c (view S φ) (course-unfinished K) (subst Stops i chosen-none)
+
+  -- the schedule from where e is withheld or a board jammed, with fuel for all that is left: it ends stuck
+  pub schedule-stuck : (fuel : ℕ) (φ : ℕ → ℕ) → Inv S C c φ → Course φ → 3 * S .count ≤ fuel + rank (S .count) φ
+      → stuck S c (after S (view S φ) (scheduleFrom S c e fuel (view S φ))) ≡ true
+  unfolding scheduleFrom after Lawful
+  schedule-stuck zero φ I K l =
+      let k = course-short φ I K in
+      absurd (omega (arith, rank-less (S .count) φ (I .most) (k .0) (k .1) (k .2)))
+  schedule-stuck (suc fuel) φ I K l = go (choose S c (classesFor S e) (view S φ)) refl (choose-allowed S c (classesFor S e) (view S φ)) (schedule-stuck fuel)
+    where
+      go : (o : Option Step) → choose S c (classesFor S e) (view S φ) ≡ o → Lawful S c (view S φ) (choose S c (classesFor S e) (view S φ))
+          → ((ψ : ℕ → ℕ) → Inv S C c ψ → Course ψ → 3 * S .count ≤ fuel + rank (S .count) ψ → stuck S c (after S (view S ψ) (scheduleFrom S c e fuel (view S ψ))) ≡ true)
+          → stuck S c (after S (view S φ) (elim o [ none ↦ [] | some t ↦ t ∷ scheduleFrom S c e fuel (next S (view S φ) t) ])) ≡ true
+      go none i a later = course-stuck φ I K i
+      go (some t) i a later =
+          let allow : allowed S c (view S φ) t ≡ true = subst (Lawful S c (view S φ)) i a in
+          let M = may-use S φ c C t allow in
+          subst⁻¹ (λ (s : State). stuck S c (after S s (scheduleFrom S c e fuel s)) ≡ true) (view-next S φ t (may-phase S C c φ t M))
+          (later (bump φ (messageIn t)) (inv-bump S C c φ I (messageIn t) (moves S C c φ t M)) (course-next φ I K t i allow)
+          (omega (arith, rank-bump (S .count) φ (messageIn t) (may-inside S φ c C t M))))

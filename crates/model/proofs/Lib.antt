@@ -17,3 +17,5 @@ pub mod Suited
 pub mod Progress
 pub mod Jam
 pub mod Withholding
+pub mod Orders
+pub mod PointThree

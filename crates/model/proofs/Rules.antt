@@ -312,8 +312,8 @@ module _ (S : Scenario) (c : Channel) (s : State) where
   stuck-on f n =
       and-both (not (finished S s)) (noStep S c s) (not-is-true (finished S s) f)
       (every-from (S .count) _ (λ m l.
-        and-both (not (allowed S c s (send m)) && not (allowed S c s (deliver m))) (not (allowed S c s (consume m)))
-        (and-both (not (allowed S c s (send m))) (not (allowed S c s (deliver m))) (forbidden (send m)) (forbidden (deliver m))) (forbidden (consume m))))
+      and-both (not (allowed S c s (send m)) && not (allowed S c s (deliver m))) (not (allowed S c s (consume m)))
+      (and-both (not (allowed S c s (send m))) (not (allowed S c s (deliver m))) (forbidden (send m)) (forbidden (deliver m))) (forbidden (consume m))))
     where
       forbidden : (t : Step) → not (allowed S c s t) ≡ true
       forbidden t = ⊎-elim (λ a. absurd (n t a)) (λ f. not-is-true (allowed S c s t) f) (which (allowed S c s t))
@@ -334,10 +334,12 @@ stuck-forbids S φ c C h t a = not-both (allowed S c (view S φ) t) a (not-true 
   where
     on : Step → Bool
     on u = not (allowed S c (view S φ) u)
+
     at : (on (send (messageIn t)) && on (deliver (messageIn t)) && on (consume (messageIn t))) ≡ true
     at =
         every-at (S .count) (λ m. on (send m) && on (deliver m) && on (consume m))
         (and-right (not (finished S (view S φ))) (noStep S c (view S φ)) h) (messageIn t) (may-inside S φ c C t (may-use S φ c C t a))
+
     each : (u : Step) → (on (send (messageIn u)) && on (deliver (messageIn u)) && on (consume (messageIn u))) ≡ true → on u ≡ true
     each (send m) p = and-left (on (send m)) (on (deliver m)) (and-left (on (send m) && on (deliver m)) (on (consume m)) p)
     each (deliver m) p = and-right (on (send m)) (on (deliver m)) (and-left (on (send m) && on (deliver m)) (on (consume m)) p)

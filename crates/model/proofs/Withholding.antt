@@ -15,7 +15,16 @@ use Rattle.model.specs.Channel.{Channel, ToSend, ToDeliver, alone}
 use Rattle.model.specs.Run.{State, Step, send, deliver, consume, next, allowed, isOrderFrom, noStep, after, finished, stuck}
 use Rattle.model.specs.Race.{RaceRule, byEvent, byOrigin, never, origin, escapes, isRace}
 use Rattle.model.specs.Schedule.{
-  Class, anyConsume, deliveryOf, neededDelivery, neededSend, anyDelivery, anySend, classesFor, choose, scheduleFrom,
+  Class,
+  anyConsume,
+  deliveryOf,
+  neededDelivery,
+  neededSend,
+  anyDelivery,
+  anySend,
+  classesFor,
+  choose,
+  scheduleFrom,
 }
 use Rattle.model.proofs.Bounded.{and-left, and-right, and-both, which, not-both, not-is-true, every-at, every-from, every-not, IsLowest, Found, lowest-found}
 use Rattle.model.proofs.Events.{at-or-before-cases, at-or-before-same, at-or-before-before}
@@ -42,6 +51,7 @@ module _ (S : Scenario) (c : Channel) where
     where
       p : ℕ → Bool
       p m = k .takes m && allowed S c s (k .step m)
+
       go : (o : Option ℕ) → Found (S .count) p o → P (elim o [ some m ↦ some (k .step m) | none ↦ choose S c ks s ])
       go (some m) f = here m (f .below) (and-left (k .takes m) _ (f .passes)) (and-right (k .takes m) _ (f .passes))
       go none f = later (λ m l t a. not-both (p m) (and-both (k .takes m) _ t a) (f m l))
@@ -71,7 +81,6 @@ module _ (S : Scenario) (c : Channel) where
 module _ (S : Scenario) (C : Causal S) (c : Channel) (r : RaceRule) (U : Suited S C c r) (eager : c .eager ≡ true)
     (e : ℕ) (x : Event) (inside : e < S .count) (onBoard : board S x ≡ S .target e)
     (isBefore : S .before x (receiveOf e) ≡ true) (outside : escapes S r e x ≡ true) where
-
   -- the event is at or before e's send
   abbrev Needed : Event → Type 0
   Needed y = atOrBefore S y (sendOf e) ≡ true
@@ -127,24 +136,24 @@ module _ (S : Scenario) (C : Causal S) (c : Channel) (r : RaceRule) (U : Suited 
     withheld-bump W m other sent got =
         record {
           early =
-            ⊎-elim
-            (λ (i : (e ≡ m) × (bump φ m e ≡ suc (φ m))). omega (arith, i .1, other (sym (i .0))))
-            (λ (i : (e ≡ m → ⊥) × (bump φ m e ≡ φ e)). omega (arith, i .1, W .early))
-            (bump-cases φ m e);
+              ⊎-elim
+              (λ (i : (e ≡ m) × (bump φ m e ≡ suc (φ m))). omega (arith, i .1, other (sym (i .0))))
+              (λ (i : (e ≡ m → ⊥) × (bump φ m e ≡ φ e)). omega (arith, i .1, W .early))
+              (bump-cases φ m e);
           sends = λ k l.
-            ⊎-elim
-            (λ (i : (k ≡ m) × (bump φ m k ≡ suc (φ m))).
+              ⊎-elim
+              (λ (i : (k ≡ m) × (bump φ m k ≡ suc (φ m))).
               subst (λ (j : ℕ). Needed (sendOf j)) (sym (i .0))
               (⊎-elim (λ (z : φ m ≡ 0). sent z) (λ (z : φ m ≡ 0 → ⊥). W .sends m (omega arith)) (equal-or-not (φ m) 0)))
-            (λ (i : (k ≡ m → ⊥) × (bump φ m k ≡ φ k)). W .sends k (omega (arith, i .1)))
-            (bump-cases φ m k);
+              (λ (i : (k ≡ m → ⊥) × (bump φ m k ≡ φ k)). W .sends k (omega (arith, i .1)))
+              (bump-cases φ m k);
           receives = λ p k l.
-            ⊎-elim
-            (λ (i : (k ≡ m) × (bump φ m k ≡ suc (φ m))).
+              ⊎-elim
+              (λ (i : (k ≡ m) × (bump φ m k ≡ suc (φ m))).
               subst (λ (j : ℕ). Needed (receiveOf j)) (sym (i .0))
               (⊎-elim (λ (z : φ m ≡ 1). got p z) (λ (z : φ m ≡ 1 → ⊥). W .receives p m (omega (arith, i .1))) (equal-or-not (φ m) 1)))
-            (λ (i : (k ≡ m → ⊥) × (bump φ m k ≡ φ k)). W .receives p k (omega (arith, i .1)))
-            (bump-cases φ m k);
+              (λ (i : (k ≡ m → ⊥) × (bump φ m k ≡ φ k)). W .receives p k (omega (arith, i .1)))
+              (bump-cases φ m k);
         }
 
     -- e is delivered: its board jams, for x is not done
@@ -161,10 +170,10 @@ module _ (S : Scenario) (C : Causal S) (c : Channel) (r : RaceRule) (U : Suited 
             ⊎-elim
             (λ (o : doneAt φ x ≡ true). absurd (done-needed φ W r refl x o outside))
             (λ (u : doneAt φ x ≡ false).
-              ⊎-elim
-              (λ (s : (x ≡ sendOf e) × (φ e ≡ 0)). absurd (omega (arith, s .1)))
-              (λ (s : (x ≡ receiveOf e) × (φ e ≡ 2)). absurd (omega (arith, s .1)))
-              (newly-is S C c φ I e M x u d))
+            ⊎-elim
+            (λ (s : (x ≡ sendOf e) × (φ e ≡ 0)). absurd (omega (arith, s .1)))
+            (λ (s : (x ≡ receiveOf e) × (φ e ≡ 2)). absurd (omega (arith, s .1)))
+            (newly-is S C c φ I e M x u d))
             (which (doneAt φ x))
 
     -- With nothing held, one of the first classes has an allowed step.
@@ -182,8 +191,8 @@ module _ (S : Scenario) (C : Causal S) (c : Channel) (r : RaceRule) (U : Suited 
       unfolding undoneNeeded messageOf
       least-needed p q =
           let first : undoneNeeded (sendOf e) ≡ true =
-                and-both (not (doneAt φ (sendOf e))) (atOrBefore S (sendOf e) (sendOf e))
-                (not-is-true (doneAt φ (sendOf e)) (lt-leb 1 (φ e) (omega arith))) (at-or-before-same S (sendOf e) (sendOf e) refl) in
+          and-both (not (doneAt φ (sendOf e))) (atOrBefore S (sendOf e) (sendOf e))
+          (not-is-true (doneAt φ (sendOf e)) (lt-leb 1 (φ e) (omega arith))) (at-or-before-same S (sendOf e) (sendOf e) refl) in
           let r′ = least-event S C undoneNeeded (sendOf e) inside first in
           let y = r′ .0 in
           let L = r′ .1 in
@@ -191,12 +200,12 @@ module _ (S : Scenario) (C : Causal S) (c : Channel) (r : RaceRule) (U : Suited 
           let n : Needed y = and-right (not (doneAt φ y)) (atOrBefore S y (sendOf e)) (L .passes) in
           ⊎-elim
           (λ (s : (g : ℕ) × (y ≡ sendOf g) × (allowed S c (view S φ) (send g) ≡ true)).
-            inl (s .0, subst (λ (z : Event). messageOf z < S .count) (s .1) (L .inside), subst Needed (s .1) n, s .2))
+          inl (s .0, subst (λ (z : Event). messageOf z < S .count) (s .1) (L .inside), subst Needed (s .1) n, s .2))
           (λ (s : (g : ℕ) × (y ≡ receiveOf g) × (g < S .count) × ((φ g ≡ 1) ⊎ (allowed S c (view S φ) (consume g) ≡ true))).
-            ⊎-elim
-            (λ (w : φ (s .0) ≡ 1). inr (s .0, s .2, needed-receive (s .0) (subst Needed (s .1) n), w))
-            (λ (a : allowed S c (view S φ) (consume (s .0)) ≡ true). absurd (empty (s .0) (s .2) (may-use S φ c C (consume (s .0)) a .held)))
-            (s .3))
+          ⊎-elim
+          (λ (w : φ (s .0) ≡ 1). inr (s .0, s .2, needed-receive (s .0) (subst Needed (s .1) n), w))
+          (λ (a : allowed S c (view S φ) (consume (s .0)) ≡ true). absurd (empty (s .0) (s .2) (may-use S φ c C (consume (s .0)) a .held)))
+          (s .3))
           (least-moves S C c φ I undoneNeeded y u L (λ z b f. and-both (not (doneAt φ z)) (atOrBefore S z (sendOf e)) (not-is-true (doneAt φ z) f) (needed-below z y b n)) clear q)
 
       -- by the event's rule: e itself, a message whose receive e's send needs, or a send that it needs
@@ -208,11 +217,11 @@ module _ (S : Scenario) (C : Causal S) (c : Channel) (r : RaceRule) (U : Suited 
           ⊎-elim
           (λ (p : φ e ≡ 1). inl (delivers e inside p))
           (λ (n : φ e ≡ 1 → ⊥).
-            ⊎-elim
-            (λ s. inr (inr s))
-            (λ (s : (g : ℕ) × (g < S .count) × (S .before (receiveOf g) (sendOf e) ≡ true) × (φ g ≡ 1)).
-              inr (inl (s .0, s .1, s .2, delivers (s .0) (s .1) (s .3))))
-            (least-needed (omega (arith, W .early)) (inr (U .plain i .0))))
+          ⊎-elim
+          (λ s. inr (inr s))
+          (λ (s : (g : ℕ) × (g < S .count) × (S .before (receiveOf g) (sendOf e) ≡ true) × (φ g ≡ 1)).
+          inr (inl (s .0, s .1, s .2, delivers (s .0) (s .1) (s .3))))
+          (least-needed (omega (arith, W .early)) (inr (U .plain i .0))))
           (equal-or-not (φ e) 1)
         where
           delivers : (g : ℕ) → g < S .count → φ g ≡ 1 → allowed S c (view S φ) (deliver g) ≡ true
@@ -230,14 +239,14 @@ module _ (S : Scenario) (C : Causal S) (c : Channel) (r : RaceRule) (U : Suited 
       origin-step =
           ⊎-elim
           (λ (w : (k : ℕ) × (k < S .count) × (φ k ≡ 1)).
-            let d = deliver-some S C c φ I clear (single-alone S C c φ I r U) (w .0) (w .1) (w .2) in
-            inl (d .0, may-use S φ c C (deliver (d .0)) (d .1) .inside, d .1))
+          let d = deliver-some S C c φ I clear (single-alone S C c φ I r U) (w .0) (w .1) (w .2) in
+          inl (d .0, may-use S φ c C (deliver (d .0)) (d .1) .inside, d .1))
           (λ (q : Quiet S φ).
-            let p : φ e ≡ 1 → ⊥ = q e inside in
-            ⊎-elim
-            (λ s. inr s)
-            (λ (s : (g : ℕ) × (g < S .count) × (S .before (receiveOf g) (sendOf e) ≡ true) × (φ g ≡ 1)). absurd (q (s .0) (s .1) (s .3)))
-            (least-needed (omega (arith, W .early)) (inl q)))
+          let p : φ e ≡ 1 → ⊥ = q e inside in
+          ⊎-elim
+          (λ s. inr s)
+          (λ (s : (g : ℕ) × (g < S .count) × (S .before (receiveOf g) (sendOf e) ≡ true) × (φ g ≡ 1)). absurd (q (s .0) (s .1) (s .3)))
+          (least-needed (omega (arith, W .early)) (inl q)))
           (in-phase (S .count) 1 φ)
 
     -- A step chosen with e withheld, where every message held may be consumed, leaves e withheld or jams its board.
@@ -255,8 +264,8 @@ module _ (S : Scenario) (C : Causal S) (c : Channel) (r : RaceRule) (U : Suited 
       delivers-e m i a =
           let M = may-use S φ c C (deliver m) a in
           let J =
-                delivered-jams W (sym (ap φ i) ∙ M .underWay)
-                (subst (λ (k : ℕ). Moves S C c φ k) i (moves S C c φ (deliver m) M)) in
+          delivered-jams W (sym (ap φ i) ∙ M .underWay)
+          (subst (λ (k : ℕ). Moves S C c φ k) i (moves S C c φ (deliver m) M)) in
           inr (e, x, subst (λ (k : ℕ). Jammed S C c (bump φ k) e x) (sym i) J)
 
       -- a delivery of another message, which by the event's rule e's send needs
@@ -289,9 +298,9 @@ module _ (S : Scenario) (C : Causal S) (c : Channel) (r : RaceRule) (U : Suited 
           (λ m l t a. sends-needed m t a) (λ n₄.
           let empty : (k : ℕ) → k < S .count → φ k ≡ 2 → ⊥ = λ k l p. n₁ k l refl (consumable k l p) in
           let plain : r ≡ byEvent → ⊥ = λ i.
-                ⊎-elim (λ a. n₂ e inside (eq-eqb e e refl) a)
-                (⊎-elim (λ g. n₃ (g .0) (g .1) (g .2) (g .3)) (λ g. n₄ (g .0) (g .1) (g .2) (g .3)))
-                (plain-step W empty i) in
+          ⊎-elim (λ a. n₂ e inside (eq-eqb e e refl) a)
+          (⊎-elim (λ g. n₃ (g .0) (g .1) (g .2) (g .3)) (λ g. n₄ (g .0) (g .1) (g .2) (g .3)))
+          (plain-step W empty i) in
           choose-first S c anyDelivery (anySend ∷ []) s Leads
           (λ m l t a. delivers m (λ i. n₂ m l (eq-eqb m e i) a) (λ b. absurd (plain b)) a) (λ n₅.
           ⊎-elim (λ g. absurd (n₅ (g .0) (g .1) refl (g .2))) (λ g. absurd (n₄ (g .0) (g .1) (g .2) (g .3))) (origin-step W empty))))))
@@ -303,13 +312,13 @@ module _ (S : Scenario) (C : Causal S) (c : Channel) (r : RaceRule) (U : Suited 
         ⊎-elim
         (λ (t : every (S .count) moves-on ≡ true). inl (λ k l p. implies (eqb (φ k) 2) _ (every-at (S .count) moves-on t k l) (eq-eqb (φ k) 2 p)))
         (λ (f : every (S .count) moves-on ≡ false).
-          let w = every-not (S .count) moves-on f in
-          let u = implies-not (eqb (φ (w .0)) 2) (allowed S c (view S φ) (consume (w .0))) (w .2) in
-          let p : φ (w .0) ≡ 2 = eqb-true (φ (w .0)) 2 (u .0) in
-          ⊎-elim
-          (λ (a : allowed S c (view S φ) (consume (w .0)) ≡ true). not-both (allowed S c (view S φ) (consume (w .0))) a (u .1))
-          (λ (h : (y : Event) × Waits S C φ (receiveOf (w .0)) y × (isRace S r (w .0) y ≡ true)). inr (w .0, h .0, record { held = p; waits = h .1 }))
-          (held-moves S C c φ I r U eager (w .0) (w .1) p))
+        let w = every-not (S .count) moves-on f in
+        let u = implies-not (eqb (φ (w .0)) 2) (allowed S c (view S φ) (consume (w .0))) (w .2) in
+        let p : φ (w .0) ≡ 2 = eqb-true (φ (w .0)) 2 (u .0) in
+        ⊎-elim
+        (λ (a : allowed S c (view S φ) (consume (w .0)) ≡ true). not-both (allowed S c (view S φ) (consume (w .0))) a (u .1))
+        (λ (h : (y : Event) × Waits S C φ (receiveOf (w .0)) y × (isRace S r (w .0) y ≡ true)). inr (w .0, h .0, record { held = p; waits = h .1 }))
+        (held-moves S C c φ I r U eager (w .0) (w .1) p))
         (which (every (S .count) moves-on))
       where
         moves-on : ℕ → Bool
@@ -322,6 +331,7 @@ module _ (S : Scenario) (C : Causal S) (c : Channel) (r : RaceRule) (U : Suited 
       where
         jam : (d : ℕ) × (y : Event) × Jammed S C c φ d y → Course (bump φ (messageIn t))
         jam (d, y, J) = inr (d, y, jam-bump S C c φ I eager d y J (messageIn t) (moves S C c φ t (may-use S φ c C t a)))
+
         on : Withheld φ → ((k : ℕ) → k < S .count → φ k ≡ 2 → allowed S c (view S φ) (consume k) ≡ true) → Course (bump φ (messageIn t))
         on W h = subst (Leads W h) i (withheld-leads W h)
 

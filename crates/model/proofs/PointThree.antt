@@ -1,0 +1,198 @@
+-- Point 3: for every text, code and pair of buffer lengths, the verdict on an accepted sheet is that of whole orders.
+-- Assumes nothing.
+use Prim.Native.Nat.{ℕ, zero, suc, _+_, _*_, _<_, _≤_}
+use native.Mathlib.Omega.{arith}
+use mathlib.Core.Path.{_≡_, refl, sym, _∙_, ap, subst, subst⁻¹}
+use mathlib.Core.Logic.{_⊎_, inl, inr, ⊎-elim, _↔_}
+use mathlib.Core.Bool.{Bool, true, false, _&&_}
+use mathlib.Core.List.{List, [], _∷_, _++_}
+use mathlib.Core.Option.{Option, none, some}
+use borrow.Author.Tests.{eqb-true}
+use lib.Dec.{eqb}
+use lib.ListN.{length, take, drop}
+use lib.Seq.{take-at}
+use Rattle.model.specs.Limits.{channels}
+use Rattle.model.specs.Bounded.{lowest}
+use Rattle.model.specs.Refusal.{Out, ok}
+use Rattle.model.specs.Order.{Event, sendOf, receiveOf, number, event, messageOf, Scenario, board, atOrBefore}
+use Rattle.model.specs.Channel.{Channel, channelOf}
+use Rattle.model.specs.Run.{State, start, Step, send, deliver, consume, next, allowed, isOrderFrom, after, finished, stuck, IsOrder, EndsStuck, EndsFinished, CanFinish}
+use Rattle.model.specs.Race.{RaceRule, byEvent, byOrigin, never, raceRuleOf, escapes, isRace, races, lowestEvent, lowestMessage}
+use Rattle.model.specs.Schedule.{schedule, scheduleFrom, bytesOf}
+use Rattle.model.specs.Answer.{Answer, free, locked, refused, acceptedOf, verdictOf, answerFor, answerOf, traceAfter}
+use Rattle.model.specs.Verdict.{LowestRace, Verdict, PointThree}
+use Rattle.model.proofs.Bounded.{and-left, and-right, which, not-both, any-from, any-some, any-none, IsLowest, Found, lowest-found}
+use Rattle.model.proofs.Events.{event-number, below-number}
+use Rattle.model.proofs.Causal.{Causal}
+use Rattle.model.proofs.Accepted.{accepted-causal, accepted-code}
+use Rattle.model.proofs.Phases.{view, view-start}
+use Rattle.model.proofs.Rank.{rank}
+use Rattle.model.proofs.Rules.{stuck-unfinished, stuck-forbids}
+use Rattle.model.proofs.Invariants.{inv-start}
+use Rattle.model.proofs.Suited.{Suited, suited}
+use Rattle.model.proofs.Progress.{progress}
+use Rattle.model.proofs.Withholding.{schedule-order, schedule-stuck, course-start}
+use Rattle.model.proofs.Orders.{after-append, order-rest, reached-from-start, none-longer, finished-length, can-finish}
+
+-- a race, taken apart
+pub race-parts : (S : Scenario) (r : RaceRule) (e : ℕ) (x : Event) → isRace S r e x ≡ true
+    → (board S x ≡ S .target e) × (S .before x (receiveOf e) ≡ true) × (escapes S r e x ≡ true)
+unfolding isRace
+race-parts S r e x h =
+    let t = eqb (board S x) (S .target e) in
+    let b = S .before x (receiveOf e) in
+    let both : (t && b) ≡ true = and-left (t && b) (escapes S r e x) h in
+    (eqb-true (board S x) (S .target e) (and-left t b both), and-right t b both, and-right (t && b) (escapes S r e x) h)
+
+free-unlocked : {e x : ℕ} {ts : List Step} → free ≡ locked e x ts → ⊥
+free-unlocked i = let z : _≡_ {A = ℕ} 0 1 = cc in omega arith
+
+never-escapes : (S : Scenario) (e : ℕ) (x : Event) → escapes S never e x ≡ false
+unfolding escapes
+never-escapes S e x = refl
+
+module _ (S : Scenario) (C : Causal S) (code : ℕ) (known : code < channels) where
+  -- the steps of a race's schedule are an order that ends stuck
+  race-stuck : (e : ℕ) (x : Event) → e < S .count → isRace S (raceRuleOf code) e x ≡ true → EndsStuck S (channelOf code) (schedule S (channelOf code) e)
+  unfolding schedule
+  race-stuck e x l h =
+      let c = channelOf code in
+      let r = raceRuleOf code in
+      let U = suited S C code known in
+      let p = race-parts S r e x h in
+      let eager : c .eager ≡ true =
+      ⊎-elim (λ t. t) (λ (f : c .eager ≡ false). not-both _ (subst (λ (q : RaceRule). escapes S q e x ≡ true) (U .lazy f) (p .2)) (never-escapes S e x)) (which (c .eager)) in
+      record {
+        isOrder = schedule-order S c e (3 * S .count) start;
+        isStuck =
+            subst⁻¹ (λ (s : State). stuck S c (after S s (scheduleFrom S c e (3 * S .count) s)) ≡ true) (view-start S)
+            (schedule-stuck S C c r U eager e x l (p .0) (p .1) (p .2) (3 * S .count) (λ m. 0) (inv-start S C c)
+            (course-start S C c r U eager e x l (p .0) (p .1) (p .2)) (omega arith));
+      }
+
+  -- what the answer for the scenario is: free, and there is no race; or locked, with the lowest race
+  pub data Decided : Answer → Type 0 where
+    isFree : ((e : ℕ) (x : Event) → e < S .count → isRace S (raceRuleOf code) e x ≡ true → ⊥) → Decided free
+    isLocked : {e x : ℕ} → LowestRace S code e x → Decided (locked e x (schedule S (channelOf code) e))
+
+  decided : Decided (verdictOf S code)
+  unfolding verdictOf lowestMessage lowestEvent races
+  decided = go (lowest (S .count) (races S r)) (lowest-found (S .count) (races S r))
+    where
+      r : RaceRule
+      r = raceRuleOf code
+
+      at : ℕ → ℕ → Bool
+      at e k = isRace S r e (event k)
+
+      named : (e : ℕ) → IsLowest (S .count) (races S r) e → (o : Option ℕ) → Found (2 * S .count) (at e) o
+          → Decided (elim o [ none ↦ free | some x ↦ locked e x (schedule S (channelOf code) e) ])
+      named e L none f =
+          let k = any-some (2 * S .count) (at e) (L .passes) in
+          not-both (at e (k .0)) (k .2) (f (k .0) (k .1))
+      named e L (some x) f =
+          isLocked (record {
+            inScenario = (L .below, f .below);
+            race = f .passes;
+            noLowerMessage = λ g y l h. any-none (2 * S .count) (at g) (L .first g l) y h;
+            noLowerEvent = f .first;
+          })
+
+      go : (o : Option ℕ) → Found (S .count) (races S r) o
+          → Decided (elim o [
+            | none ↦ free
+            | some e ↦ elim (lowest (2 * S .count) (at e)) [ none ↦ free | some x ↦ locked e x (schedule S (channelOf code) e) ]
+          ])
+      go none f =
+          isFree (λ e x l h.
+          not-both (isRace S r e x) h
+          (subst (λ (z : Event). isRace S r e z ≡ false) (event-number x)
+          (any-none (2 * S .count) (at e) (f e l) (number x) (below-number x (S .count) .0 (C .inside x (receiveOf e) (race-parts S r e x h .1) .0)))))
+      go (some e) L = named e L (lowest (2 * S .count) (at e)) (lowest-found (2 * S .count) (at e))
+
+  -- the two bytes of each step
+  bytes-length : (ts : List Step) → length (bytesOf ts) ≡ 2 * length ts
+  unfolding bytesOf
+  bytes-length [] = refl
+  bytes-length (send m ∷ ts) = omega (arith, bytes-length ts)
+  bytes-length (deliver m ∷ ts) = omega (arith, bytes-length ts)
+  bytes-length (consume m ∷ ts) = omega (arith, bytes-length ts)
+
+  -- a stuck state allows no order but the empty one, and that does not finish
+  stuck-goes-nowhere : (φ : ℕ → ℕ) → stuck S (channelOf code) (view S φ) ≡ true → (more : List Step)
+      → isOrderFrom S (channelOf code) (view S φ) more ≡ true → finished S (after S (view S φ) more) ≡ true → ⊥
+  unfolding isOrderFrom after
+  stuck-goes-nowhere φ h [] o f = not-both (finished S (view S φ)) f (stuck-unfinished S (channelOf code) (view S φ) h)
+  stuck-goes-nowhere φ h (t ∷ ts) o f =
+      stuck-forbids S φ (channelOf code) C h t
+      (and-left (allowed S (channelOf code) (view S φ) t) (isOrderFrom S (channelOf code) (next S (view S φ) t) ts) o)
+
+  -- an order that ends stuck cannot be carried on to a finished one
+  stuck-stays : (ts : List Step) → EndsStuck S (channelOf code) ts → CanFinish S (channelOf code) ts → ⊥
+  stuck-stays ts E F =
+      let c = channelOf code in
+      let R = reached-from-start S c C ts (E .isOrder) in
+      let rest = order-rest S c start ts (F .0) (F .1 .isOrder) in
+      let end = subst (λ (s : State). finished S s ≡ true) (after-append S start ts (F .0)) (F .1 .isFinished) in
+      stuck-goes-nowhere (R .phases) (subst (λ (s : State). stuck S c s ≡ true) (R .state) (E .isStuck)) (F .0)
+      (subst (λ (s : State). isOrderFrom S c s (F .0) ≡ true) (R .state) rest)
+      (subst (λ (s : State). finished S (after S s (F .0)) ≡ true) (R .state) end)
+
+  -- with no race no order ends stuck
+  free-moves : ((e : ℕ) (x : Event) → e < S .count → isRace S (raceRuleOf code) e x ≡ true → ⊥) → (ts : List Step)
+      → EndsStuck S (channelOf code) ts → ⊥
+  free-moves quiet ts E =
+      let c = channelOf code in
+      let R = reached-from-start S c C ts (E .isOrder) in
+      let h : stuck S c (view S (R .phases)) ≡ true = subst (λ (s : State). stuck S c s ≡ true) (R .state) (E .isStuck) in
+      let p =
+      progress S C c (R .phases) (R .inv) (raceRuleOf code) (suited S C code known) quiet
+      (stuck-unfinished S c (view S (R .phases)) h) in
+      stuck-forbids S (R .phases) c C h (p .0) (p .1)
+
+  verdict-for : (a : Answer) → Decided a → (trace : List ℕ) → Verdict S code a (traceAfter a trace)
+  unfolding traceAfter
+  verdict-for a (isFree quiet) trace =
+      record {
+        lockedWhenStuck = (λ k. (let i : free ≡ locked (k .0) (k .1) (k .2) = k .3 in absurd (free-unlocked i)), λ k. absurd (free-moves quiet (k .0) (k .1)));
+        lockedRace = λ e x ts i. absurd (free-unlocked i);
+        lockedSchedule = λ e x ts i. absurd (free-unlocked i);
+        lockedTrace = λ e x ts i. absurd (free-unlocked i);
+        lockedSteps = λ e x ts i. absurd (free-unlocked i);
+        freeWhenFinishing = (λ i ts o. can-finish S (channelOf code) C (raceRuleOf code) (suited S C code known) quiet ts o, λ h. refl);
+        finishedLength = finished-length S (channelOf code) C;
+        noneLonger = none-longer S (channelOf code) C;
+      }
+  verdict-for a (isLocked {e = e} {x = x} L) trace =
+      let E = race-stuck e (event x) (L .inScenario .0) (L .race) in
+      let ts = schedule S (channelOf code) e in
+      record {
+        lockedWhenStuck = (λ k. (ts, E), λ k. (e, x, ts, refl));
+        lockedRace = λ f y us i.
+            (let p : e ≡ f = cc in
+            let q : x ≡ y = cc in
+            subst (λ (k : ℕ). LowestRace S code k y) p (subst (λ (k : ℕ). LowestRace S code e k) q L));
+        lockedSchedule = λ f y us i.
+            (let p : e ≡ f = cc in
+            let w : schedule S (channelOf code) e ≡ us = cc in
+            sym w ∙ ap (schedule S (channelOf code)) p);
+        lockedTrace = λ f y us i.
+            (let w : schedule S (channelOf code) e ≡ us = cc in
+            subst (λ (vs : List Step). take (2 * length vs) (bytesOf ts ++ drop (2 * length ts) trace) ≡ bytesOf vs) w
+            (take-at (bytesOf ts) (drop (2 * length ts) trace) (2 * length ts) (bytes-length ts)));
+        lockedSteps = λ f y us i.
+            (let w : schedule S (channelOf code) e ≡ us = cc in
+            subst (EndsStuck S (channelOf code)) w E);
+        freeWhenFinishing = (λ i. absurd (free-unlocked (sym i)), λ h. absurd (stuck-stays ts E (h ts (E .isOrder))));
+        finishedLength = finished-length S (channelOf code) C;
+        noneLonger = none-longer S (channelOf code) C;
+      }
+
+-- Point 3, for every text, code, scratch length and trace buffer, with no premise but that the sheet is accepted.
+pub point-three : (text : List ℕ) (code scratchLength : ℕ) (trace : List ℕ) → PointThree text code scratchLength trace
+unfolding answerOf answerFor
+point-three text code scratchLength trace S e =
+    let C = accepted-causal text code scratchLength (length trace) S e in
+    let known = accepted-code text code scratchLength (length trace) S e in
+    subst⁻¹ (λ (o : Out Scenario). Verdict S code (answerFor o code) (traceAfter (answerFor o code) trace)) e
+    (verdict-for S C code known (verdictOf S code) (decided S C code known) trace)

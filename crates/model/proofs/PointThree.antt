@@ -9,11 +9,11 @@ use mathlib.Core.List.{List, [], _∷_, _++_}
 use mathlib.Core.Option.{Option, none, some}
 use borrow.Author.Tests.{eqb-true}
 use lib.Dec.{eqb}
-use lib.ListN.{length, take, drop}
+use lib.ListN.{length, take, drop, length-append, length-drop}
 use lib.Seq.{take-at}
-use Rattle.model.specs.Limits.{channels}
+use Rattle.model.specs.Limits.{channels, messagesMost, traceLeast}
 use Rattle.model.specs.Bounded.{lowest}
-use Rattle.model.specs.Refusal.{Out, ok}
+use Rattle.model.specs.Refusal.{Out, ok, refusal}
 use Rattle.model.specs.Order.{Event, sendOf, receiveOf, number, event, messageOf, Scenario, board, atOrBefore}
 use Rattle.model.specs.Channel.{Channel, channelOf}
 use Rattle.model.specs.Run.{State, start, Step, send, deliver, consume, next, allowed, isOrderFrom, after, finished, stuck, IsOrder, EndsStuck, EndsFinished, CanFinish}
@@ -24,7 +24,7 @@ use Rattle.model.specs.Verdict.{LowestRace, Verdict, PointThree}
 use Rattle.model.proofs.Bounded.{and-left, and-right, which, not-both, any-from, any-some, any-none, IsLowest, Found, lowest-found}
 use Rattle.model.proofs.Events.{event-number, below-number}
 use Rattle.model.proofs.Causal.{Causal}
-use Rattle.model.proofs.Accepted.{accepted-causal, accepted-code}
+use Rattle.model.proofs.Accepted.{accepted-causal, accepted-code, accepted-count, accepted-lengths}
 use Rattle.model.proofs.Phases.{view, view-start}
 use Rattle.model.proofs.Rank.{rank}
 use Rattle.model.proofs.Rules.{stuck-unfinished, stuck-forbids}
@@ -188,6 +188,15 @@ module _ (S : Scenario) (C : Causal S) (code : ℕ) (known : code < channels) wh
         noneLonger = none-longer S (channelOf code) C;
       }
 
+  -- the steps handed back fit a trace buffer with two bytes for each of three steps a message
+  trace-fits : (a : Answer) → Decided a → (trace : List ℕ) → 2 * (3 * S .count) ≤ length trace → length (traceAfter a trace) ≡ length trace
+  unfolding traceAfter schedule
+  trace-fits a (isFree quiet) trace l = refl
+  trace-fits a (isLocked {e = e} L) trace l =
+      let ts = schedule S (channelOf code) e in
+      let short : length ts ≤ 3 * S .count = none-longer S (channelOf code) C ts (schedule-order S (channelOf code) e (3 * S .count) start) in
+      simp (length-append, length-drop, bytes-length) (omega arith)
+
 -- Point 3, for every text, code, scratch length and trace buffer, with no premise but that the sheet is accepted.
 pub point-three : (text : List ℕ) (code scratchLength : ℕ) (trace : List ℕ) → PointThree text code scratchLength trace
 unfolding answerOf answerFor
@@ -196,3 +205,18 @@ point-three text code scratchLength trace S e =
     let known = accepted-code text code scratchLength (length trace) S e in
     subst⁻¹ (λ (o : Out Scenario). Verdict S code (answerFor o code) (traceAfter (answerFor o code) trace)) e
     (verdict-for S C code known (verdictOf S code) (decided S C code known) trace)
+
+-- the trace buffer keeps its length, whatever the text: the steps of a schedule always fit the least buffer
+pub trace-kept : (text : List ℕ) (code scratchLength : ℕ) (trace : List ℕ)
+    → length (traceAfter (answerOf text code scratchLength (length trace)) trace) ≡ length trace
+unfolding answerOf answerFor traceAfter
+trace-kept text code scratchLength trace = go (acceptedOf text code scratchLength (length trace)) refl
+  where
+    go : (o : Out Scenario) → acceptedOf text code scratchLength (length trace) ≡ o → length (traceAfter (answerFor o code) trace) ≡ length trace
+    go (refusal number line) e = refl
+    go (ok S) e =
+        let C = accepted-causal text code scratchLength (length trace) S e in
+        let known = accepted-code text code scratchLength (length trace) S e in
+        let count : S .count ≤ messagesMost = accepted-count text code scratchLength (length trace) S e in
+        let long : traceLeast ≤ length trace = accepted-lengths text code scratchLength (length trace) S e .1 in
+        trace-fits S C code known (verdictOf S code) (decided S C code known) trace (omega arith)

@@ -1,16 +1,15 @@
 -- What `cleared` means: the first words are zero, so the rows there hold nothing, and the rest is as it was.
 -- Assumes nothing.
-use mathlib.Core.Path.{_≡_, refl, ap, _∙_}
+use mathlib.Core.Path.{_≡_, ap, _∙_}
 use mathlib.Core.Bool.{_&&_}
 use mathlib.Core.List.{List, _++_}
 use Prim.Native.Nat.{ℕ, suc, _+_, _-_, _*_, _<_, _≤_}
-use native.Mathlib.Nat.{mul-le-mul-right, le-antisymm}
+use native.Mathlib.Nat.{mul-le-mul-right}
 use native.Mathlib.Decide.{decLe}
 use native.Mathlib.Omega.{arith}
 use lib.Dec.{leb}
-use lib.ListN.{length, length-set, set, getD, drop, replicate, length-append, length-replicate, length-drop, getD-replicate, List·getD-append}
+use lib.ListN.{length, getD, drop, replicate, length-append, length-replicate, length-drop, getD-replicate, List·getD-append}
 use lib.Seq.{getD-append-add, getD-drop}
-use borrow.Author.Fill.{fill-none, fill-more}
 use borrow.Author.Tests.{le-leb, lt-leb}
 use Rattle.relation.specs.Width.{wordBits}
 use Rattle.relation.specs.Rows.{holds, cleared, wordOf, bitOf}
@@ -47,22 +46,3 @@ holds-cleared W l rows y x hx = go (decLe rows y)
         let h : suc y ≤ rows = omega arith in
         rw (cleared-at (rows * W) l (wordOf W y x) (omega (arith, column-lt W x hx, mul-le-mul-right W h)), lt-leb rows y h)
         (has-zero (bitOf x))
-
--- What the loop of a clear keeps: the first n words are zero.
-pub record Clearing (count : ℕ) (l : List ℕ) (n : ℕ) (words : List ℕ) : Type 0 where
-  pub exact : words ≡ cleared n l
-  pub long : length words ≡ length l
-  pub most : n ≤ count
-
-pub clearing-start : (count : ℕ) (l : List ℕ) → Clearing count l 0 l
-unfolding cleared
-clearing-start count l = record { exact = fill-none l 0; long = refl; most = omega arith }
-
-pub clearing-more : (count : ℕ) (l : List ℕ) (n : ℕ) (words : List ℕ) → Clearing count l n words → n < count → count ≤ length l
-    → Clearing count l (n + 1) (set words n 0)
-unfolding cleared
-clearing-more count l n words j h room =
-    record { exact = rw (j .exact) (fill-more n 0 l (omega arith)); long = simp length-set (j .long); most = omega arith }
-
-pub clearing-end : (count : ℕ) (l : List ℕ) (n : ℕ) (words : List ℕ) → Clearing count l n words → count ≤ n → words ≡ cleared count l
-clearing-end count l n words j h = j .exact ∙ ap (λ (m : ℕ). cleared m l) (le-antisymm (j .most) h)

@@ -66,7 +66,7 @@ module _ (W n : ℕ) (l : List ℕ) (x y from to : ℕ) (events : n ≤ wordBits
     (covers : Covers W l n y from to) where
   pub inserted-linked : (a b : ℕ) → a < n → b < n → before W (inserted W l x y from to) a b ≡ linked (before W l) x y a b
   inserted-linked a b ha hb =
-      holds-inserted W x y (omega arith) (omega arith) l from to b a room (omega arith)
+      holds-inserted W l x y from to b a room (omega arith) (omega arith) (omega arith)
       ∙ ap (λ (t : Bool). holds W l b a || t) (go (leb from b && ltb b to) refl)
     where
       go : (t : Bool) → (leb from b && ltb b to) ≡ t

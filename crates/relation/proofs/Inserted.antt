@@ -1,18 +1,18 @@
 -- What `inserted` means, row x among the rows changed or not: each row from .. to - 1 that is y's or holds y has x and row x besides.
 -- Assumes nothing.
-use mathlib.Core.Path.{_≡_, refl, sym, ap, _∙_, subst}
+use mathlib.Core.Path.{_≡_, refl, ap, _∙_}
 use mathlib.Core.Bool.{Bool, true, false, cond, _&&_, _||_, or-false}
 use mathlib.Core.List.{List}
 use Prim.Native.Nat.{ℕ, zero, suc, _+_, _-_, _*_, _/_, _<_, _≤_}
-use native.Mathlib.Nat.{mul-le-mul-right, sub-self}
+use native.Mathlib.Nat.{mul-le-mul-right}
 use native.Mathlib.Decide.{ℕ-discrete, decLe}
 use native.Mathlib.Omega.{arith}
 use lib.Dec.{eqb, leb, ltb}
 use lib.ListN.{length, getD}
-use borrow.Author.Tests.{eq-eqb, ne-eqb, lt-ltb, le-ltb, le-leb, lt-leb, ltb-true}
+use borrow.Author.Tests.{eq-eqb, ne-eqb, lt-ltb, le-ltb, le-leb, lt-leb}
 use Rattle.relation.specs.Width.{wordBits}
 use Rattle.relation.specs.Rows.{holds, marked, joined, behind, insertedAt, insertedIn, inserted}
-use Rattle.relation.proofs.Tests.{both-ways, or-right}
+use Rattle.relation.proofs.Tests.{ltb-same}
 use Rattle.relation.proofs.Place.{column-lt}
 use Rattle.relation.proofs.Marked.{length-marked, marked-outside, holds-marked}
 use Rattle.relation.proofs.Joined.{length-joined, joined-outside, holds-joined}
@@ -26,14 +26,10 @@ module _ (W : ℕ) (x y : ℕ) where
       go true = length-marked W (joined W l r x) r x ∙ length-joined W l r x
       go false = refl
 
-  pub length-inserted-in : (l : List ℕ) (from n : ℕ) → length (insertedIn W l x y from n) ≡ length l
+  length-inserted-in : (l : List ℕ) (from n : ℕ) → length (insertedIn W l x y from n) ≡ length l
   unfolding insertedIn
   length-inserted-in l from zero = refl
   length-inserted-in l from (suc n) = length-inserted-at (insertedIn W l x y from n) (from + n) ∙ length-inserted-in l from n
-
-  pub length-inserted : (l : List ℕ) (from to : ℕ) → length (inserted W l x y from to) ≡ length l
-  unfolding inserted
-  length-inserted l from to = length-inserted-in l from (to - from)
 
   module _ (hx : x < wordBits * W) where
     -- a word of no row that is looked at is as it was
@@ -54,11 +50,6 @@ module _ (W : ℕ) (x y : ℕ) where
     inserted-in-outside l from (suc n) k out =
         inserted-at-outside (insertedIn W l x y from n) (from + n) k (λ i. out (from + n) i (omega arith) (omega arith))
         ∙ inserted-in-outside l from n k (λ r i p q. out r i p (omega arith))
-
-    pub inserted-outside : (l : List ℕ) (from to k : ℕ) → ((r i : ℕ) → from ≤ r → r < to → i < W → k ≡ r * W + i → ⊥)
-        → getD (inserted W l x y from to) k 0 ≡ getD l k 0
-    unfolding inserted
-    inserted-outside l from to k out = inserted-in-outside l from (to - from) k (λ r i p q. out r i p (omega arith))
 
     -- one row
     holds-inserted-at : (l : List ℕ) (r b a : ℕ) → r * W + W ≤ length l → a < wordBits * W
@@ -144,9 +135,7 @@ module _ (W : ℕ) (x y : ℕ) where
                   ne-eqb b (from + n) f,
                   or-false,
                   earlier b a ha,
-                  both-ways (ltb b (from + n)) (ltb b (from + suc n))
-                      (λ t. lt-ltb b (from + suc n) (omega (arith, ltb-true)))
-                      (λ t. lt-ltb b (from + n) (omega (arith, ltb-true))),
+                  ltb-same b (from + n) b (from + suc n) (λ h. omega arith) (λ h. omega arith),
                 )
 
       holds-inserted-in : (n : ℕ) → ((i : ℕ) → i < n → (from + i) * W + W ≤ length l) → (b a : ℕ) → a < wordBits * W → Meaning n b a
@@ -162,73 +151,27 @@ module _ (W : ℕ) (x y : ℕ) where
           go : Dec (from ≤ b) → (leb from b && ltb b (from + (to - from))) ≡ (leb from b && ltb b to)
           go (yes h) =
               ap (λ (t : Bool). leb from b && t)
-              (both-ways (ltb b (from + (to - from))) (ltb b to) (λ t. lt-ltb b to (omega (arith, ltb-true)))
-              (λ t. lt-ltb b (from + (to - from)) (omega (arith, ltb-true))))
+              (ltb-same b (from + (to - from)) b to (λ g. omega arith) (λ g. omega arith))
           go (no n) = rw (lt-leb from b (omega arith))
 
-      pub holds-inserted : (to b a : ℕ) → to * W ≤ length l → a < wordBits * W
-          → holds W (inserted W l x y from to) b a
-          ≡ (holds W l b a || leb from b && ltb b to && ((eqb b y || holds W l b y) && (eqb a x || holds W l x a)))
-      unfolding inserted
-      holds-inserted to b a room ha =
-          holds-inserted-in (to - from) (λ i h. let g : suc (from + i) ≤ to = omega arith in omega (arith, mul-le-mul-right W g)) b a ha
-          ∙ ap (λ (t : Bool). holds W l b a || t && gains b a) (range to b)
-
--- What the loop of an insert keeps: the rows from .. b - 1 have been looked at.
-pub record Inserting (W : ℕ) (l : List ℕ) (x y from to b : ℕ) (words : List ℕ) : Type 0 where
-  pub exact : words ≡ insertedIn W l x y from (b - from)
-  pub long : length words ≡ length l
-  pub least : from ≤ b
-  pub most : b - from ≤ to - from
-
-pub inserting-start : (W : ℕ) (l : List ℕ) (x y from to : ℕ) → Inserting W l x y from to from l
-unfolding insertedIn
-inserting-start W l x y from to =
-    record { exact = rw (sub-self from); long = refl; least = omega arith; most = omega arith }
-
-pub inserting-end : (W : ℕ) (l : List ℕ) (x y from to b : ℕ) (words : List ℕ) → Inserting W l x y from to b words → to ≤ b
-    → words ≡ inserted W l x y from to
+pub length-inserted : (W : ℕ) (l : List ℕ) (x y from to : ℕ) → length (inserted W l x y from to) ≡ length l
 unfolding inserted
-inserting-end W l x y from to b words j h = j .exact ∙ ap (λ (m : ℕ). insertedIn W l x y from m) (omega arith)
+length-inserted W l x y from to = length-inserted-in W x y l from (to - from)
 
-module _ (W : ℕ) (l : List ℕ) (x y from to b : ℕ) (words : List ℕ) (j : Inserting W l x y from to b words) (h : b < to) where
-  looked : Inserting W l x y from to (b + 1) (insertedAt W words x y b)
-  unfolding insertedIn
-  looked =
-      record {
-        exact = rw (at, j .exact) next;
-        long = length-inserted-at W x y words b ∙ j .long;
-        least = omega arith;
-        most = omega arith;
-      }
-    where
-      at : b + 1 - from ≡ suc (b - from)
-      at = omega arith
+-- a word of none of the rows from .. to - 1 is as it was
+pub inserted-outside : (W : ℕ) (l : List ℕ) (x y from to k : ℕ) → x < wordBits * W
+    → ((r i : ℕ) → from ≤ r → r < to → i < W → k ≡ r * W + i → ⊥) → getD (inserted W l x y from to) k 0 ≡ getD l k 0
+unfolding inserted
+inserted-outside W l x y from to k hx out =
+    inserted-in-outside W x y hx l from (to - from) k (λ r i p q. out r i p (omega arith))
 
-      row-number : from + (b - from) ≡ b
-      row-number = omega arith
-
-      next : insertedAt W (insertedIn W l x y from (b - from)) x y b ≡ insertedAt W (insertedIn W l x y from (b - from)) x y (from + (b - from))
-      next = rw row-number
-
-  -- a turn that finds row b not behind y, and one that finds it so
-  pub inserting-kept : (now : List ℕ) → now ≡ words → behind W words y b ≡ false → Inserting W l x y from to (b + 1) now
-  unfolding insertedAt
-  inserting-kept now e t = subst (λ (s : List ℕ). Inserting W l x y from to (b + 1) s) (rw t (sym e)) looked
-
-  pub inserting-added : (now after mid : List ℕ) → now ≡ after → after ≡ marked W mid b x → mid ≡ joined W words b x → behind W words y b ≡ true
-      → Inserting W l x y from to (b + 1) now
-  unfolding insertedAt
-  inserting-added now after mid e g f t =
-      subst (λ (s : List ℕ). Inserting W l x y from to (b + 1) s) (rw (t, ← f) (sym (e ∙ g))) looked
-
--- what the two tests of the code say of row b
-module _ (W : ℕ) (words : List ℕ) (y b : ℕ) where
-  pub behind-same : b ≡ y → behind W words y b ≡ true
-  behind-same e = rw (eq-eqb b y e)
-
-  pub behind-held : (r : Bool) → r ≡ holds W words b y → r ≡ true → behind W words y b ≡ true
-  behind-held r e t = or-right (eqb b y) (holds W words b y) (sym e ∙ t)
-
-  pub behind-not : (r : Bool) → r ≡ holds W words b y → r ≡ false → (b ≡ y → ⊥) → behind W words y b ≡ false
-  behind-not r e t n = rw (ne-eqb b y n) (sym e ∙ t)
+pub holds-inserted : (W : ℕ) (l : List ℕ) (x y from to b a : ℕ) → to * W ≤ length l → x < wordBits * W → y < wordBits * W → a < wordBits * W
+    → holds W (inserted W l x y from to) b a
+    ≡ (holds W l b a || leb from b && ltb b to && ((eqb b y || holds W l b y) && (eqb a x || holds W l x a)))
+unfolding inserted
+holds-inserted W l x y from to b a room hx hy ha =
+    holds-inserted-in W x y hx hy l from (to - from) rooms b a ha
+    ∙ ap (λ (t : Bool). holds W l b a || t && gains W x y hx hy l from b a) (range W x y hx hy l from to b)
+  where
+    rooms : (i : ℕ) → i < to - from → (from + i) * W + W ≤ length l
+    rooms i h = let g : suc (from + i) ≤ to = omega arith in omega (arith, mul-le-mul-right W g)

@@ -7,3 +7,4 @@ pub mod Inserted
 pub mod Cleared
 pub mod Own
 pub mod Closed
+mod Loops

@@ -1,12 +1,10 @@
 -- What `anyOwn` means: it is true if and only if a row below n holds its own event.
 -- Assumes nothing.
-use mathlib.Core.Path.{_≡_, refl, sym, ap, _∙_}
+use mathlib.Core.Path.{_≡_, refl, sym, _∙_}
 use mathlib.Core.Bool.{Bool, true, false, _||_, or-true, false≢true}
 use mathlib.Core.Logic.{⊎-elim}
 use mathlib.Core.List.{List}
-use Prim.Native.Nat.{ℕ, zero, suc, _+_, _<_, _≤_}
-use native.Mathlib.Nat.{le-antisymm}
-use native.Mathlib.Numerals.{add-one}
+use Prim.Native.Nat.{ℕ, zero, suc, _<_}
 use native.Mathlib.Decide.{ℕ-discrete}
 use native.Mathlib.Omega.{arith}
 use Rattle.relation.specs.Rows.{holds, anyOwn}
@@ -35,14 +33,3 @@ module _ (W : ℕ) (l : List ℕ) where
       go : (t : Bool) → holds W l y y ≡ t → t ≡ false
       go true t = sym (own-any n y h t) ∙ e
       go false t = refl
-
-  -- what the turns of the loop say: the row at hand holds its own event, or it too does not
-  pub own-found : (n y : ℕ) (r : Bool) → r ≡ holds W l y y → r ≡ true → y < n → true ≡ anyOwn W l n
-  own-found n y r e t h = sym (own-any n y h (sym e ∙ t))
-
-  pub own-next : (y : ℕ) (r : Bool) → r ≡ holds W l y y → r ≡ false → anyOwn W l y ≡ false → anyOwn W l (y + 1) ≡ false
-  unfolding anyOwn
-  own-next y r e t none = rw (add-one, none) (sym e ∙ t)
-
-  pub own-none : (n y : ℕ) → anyOwn W l y ≡ false → y ≤ n → n ≤ y → false ≡ anyOwn W l n
-  own-none n y none p q = sym (ap (anyOwn W l) (le-antisymm q p) ∙ none)

@@ -1,4 +1,4 @@
--- The shared fact about rows: event x of row y has its own word and bit, whatever the width.
+-- The shared fact about relation rows, for any row width: different events and rows have different words and bits.
 -- Assumes nothing.
 use mathlib.Core.Path.{_≡_, sym, ap, _∙_}
 use Prim.Native.Nat.{ℕ, _+_, _*_, _/_, _%_, _<_}
@@ -18,6 +18,7 @@ word-column W a b {i} {j} hi hj e = sym (digits-mod a hi) ∙ ap (λ (n : ℕ). 
 pub column-lt : (W x : ℕ) → x < wordBits * W → x / wordBits < W
 column-lt W x h = omega arith
 
+-- two places in one word are in one row; in one bit of it, they are one event
 module _ (W y b x a : ℕ) (hx : x < wordBits * W) (ha : a < wordBits * W) (same : wordOf W y x ≡ wordOf W b a) where
   pub place-row : y ≡ b
   place-row = word-row W y b (column-lt W x hx) (column-lt W a ha) same
@@ -26,3 +27,6 @@ module _ (W y b x a : ℕ) (hx : x < wordBits * W) (ha : a < wordBits * W) (same
   place-event e =
       let k : x / wordBits ≡ a / wordBits = word-column W y b (column-lt W x hx) (column-lt W a ha) same in
       omega arith
+
+  pub place-unique : bitOf x ≡ bitOf a → (y ≡ b) × (x ≡ a)
+  place-unique e = (place-row, place-event e)

@@ -5,7 +5,7 @@ use mathlib.Core.Bool.{false}
 use Prim.Native.Nat.{_-_, _≤_}
 use borrow.Author.Needs.{needs}
 use Rattle.relation.specs.Width.{width}
-use Rattle.relation.proofs.Own.{own-found, own-next, own-none}
+use Rattle.relation.proofs.Loops.{own-found, own-next, own-none}
 use Rattle.relation.specs.Rows.{anyOwn}
 use Rattle.relation.proofs.circle.Statement.{statement}
 use Rattle.relation.proofs.circle.Tie as tie

@@ -2,7 +2,7 @@
 -- Assumes nothing.
 use Prim.Native.Nat.{_-_}
 use borrow.Author.Needs.{needs}
-use Rattle.relation.proofs.Cleared.{Clearing, clearing-start, clearing-more, clearing-end}
+use Rattle.relation.proofs.Loops.{Clearing, clearing-start, clearing-more, clearing-end}
 use Rattle.relation.proofs.clear.Statement.{statement}
 use Rattle.relation.proofs.clear.Tie as tie
 

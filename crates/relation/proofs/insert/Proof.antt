@@ -4,7 +4,7 @@ use Prim.Native.Nat.{_-_}
 use mathlib.Core.Logic.{⊎-elim}
 use borrow.Author.Needs.{needs}
 use Rattle.relation.specs.Width.{width}
-use Rattle.relation.proofs.Inserted.{Inserting, inserting-start, inserting-kept, inserting-added, inserting-end, behind-same, behind-held, behind-not}
+use Rattle.relation.proofs.Loops.{Inserting, inserting-start, inserting-kept, inserting-added, inserting-end, behind-same, behind-held, behind-not}
 use Rattle.relation.proofs.insert.Statement.{statement}
 use Rattle.relation.proofs.insert.Tie as tie
 

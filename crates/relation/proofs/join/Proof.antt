@@ -4,7 +4,7 @@ use Prim.Native.Nat.{_-_}
 use borrow.Author.Needs.{needs}
 use Rattle.relation.specs.Width.{width}
 use Rattle.relation.specs.Rows.{joined}
-use Rattle.relation.proofs.Joined.{Joining, joining-start, joining-end, joining-own}
+use Rattle.relation.proofs.Loops.{Joining, joining-start, joining-end, joining-own}
 use Rattle.relation.proofs.join.Statement.{statement}
 use Rattle.relation.proofs.join.Tie as tie
 

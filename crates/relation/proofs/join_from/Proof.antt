@@ -3,7 +3,7 @@
 use Prim.Native.Nat.{_-_}
 use borrow.Author.Needs.{needs}
 use Rattle.relation.specs.Width.{width}
-use Rattle.relation.proofs.Joined.{Joining, joining-start, joining-end, joining-more}
+use Rattle.relation.proofs.Loops.{Joining, joining-start, joining-end, joining-more}
 use Rattle.relation.proofs.join_from.Statement.{statement}
 use Rattle.relation.proofs.join_from.Tie as tie
 

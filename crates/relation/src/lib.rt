@@ -54,9 +54,9 @@ pub fn join_from(words: &mut [u64], to: usize, other: &[u64], from: usize)
 {
     let into = to * WIDTH;
     let out = from * WIDTH;
-    for i in 0..WIDTH {
-        let at = into + i;
-        let seen = out + i;
+    for k in 0..WIDTH {
+        let at = into + k;
+        let seen = out + k;
         words[at] = words[at] | other[seen];
     }
 }

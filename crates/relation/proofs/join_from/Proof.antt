@@ -8,10 +8,10 @@ use Rattle.relation.proofs.join_from.Statement.{statement}
 use Rattle.relation.proofs.join_from.Tie as tie
 
 abbrev Inv-loop : tie.InvT-loop
-Inv-loop words₀ to other from into out i₀ words i = Joining width i words₀ into other out words
+Inv-loop words₀ to other from into out k₀ words k = Joining width k words₀ into other out words
 
 abbrev μ-loop : tie.MeasureT-loop
-μ-loop words₀ to other from into out i₀ words i = width - i
+μ-loop words₀ to other from into out k₀ words k = width - k
 
 mul-into : tie.Need-mul-into Inv-loop μ-loop
 mul-into c = search needs
@@ -46,8 +46,8 @@ mul-words-3 c = search needs
 slice-write-words : tie.Need-slice-write-words Inv-loop μ-loop
 slice-write-words c = search needs
 
-add-i : tie.Need-add-i Inv-loop μ-loop
-add-i c = search needs
+add-k : tie.Need-add-k Inv-loop μ-loop
+add-k c = search needs
 
 loop-less : tie.Need-loop-less Inv-loop μ-loop
 loop-less c = search needs
@@ -78,7 +78,7 @@ join-from-spec =
     shared-slice-read-words
     mul-words-3
     slice-write-words
-    add-i
+    add-k
     loop-less
     loop-again
     same-length

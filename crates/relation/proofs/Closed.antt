@@ -15,6 +15,10 @@ use Rattle.relation.specs.Order.{before, Transitive, Within, Covers, lin
 use Rattle.relation.proofs.Tests.{or-split, or-left, or-right}
 use Rattle.relation.proofs.Inserted.{holds-inserted}
 
+-- what holds of z, and of b by the test r, holds of b where b is z or r is true
+same-or : (C : ℕ → Type 0) (b z : ℕ) (r : Bool) → (eqb b z || r) ≡ true → C z → (r ≡ true → C b) → C b
+same-or C b z r t same other = ⊎-elim (λ e. subst C (sym (eqb-true b z e)) same) other (or-split (eqb b z) r t)
+
 module _ (n : ℕ) (R : ℕ → ℕ → Bool) (x y : ℕ) where
   -- all at or before x is before all at or behind y
   crossing : (a b : ℕ) → (eqb a x || R a x) ≡ true → (eqb b y || R y b) ≡ true → linked R x y a b ≡ true
@@ -41,26 +45,22 @@ module _ (n : ℕ) (R : ℕ → ℕ → Bool) (x y : ℕ) where
       sooner : R a b ≡ true → (eqb b x || R b x) ≡ true → (eqb a x || R a x) ≡ true
       sooner ab t =
           or-right (eqb a x) (R a x)
-          (⊎-elim (λ e. subst (λ (z : ℕ). R a z ≡ true) (eqb-true b x e) ab) (λ bx. closed a b x ha hb hx ab bx) (or-split (eqb b x) (R b x) t))
+          (same-or (λ (z : ℕ). R a z ≡ true → R a x ≡ true) b x (R b x) t (λ ax. ax) (λ bx ab. closed a b x ha hb hx ab bx) ab)
 
       later : (eqb b y || R y b) ≡ true → R b c ≡ true → (eqb c y || R y c) ≡ true
       later t bc =
           or-right (eqb c y) (R y c)
-          (⊎-elim (λ e. subst (λ (z : ℕ). R z c ≡ true) (eqb-true b y e) bc) (λ yb. closed y b c hy hb hc yb bc) (or-split (eqb b y) (R y b) t))
+          (same-or (λ (z : ℕ). R z c ≡ true → R y c ≡ true) b y (R y b) t (λ yc. yc) (λ yb bc. closed y b c hy hb hc yb bc) bc)
 
   pub linked-least : (S : ℕ → ℕ → Bool) → Transitive n S → Within n R S → S x y ≡ true → x < n → y < n → Within n (linked R x y) S
   linked-least S closed holdsR xy hx hy a b ha hb t =
       ⊎-elim (λ ab. holdsR a b ha hb ab) (λ w. on (w .1) (to-y (w .0))) (linked-split a b t)
     where
       to-y : (eqb a x || R a x) ≡ true → S a y ≡ true
-      to-y p =
-          ⊎-elim (λ e. subst (λ (z : ℕ). S z y ≡ true) (sym (eqb-true a x e)) xy) (λ ax. closed a x y ha hx hy (holdsR a x ha hx ax) xy)
-          (or-split (eqb a x) (R a x) p)
+      to-y p = same-or (λ (z : ℕ). S z y ≡ true) a x (R a x) p xy (λ ax. closed a x y ha hx hy (holdsR a x ha hx ax) xy)
 
       on : (eqb b y || R y b) ≡ true → S a y ≡ true → S a b ≡ true
-      on q ay =
-          ⊎-elim (λ e. subst (λ (z : ℕ). S a z ≡ true) (sym (eqb-true b y e)) ay) (λ yb. closed a y b ha hy hb ay (holdsR y b hy hb yb))
-          (or-split (eqb b y) (R y b) q)
+      on q ay = same-or (λ (z : ℕ). S a z ≡ true) b y (R y b) q ay (λ yb. closed a y b ha hy hb ay (holdsR y b hy hb yb))
 
 module _ (W n : ℕ) (l : List ℕ) (x y from to : ℕ) (events : n ≤ wordBits * W) (hx : x < n) (hy : y < n) (room : to * W ≤ length l)
     (covers : Covers W l n y from to) where

@@ -1,4 +1,4 @@
--- Tests that are equal because each follows from the other, and what an or and an and say.
+-- Tests that are equal because each follows from the other, and what an or says.
 -- Assumes nothing.
 use mathlib.Core.Path.{_≡_, refl, sym}
 use mathlib.Core.Bool.{Bool, true, false, _||_}

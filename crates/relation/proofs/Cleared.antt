@@ -1,0 +1,48 @@
+-- What `cleared` means: the first words are zero, so the rows there hold nothing, and the rest is as it was.
+-- Assumes nothing.
+use mathlib.Core.Path.{_≡_, ap, _∙_}
+use mathlib.Core.Bool.{_&&_}
+use mathlib.Core.List.{List, _++_}
+use Prim.Native.Nat.{ℕ, suc, _+_, _-_, _*_, _<_, _≤_}
+use native.Mathlib.Nat.{mul-le-mul-right}
+use native.Mathlib.Decide.{decLe}
+use native.Mathlib.Omega.{arith}
+use lib.Dec.{leb}
+use lib.ListN.{length, getD, drop, replicate, length-append, length-replicate, length-drop, getD-replicate, List·getD-append}
+use lib.Seq.{getD-append-add, getD-drop}
+use borrow.Author.Tests.{le-leb, lt-leb}
+use Rattle.relation.specs.Width.{wordBits}
+use Rattle.relation.specs.Rows.{holds, cleared, wordOf, bitOf}
+use Rattle.relation.proofs.Bits.{has-zero}
+use Rattle.relation.proofs.Place.{column-lt}
+
+pub length-cleared : (n : ℕ) (l : List ℕ) → n ≤ length l → length (cleared n l) ≡ length l
+unfolding cleared
+length-cleared n l h = simp (length-append, length-replicate, length-drop) (omega arith)
+
+pub cleared-at : (n : ℕ) (l : List ℕ) (k : ℕ) → k < n → getD (cleared n l) k 0 ≡ 0
+unfolding cleared
+cleared-at n l k h =
+    List·getD-append (replicate n 0) (drop n l) 0 k (rw (length-replicate n) h) ∙ getD-replicate n k 0 0 h
+
+pub cleared-beyond : (n : ℕ) (l : List ℕ) (k : ℕ) → n ≤ k → getD (cleared n l) k 0 ≡ getD l k 0
+unfolding cleared
+cleared-beyond n l k h =
+    ap (λ (i : ℕ). getD (replicate n 0 ++ drop n l) i 0) at ∙ getD-append-add (replicate n 0) (drop n l) (k - n) 0 ∙ getD-drop n l (k - n) 0
+    ∙ ap (λ (i : ℕ). getD l i 0) (omega arith)
+  where
+    at : k ≡ length {A = ℕ} (replicate n 0) + (k - n)
+    at = rw (length-replicate n) (omega arith)
+
+pub holds-cleared : (W : ℕ) (l : List ℕ) (rows y x : ℕ) → x < wordBits * W
+    → holds W (cleared (rows * W) l) y x ≡ (leb rows y && holds W l y x)
+unfolding holds
+holds-cleared W l rows y x hx = go (decLe rows y)
+  where
+    go : Dec (rows ≤ y) → holds W (cleared (rows * W) l) y x ≡ (leb rows y && holds W l y x)
+    go (yes h) =
+        rw (cleared-beyond (rows * W) l (wordOf W y x) (omega (arith, mul-le-mul-right W h)), le-leb rows y h)
+    go (no n) =
+        let h : suc y ≤ rows = omega arith in
+        rw (cleared-at (rows * W) l (wordOf W y x) (omega (arith, column-lt W x hx, mul-le-mul-right W h)), lt-leb rows y h)
+        (has-zero (bitOf x))

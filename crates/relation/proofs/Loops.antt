@@ -1,0 +1,142 @@
+-- What the loops of the code keep, turn by turn. Only the proofs of this crate's functions cite it.
+-- Assumes nothing.
+use mathlib.Core.Path.{_≡_, refl, sym, ap, _∙_, subst}
+use mathlib.Core.Bool.{Bool, true, false}
+use mathlib.Core.List.{List}
+use Prim.Native.Nat.{ℕ, suc, _+_, _-_, _*_, _<_, _≤_}
+use native.Mathlib.Nat.{le-antisymm, sub-self}
+use native.Mathlib.Numerals.{add-one}
+use native.Mathlib.Omega.{arith}
+use lib.Bits.{bitOr}
+use lib.Dec.{eqb}
+use lib.ListN.{length, getD, set, length-set}
+use borrow.Author.Fill.{fill-none, fill-more}
+use borrow.Author.Tests.{eq-eqb, ne-eqb}
+use Rattle.relation.specs.Rows.{holds, marked, gained, joined, joinedFrom, behind, insertedAt, insertedIn, inserted, cleared, anyOwn}
+use Rattle.relation.proofs.Tests.{or-right}
+use Rattle.relation.proofs.Place.{word-column}
+use Rattle.relation.proofs.Joined.{gained-outside, gained-more}
+use Rattle.relation.proofs.Inserted.{length-inserted-at}
+use Rattle.relation.proofs.Own.{own-any}
+
+-- What the loop of a join keeps: the first n words of the row have gained theirs.
+pub record Joining (W n : ℕ) (l : List ℕ) (a : ℕ) (other : List ℕ) (b : ℕ) (words : List ℕ) : Type 0 where
+  pub exact : words ≡ gained n l a other b
+  pub long : length words ≡ length l
+  pub most : n ≤ W
+
+pub joining-start : (W : ℕ) (l : List ℕ) (a : ℕ) (other : List ℕ) (b : ℕ) → Joining W 0 l a other b l
+unfolding gained
+joining-start W l a other b = record { exact = refl; long = refl; most = omega arith }
+
+module _ (W n : ℕ) (l : List ℕ) (a : ℕ) (other : List ℕ) (b : ℕ) (words : List ℕ) (j : Joining W n l a other b words) (h : n < W) where
+  pub joining-more : Joining W (n + 1) l a other b (set words (a + n) (bitOr (getD words (a + n) 0) (getD other (b + n) 0)))
+  joining-more = record { exact = rw (j .exact) (gained-more l a other b n); long = simp length-set (j .long); most = omega arith }
+
+-- the word that a turn takes from row `from` of the same list is still as it was, `from` being `to` or not
+pub joining-own : (W n : ℕ) (l : List ℕ) (to from : ℕ) (words : List ℕ) → Joining W n l (to * W) l (from * W) words → n < W
+    → Joining W (n + 1) l (to * W) l (from * W)
+    (set words (to * W + n) (bitOr (getD words (to * W + n) 0) (getD words (from * W + n) 0)))
+joining-own W n l to from words j h = rw (reads) (joining-more W n l (to * W) l (from * W) words j h)
+  where
+    reads : getD words (from * W + n) 0 ≡ getD l (from * W + n) 0
+    reads =
+        rw (j .exact)
+        (gained-outside l (to * W) l (from * W) n (from * W + n)
+        (λ i g e. let same : n ≡ i = word-column W from to h (omega arith) e in omega arith))
+
+pub joining-end : (W n : ℕ) (l : List ℕ) (to : ℕ) (other : List ℕ) (from : ℕ) (words : List ℕ)
+    → Joining W n l (to * W) other (from * W) words → W ≤ n → words ≡ joinedFrom W l to other from
+unfolding joinedFrom
+joining-end W n l to other from words j h =
+    j .exact ∙ ap (λ (m : ℕ). gained m l (to * W) other (from * W)) (le-antisymm (j .most) h)
+
+-- What the loop of an insert keeps: the rows from .. b - 1 have been looked at.
+pub record Inserting (W : ℕ) (l : List ℕ) (x y from to b : ℕ) (words : List ℕ) : Type 0 where
+  pub exact : words ≡ insertedIn W l x y from (b - from)
+  pub long : length words ≡ length l
+  pub least : from ≤ b
+  pub most : b - from ≤ to - from
+
+pub inserting-start : (W : ℕ) (l : List ℕ) (x y from to : ℕ) → Inserting W l x y from to from l
+unfolding insertedIn
+inserting-start W l x y from to =
+    record { exact = rw (sub-self from); long = refl; least = omega arith; most = omega arith }
+
+pub inserting-end : (W : ℕ) (l : List ℕ) (x y from to b : ℕ) (words : List ℕ) → Inserting W l x y from to b words → to ≤ b
+    → words ≡ inserted W l x y from to
+unfolding inserted
+inserting-end W l x y from to b words j h = j .exact ∙ ap (λ (m : ℕ). insertedIn W l x y from m) (omega arith)
+
+module _ (W : ℕ) (l : List ℕ) (x y from to b : ℕ) (words : List ℕ) (j : Inserting W l x y from to b words) (h : b < to) where
+  looked : Inserting W l x y from to (b + 1) (insertedAt W words x y b)
+  unfolding insertedIn
+  looked =
+      record {
+        exact = rw (at, j .exact) next;
+        long = length-inserted-at W x y words b ∙ j .long;
+        least = omega arith;
+        most = omega arith;
+      }
+    where
+      at : b + 1 - from ≡ suc (b - from)
+      at = omega arith
+
+      row-number : from + (b - from) ≡ b
+      row-number = omega arith
+
+      next : insertedAt W (insertedIn W l x y from (b - from)) x y b ≡ insertedAt W (insertedIn W l x y from (b - from)) x y (from + (b - from))
+      next = rw row-number
+
+  -- a turn that finds row b not behind y, and one that finds it so
+  pub inserting-kept : (now : List ℕ) → now ≡ words → behind W words y b ≡ false → Inserting W l x y from to (b + 1) now
+  unfolding insertedAt
+  inserting-kept now e t = subst (λ (s : List ℕ). Inserting W l x y from to (b + 1) s) (rw t (sym e)) looked
+
+  pub inserting-added : (now after mid : List ℕ) → now ≡ after → after ≡ marked W mid b x → mid ≡ joined W words b x → behind W words y b ≡ true
+      → Inserting W l x y from to (b + 1) now
+  unfolding insertedAt
+  inserting-added now after mid e g f t =
+      subst (λ (s : List ℕ). Inserting W l x y from to (b + 1) s) (rw (t, ← f) (sym (e ∙ g))) looked
+
+-- what the two tests of the code say of row b
+module _ (W : ℕ) (words : List ℕ) (y b : ℕ) where
+  pub behind-same : b ≡ y → behind W words y b ≡ true
+  behind-same e = rw (eq-eqb b y e)
+
+  pub behind-held : (r : Bool) → r ≡ holds W words b y → r ≡ true → behind W words y b ≡ true
+  behind-held r e t = or-right (eqb b y) (holds W words b y) (sym e ∙ t)
+
+  pub behind-not : (r : Bool) → r ≡ holds W words b y → r ≡ false → (b ≡ y → ⊥) → behind W words y b ≡ false
+  behind-not r e t n = rw (ne-eqb b y n) (sym e ∙ t)
+
+-- What the loop of a clear keeps: the first n words are zero.
+pub record Clearing (count : ℕ) (l : List ℕ) (n : ℕ) (words : List ℕ) : Type 0 where
+  pub exact : words ≡ cleared n l
+  pub long : length words ≡ length l
+  pub most : n ≤ count
+
+pub clearing-start : (count : ℕ) (l : List ℕ) → Clearing count l 0 l
+unfolding cleared
+clearing-start count l = record { exact = fill-none l 0; long = refl; most = omega arith }
+
+pub clearing-more : (count : ℕ) (l : List ℕ) (n : ℕ) (words : List ℕ) → Clearing count l n words → n < count → count ≤ length l
+    → Clearing count l (n + 1) (set words n 0)
+unfolding cleared
+clearing-more count l n words j h room =
+    record { exact = rw (j .exact) (fill-more n 0 l (omega arith)); long = simp length-set (j .long); most = omega arith }
+
+pub clearing-end : (count : ℕ) (l : List ℕ) (n : ℕ) (words : List ℕ) → Clearing count l n words → count ≤ n → words ≡ cleared count l
+clearing-end count l n words j h = j .exact ∙ ap (λ (m : ℕ). cleared m l) (le-antisymm (j .most) h)
+
+module _ (W : ℕ) (l : List ℕ) where
+  -- what the turns of the loop say: the row at hand holds its own event, or it too does not
+  pub own-found : (n y : ℕ) (r : Bool) → r ≡ holds W l y y → r ≡ true → y < n → true ≡ anyOwn W l n
+  own-found n y r e t h = sym (own-any W l n y h (sym e ∙ t))
+
+  pub own-next : (y : ℕ) (r : Bool) → r ≡ holds W l y y → r ≡ false → anyOwn W l y ≡ false → anyOwn W l (y + 1) ≡ false
+  unfolding anyOwn
+  own-next y r e t none = rw (add-one, none) (sym e ∙ t)
+
+  pub own-none : (n y : ℕ) → anyOwn W l y ≡ false → y ≤ n → n ≤ y → false ≡ anyOwn W l n
+  own-none n y none p q = sym (ap (anyOwn W l) (le-antisymm q p) ∙ none)

@@ -1,0 +1,68 @@
+-- Rows of words: row y holds the predecessors of event y, an event a bit. Every definition is over any width W, the words of a row.
+-- Assumes nothing.
+use mathlib.Core.Bool.{Bool, false, cond, _||_}
+use mathlib.Core.List.{List, _++_}
+use Prim.Native.Nat.{ℕ, zero, suc, _+_, _-_, _*_, _/_, _%_, _^_}
+use lib.Dec.{eqb}
+use lib.Bits.{bitOr}
+use lib.ListN.{getD, set, drop, replicate}
+use Rattle.relation.specs.Width.{wordBits}
+
+-- Bit k of a word.
+unfoldable pub has : ℕ → ℕ → Bool
+has word k = eqb (word / 2 ^ k % 2) 1
+
+-- Where event x stands in row y: the word, by division, and the bit in it, by remainder.
+abbrev pub wordOf : ℕ → ℕ → ℕ → ℕ
+wordOf W y x = y * W + x / wordBits
+
+abbrev pub bitOf : ℕ → ℕ
+bitOf x = x % wordBits
+
+-- Event x is in row y.
+unfoldable pub holds : ℕ → List ℕ → ℕ → ℕ → Bool
+holds W words y x = has (getD words (wordOf W y x) 0) (bitOf x)
+
+-- Row y gains event x.
+unfoldable pub marked : ℕ → List ℕ → ℕ → ℕ → List ℕ
+marked W words y x = set words (wordOf W y x) (bitOr (getD words (wordOf W y x) 0) (2 ^ bitOf x))
+
+-- The n words at a gain the bits of the n words of `other` at b.
+unfoldable pub gained : ℕ → List ℕ → ℕ → List ℕ → ℕ → List ℕ
+gained zero words a other b = words
+gained (suc n) words a other b =
+    set (gained n words a other b) (a + n) (bitOr (getD words (a + n) 0) (getD other (b + n) 0))
+
+-- Row `to` gains row `from` of other words.
+unfoldable pub joinedFrom : ℕ → List ℕ → ℕ → List ℕ → ℕ → List ℕ
+joinedFrom W words to other from = gained W words (to * W) other (from * W)
+
+-- Row `to` gains row `from`.
+unfoldable pub joined : ℕ → List ℕ → ℕ → ℕ → List ℕ
+joined W words to from = joinedFrom W words to words from
+
+-- Row b is that of event y, or holds y: with x now before y, x is before b too.
+abbrev pub behind : ℕ → List ℕ → ℕ → ℕ → Bool
+behind W words y b = eqb b y || holds W words b y
+
+-- What that asks of row b: it gains row x and x.
+unfoldable pub insertedAt : ℕ → List ℕ → ℕ → ℕ → ℕ → List ℕ
+insertedAt W words x y b = cond (behind W words y b) (marked W (joined W words b x) b x) words
+
+-- The same at n rows, in order.
+unfoldable pub insertedIn : ℕ → List ℕ → ℕ → ℕ → ℕ → ℕ → List ℕ
+insertedIn W words x y from zero = words
+insertedIn W words x y from (suc n) = insertedAt W (insertedIn W words x y from n) x y (from + n)
+
+-- Event x is put before event y, among the rows from .. to - 1.
+unfoldable pub inserted : ℕ → List ℕ → ℕ → ℕ → ℕ → ℕ → List ℕ
+inserted W words x y from to = insertedIn W words x y from (to - from)
+
+-- The first n words are zero, the rest as they were.
+unfoldable pub cleared : ℕ → List ℕ → List ℕ
+cleared n words = replicate n 0 ++ drop n words
+
+-- Some event of the first n rows is in its own row: the order has a circle.
+unfoldable pub anyOwn : ℕ → List ℕ → ℕ → Bool
+anyOwn W words zero = false
+anyOwn W words (suc n) = anyOwn W words n || holds W words n n

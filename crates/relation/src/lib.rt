@@ -1,0 +1,102 @@
+// Rows of words: row y holds the predecessors of event y, WIDTH words a row, an event a bit.
+ghost use mathlib.Core.Path.{_≡_};
+ghost use Prim.Native.Nat.{_+_, _*_, _<_, _≤_};
+ghost use lib.ListN.{length};
+ghost use Rattle.relation.specs.Width.{width, wordBits};
+ghost use Rattle.relation.specs.Rows.{holds, marked, joined, joinedFrom, inserted, cleared, anyOwn};
+
+// The words of a row. The specs say it once more, as `width`; no other line depends on it.
+pub const WIDTH: usize = 4;
+
+// The bits of a word.
+const WORD_BITS: usize = 64;
+
+// Event x is a predecessor of event y.
+pub fn test(words: &[u64], y: usize, x: usize) -> bool
+    requires { ⌜ y * width + width ≤ length (now words) ⌝ }
+    requires { ⌜ x < wordBits * width ⌝ }
+    ensures { λ r. ⌜ r ≡ holds width (now (words .entry)) y x ⌝ }
+{
+    let at = y * WIDTH + x / WORD_BITS;
+    (words[at] >> (x % WORD_BITS)) & 1 == 1
+}
+
+// Event x becomes a predecessor of event y.
+pub fn mark(words: &mut [u64], y: usize, x: usize)
+    requires { ⌜ y * width + width ≤ length (now words) ⌝ }
+    requires { ⌜ x < wordBits * width ⌝ }
+    ensures { λ _. ⌜ now (words .exit) ≡ marked width (now (words .entry)) y x ⌝ }
+{
+    let at = y * WIDTH + x / WORD_BITS;
+    words[at] = words[at] | (1 << (x % WORD_BITS));
+}
+
+// Every predecessor of event `from` becomes one of event `to`.
+pub fn join(words: &mut [u64], to: usize, from: usize)
+    requires { ⌜ to * width + width ≤ length (now words) ⌝ }
+    requires { ⌜ from * width + width ≤ length (now words) ⌝ }
+    ensures { λ _. ⌜ now (words .exit) ≡ joined width (now (words .entry)) to from ⌝ }
+{
+    let into = to * WIDTH;
+    let out = from * WIDTH;
+    for i in 0..WIDTH {
+        let at = into + i;
+        let seen = out + i;
+        words[at] = words[at] | words[seen];
+    }
+}
+
+// The same, where row `from` stands in other words.
+pub fn join_from(words: &mut [u64], to: usize, other: &[u64], from: usize)
+    requires { ⌜ to * width + width ≤ length (now words) ⌝ }
+    requires { ⌜ from * width + width ≤ length (now other) ⌝ }
+    ensures { λ _. ⌜ now (words .exit) ≡ joinedFrom width (now (words .entry)) to (now (other .entry)) from ⌝ }
+{
+    let into = to * WIDTH;
+    let out = from * WIDTH;
+    for k in 0..WIDTH {
+        let at = into + k;
+        let seen = out + k;
+        words[at] = words[at] | other[seen];
+    }
+}
+
+// Event x is put before event y, and so before every event behind y, among the rows from .. to - 1.
+pub fn insert(words: &mut [u64], x: usize, y: usize, from: usize, to: usize)
+    requires { ⌜ x * width + width ≤ length (now words) ⌝ }
+    requires { ⌜ to * width ≤ length (now words) ⌝ }
+    requires { ⌜ x < wordBits * width ⌝ }
+    requires { ⌜ y < wordBits * width ⌝ }
+    ensures { λ _. ⌜ now (words .exit) ≡ inserted width (now (words .entry)) x y from to ⌝ }
+{
+    for b in from..to {
+        if b == y || test(words, b, y) {
+            join(words, b, x);
+            mark(words, b, x);
+        }
+    }
+}
+
+// The first `count` words become zero.
+pub fn clear(words: &mut [u64], count: usize)
+    requires { ⌜ count ≤ length (now words) ⌝ }
+    ensures { λ _. ⌜ now (words .exit) ≡ cleared count (now (words .entry)) ⌝ }
+{
+    for i in 0..count {
+        words[i] = 0;
+    }
+}
+
+// Some event of the first `rows` is its own predecessor.
+pub fn circle(words: &[u64], rows: usize) -> bool
+    requires { ⌜ rows * width ≤ length (now words) ⌝ }
+    requires { ⌜ rows ≤ wordBits * width ⌝ }
+    ensures { λ r. ⌜ r ≡ anyOwn width (now (words .entry)) rows ⌝ }
+{
+    for y in 0..rows {
+        if test(words, y, y) {
+            return true;
+        }
+    }
+    false
+}

@@ -8,7 +8,7 @@ use Rattle.model.specs.Place.{messageFits, orderFits, moved, isSheet, pl
 use Rattle.model.specs.Expansion.{startOf, blockOpened, callMade, messageMet, orderMet, walkRows, callAt, expand}
 use Rattle.model.specs.Order.{number, event, messageOf, boardOf, isEvent, isOwn, isEarlier, cells, tabled, reads, linked, direct, beforeTable, scenarioOf, atOrBefore, hasCircle, metOps, listed, exchangeOf}
 use Rattle.model.specs.Run.{with, withDone, withHeld, next, everyEvent, isAhead, ready, bufferEmpty, boardFree, maySend, mayDeliver, allowed}
-use Rattle.model.specs.Race.{origin, escapes, isRace, races, lowestEvent, lowestMessage}
+use Rattle.model.specs.Race.{origin, escapes, isRace, races, lowestEvent, lowestMessage, lowestRace}
 use Rattle.model.specs.Schedule.{choose, scheduleFrom, schedule}
 use Rattle.model.specs.Answer.{withoutCircle, expandedOf, sheetOf, acceptedOf, verdictOf, answerFor, answerOf}
 use Rattle.model.specs.Marked.{marked, answersFrom, computed}
@@ -19,6 +19,6 @@ unfolding
     areColumns headingOf formed fromFields rowOf messageFits orderFits moved isSheet placed judged rowsFrom opens strayCall complete bodyOf readOf
     startOf blockOpened callMade messageMet orderMet walkRows callAt expand number event messageOf boardOf isEvent isOwn isEarlier cells tabled
     reads linked direct beforeTable scenarioOf atOrBefore hasCircle metOps listed exchangeOf with withDone withHeld next everyEvent isAhead ready
-    bufferEmpty boardFree maySend mayDeliver allowed origin escapes isRace races lowestEvent lowestMessage choose scheduleFrom
+    bufferEmpty boardFree maySend mayDeliver allowed origin escapes isRace races lowestEvent lowestMessage lowestRace choose scheduleFrom
     schedule withoutCircle expandedOf sheetOf acceptedOf verdictOf answerFor answerOf marked answersFrom computed
 marked-hold = refl

@@ -17,7 +17,7 @@ use Rattle.model.specs.Refusal.{Out, ok, refusal}
 use Rattle.model.specs.Order.{Event, sendOf, receiveOf, number, event, messageOf, Scenario, board, atOrBefore}
 use Rattle.model.specs.Channel.{Channel, channelOf}
 use Rattle.model.specs.Run.{State, start, Step, send, deliver, consume, next, allowed, isOrderFrom, after, finished, stuck, IsOrder, EndsStuck, EndsFinished, CanFinish}
-use Rattle.model.specs.Race.{RaceRule, byEvent, byOrigin, never, raceRuleOf, escapes, isRace, races, lowestEvent, lowestMessage}
+use Rattle.model.specs.Race.{RaceRule, byEvent, byOrigin, never, raceRuleOf, escapes, isRace, races, lowestEvent, lowestMessage, lowestRace}
 use Rattle.model.specs.Schedule.{schedule, scheduleFrom, bytesOf}
 use Rattle.model.specs.Answer.{Answer, free, locked, refused, acceptedOf, verdictOf, answerFor, answerOf, traceAfter}
 use Rattle.model.specs.Verdict.{LowestRace, Verdict, PointThree}
@@ -75,9 +75,14 @@ module _ (S : Scenario) (C : Causal S) (code : ℕ) (known : code < channels) wh
     isFree : ((e : ℕ) (x : Event) → e < S .count → isRace S (raceRuleOf code) e x ≡ true → ⊥) → Decided free
     isLocked : {e x : ℕ} → LowestRace S code e x → Decided (locked e x (schedule S (channelOf code) e))
 
-  decided : Decided (verdictOf S code)
-  unfolding verdictOf lowestMessage lowestEvent races
-  decided = go (lowest (S .count) (races S r)) (lowest-found (S .count) (races S r))
+  -- the race named is the lowest, and where none is named there is none
+  Named : Option (ℕ × ℕ) → Type 0
+  Named none = (e : ℕ) (x : Event) → e < S .count → isRace S (raceRuleOf code) e x ≡ true → ⊥
+  Named (some race) = LowestRace S code (race .0) (race .1)
+
+  named : Named (lowestRace S (raceRuleOf code))
+  unfolding Named lowestRace lowestMessage lowestEvent races
+  named = go (lowest (S .count) (races S r)) (lowest-found (S .count) (races S r))
     where
       r : RaceRule
       r = raceRuleOf code
@@ -85,30 +90,35 @@ module _ (S : Scenario) (C : Causal S) (code : ℕ) (known : code < channels) wh
       at : ℕ → ℕ → Bool
       at e k = isRace S r e (event k)
 
-      named : (e : ℕ) → IsLowest (S .count) (races S r) e → (o : Option ℕ) → Found (2 * S .count) (at e) o
-          → Decided (elim o [ none ↦ free | some x ↦ locked e x (schedule S (channelOf code) e) ])
-      named e L none f =
+      with-event : (e : ℕ) → IsLowest (S .count) (races S r) e → (o : Option ℕ) → Found (2 * S .count) (at e) o
+          → Named (elim o [ none ↦ none | some x ↦ some (e, x) ])
+      with-event e L none f =
           let k = any-some (2 * S .count) (at e) (L .passes) in
           not-both (at e (k .0)) (k .2) (f (k .0) (k .1))
-      named e L (some x) f =
-          isLocked (record {
+      with-event e L (some x) f =
+          record {
             inScenario = (L .below, f .below);
             race = f .passes;
             noLowerMessage = λ g y l h. any-none (2 * S .count) (at g) (L .first g l) y h;
             noLowerEvent = f .first;
-          })
+          }
 
       go : (o : Option ℕ) → Found (S .count) (races S r) o
-          → Decided (elim o [
-            | none ↦ free
-            | some e ↦ elim (lowest (2 * S .count) (at e)) [ none ↦ free | some x ↦ locked e x (schedule S (channelOf code) e) ]
-          ])
-      go none f =
-          isFree (λ e x l h.
+          → Named (elim o [ none ↦ none | some e ↦ elim (lowest (2 * S .count) (at e)) [ none ↦ none | some x ↦ some (e, x) ] ])
+      go none f = λ e x l h.
           not-both (isRace S r e x) h
           (subst (λ (z : Event). isRace S r e z ≡ false) (event-number x)
-          (any-none (2 * S .count) (at e) (f e l) (number x) (below-number x (S .count) .0 (C .inside x (receiveOf e) (race-parts S r e x h .1) .0)))))
-      go (some e) L = named e L (lowest (2 * S .count) (at e)) (lowest-found (2 * S .count) (at e))
+          (any-none (2 * S .count) (at e) (f e l) (number x) (below-number x (S .count) .0 (C .inside x (receiveOf e) (race-parts S r e x h .1) .0))))
+      go (some e) L = with-event e L (lowest (2 * S .count) (at e)) (lowest-found (2 * S .count) (at e))
+
+  decided : Decided (verdictOf S code)
+  unfolding Named verdictOf
+  decided = go (lowestRace S (raceRuleOf code)) named
+    where
+      go : (o : Option (ℕ × ℕ)) → Named o
+          → Decided (elim o [ none ↦ free | some race ↦ locked (race .0) (race .1) (schedule S (channelOf code) (race .0)) ])
+      go none quiet = isFree quiet
+      go (some race) L = isLocked L
 
   -- the two bytes of each step
   bytes-length : (ts : List Step) → length (bytesOf ts) ≡ 2 * length ts

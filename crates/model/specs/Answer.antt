@@ -14,7 +14,7 @@ use Rattle.model.specs.Expansion.{Progress, expand}
 use Rattle.model.specs.Order.{Scenario, Met, nothingMet, metOps, exchangeOf, scenarioOf, hasCircle}
 use Rattle.model.specs.Channel.{channelOf}
 use Rattle.model.specs.Run.{Step}
-use Rattle.model.specs.Race.{raceRuleOf, lowestMessage, lowestEvent}
+use Rattle.model.specs.Race.{raceRuleOf, lowestRace}
 use Rattle.model.specs.Schedule.{schedule, bytesOf}
 
 -- the scenario, unless an event is before itself (refusal 11)
@@ -42,15 +42,12 @@ pub data Answer : Type 0 where
   locked : ℕ → ℕ → List Step → Answer
   refused : ℕ → ℕ → Answer
 
--- the answer for an accepted sheet: the race with the lowest e, then the lowest x, and the schedule for e
+-- the answer for an accepted sheet: the race named, and the schedule for its message
 unfoldable pub verdictOf : Scenario → ℕ → Answer
 verdictOf S code =
-    elim (lowestMessage S (raceRuleOf code)) [
+    elim (lowestRace S (raceRuleOf code)) [
       | none ↦ free
-      | some e ↦ elim (lowestEvent S (raceRuleOf code) e) [
-        | none ↦ free
-        | some x ↦ locked e x (schedule S (channelOf code) e)
-      ]
+      | some race ↦ locked (race .0) (race .1) (schedule S (channelOf code) (race .0))
     ]
 
 unfoldable pub answerFor : Out Scenario → ℕ → Answer

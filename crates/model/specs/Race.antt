@@ -47,3 +47,11 @@ module _ (S : Scenario) where
   -- the lowest message that races
   unfoldable pub lowestMessage : RaceRule → Option ℕ
   lowestMessage r = lowest (S .count) (races r)
+
+  -- the race named: the lowest e, then the lowest x
+  unfoldable pub lowestRace : RaceRule → Option (ℕ × ℕ)
+  lowestRace r =
+      elim (lowestMessage r) [
+        | none ↦ none
+        | some e ↦ elim (lowestEvent r e) [ none ↦ none | some x ↦ some (e, x) ]
+      ]

@@ -1,1 +1,53 @@
-// The model has no code: it is the definitions of specs/ and the theorems of proofs/.
+// The model is the definitions of specs/ and the theorems of proofs/. What stands here are its limits, for the code to use:
+// each is the number of the same name in specs/Limits, and a proof that uses one ties the two together.
+
+// The sheet file: bytes, rows, the largest number of a field, sheets, boards.
+pub const TEXT_MOST: usize = 8192;
+
+pub const ROWS_MOST: usize = 512;
+
+pub const NUMBER_MOST: usize = 255;
+
+pub const SHEETS: usize = 32;
+
+pub const BOARDS: usize = 16;
+
+// Messages of a block and of a walk, and their events.
+pub const MESSAGES_MOST: usize = 128;
+
+pub const EVENTS_MOST: usize = 2 * MESSAGES_MOST;
+
+// Levels and calls of a walk.
+pub const LEVELS: usize = 8;
+
+pub const CALLS_MOST: usize = 1024;
+
+// The channels, and the buffers lent.
+pub const CHANNELS: usize = 6;
+
+pub const SCRATCH_LEAST: usize = 2048;
+
+pub const TRACE_LEAST: usize = 2 * (3 * MESSAGES_MOST);
+
+// The refusals, by the numbers of the paper's table.
+pub const CHANNEL: u8 = 1;
+
+pub const BENCH: u8 = 2;
+
+pub const LENGTH: u8 = 3;
+
+pub const HEADING: u8 = 4;
+
+pub const ROW: u8 = 5;
+
+pub const PLACE: u8 = 6;
+
+pub const ABSENT: u8 = 7;
+
+pub const DEPTH: u8 = 8;
+
+pub const CALLS: u8 = 9;
+
+pub const MESSAGES: u8 = 10;
+
+pub const CIRCLE: u8 = 11;

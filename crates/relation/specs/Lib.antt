@@ -1,3 +1,4 @@
 pub mod Width
 pub mod Rows
 pub mod Order
+pub mod Scenario

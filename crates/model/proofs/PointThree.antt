@@ -200,7 +200,7 @@ module _ (S : Scenario) (C : Causal S) (code : ℕ) (known : code < channels) wh
 -- Point 3, for every text, code, scratch length and trace buffer, with no premise but that the sheet is accepted.
 pub point-three : (text : List ℕ) (code scratchLength : ℕ) (trace : List ℕ)
     → PointThree text code scratchLength (length trace) (numbersOf (answerOf text code scratchLength (length trace)))
-      (traceAfter (answerOf text code scratchLength (length trace)) trace)
+    (traceAfter (answerOf text code scratchLength (length trace)) trace)
 unfolding answerOf answerFor
 point-three text code scratchLength trace S e =
     let C = accepted-causal text code scratchLength (length trace) S e in

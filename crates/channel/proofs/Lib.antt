@@ -1,0 +1,5 @@
+pub mod Words
+pub mod Rows
+pub mod Steps
+pub mod Rules
+pub mod Masking

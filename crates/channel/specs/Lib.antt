@@ -1,0 +1,4 @@
+pub mod Table
+pub mod State
+pub mod Masks
+pub mod Tests

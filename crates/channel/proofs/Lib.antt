@@ -3,3 +3,4 @@ pub mod Rows
 pub mod Steps
 pub mod Rules
 pub mod Masking
+pub mod Allowed

@@ -10,7 +10,8 @@ ghost use Rattle.model.specs.Run.{start, send, deliver, consume};
 ghost use Rattle.relation.specs.Width.{width, wordBits};
 ghost use Rattle.channel.specs.Table.{channelIn, toSendIn, toDeliverIn};
 ghost use Rattle.channel.specs.State.{With, Without, stateOf, Follows};
-ghost use Rattle.channel.specs.Tests.{settledIn, apartIn, noneIn};
+ghost use Rattle.channel.specs.Tests.{settledIn, apartIn, noneIn, freeIn};
+ghost use Rattle.channel.specs.Steps.{SaysReady, Says, SaysSend, SaysDeliver, SaysConsume, SaysSendRule, SaysDeliverRule};
 ghost use Rattle.channel.specs.Masks.{boardsMost, maskRows, masksWith, BoardsBelow, MasksOf, Standing};
 use relation::WIDTH;
 
@@ -292,4 +293,65 @@ fn none_of(masks: &[u64], mask: usize, given: &[u64]) -> bool
         }
     }
     true
+}
+
+// Event x is ready: not done, and all events before it on its board are done.
+pub fn ready(words: &[u64], masks: &[u64], boards: &[u8], count: usize, done: &[u64; WIDTH], x: usize) -> bool
+    requires { ⌜ Standing count (now boards) (now words) (now masks) ⌝ }
+    requires { ⌜ x < 2 * count ⌝ }
+    ensures { λ r. ⌜ SaysReady count (now (boards .entry)) (now (words .entry)) (now (done .entry)) x r ⌝ }
+{
+    if relation::test(done, 0, x) {
+        return false;
+    }
+    let board = wide(boards[x]);
+    settled(words, x, masks, board, done)
+}
+
+// An eager board sends, or takes a delivery, only while its buffer is empty.
+fn board_free(masks: &[u64], eager: bool, buffer: Buffer) -> bool
+    requires { ⌜ maskRows * width ≤ length (now masks) ⌝ }
+    ensures { λ r. ⌜ r ≡ freeIn eager (now (masks .entry)) (buffer .held) ⌝ }
+{
+    if eager { none_of(masks, SENDS, &buffer.held) } else { true }
+}
+
+// The further condition to send m.
+fn send_rule(words: &[u64], masks: &[u64], rule: ToSend, way: &[u64; WIDTH], m: usize) -> bool
+    requires { ⌜ m < messagesMost ⌝ }
+    requires { ⌜ (2 * m + 1) * width + width ≤ length (now words) ⌝ }
+    requires { ⌜ maskRows * width ≤ length (now masks) ⌝ }
+    ensures { λ r. ⌜ SaysSendRule (now (words .entry)) (now (masks .entry)) rule (now (way .entry)) m r ⌝ }
+{
+    match rule {
+        ToSend::Always => true,
+        ToSend::NoEarlierUnderWay => {
+            let receive = 2 * m + 1;
+            apart(words, receive, masks, SENDS, way)
+        }
+        ToSend::ChannelEmpty => none_of(masks, SENDS, way),
+    }
+}
+
+// The further condition to deliver m to its board.
+fn deliver_rule(words: &[u64], masks: &[u64], rule: ToDeliver, way: &[u64; WIDTH], target: usize, m: usize) -> bool
+    requires { ⌜ m < messagesMost ⌝ }
+    requires { ⌜ target < boardsMost ⌝ }
+    requires { ⌜ 2 * m * width + width ≤ length (now words) ⌝ }
+    requires { ⌜ maskRows * width ≤ length (now masks) ⌝ }
+    ensures { λ r. ⌜ SaysDeliverRule (now (words .entry)) (now (masks .entry)) rule (now (way .entry)) target m r ⌝ }
+{
+    let send = 2 * m;
+    match rule {
+        ToDeliver::Always => true,
+        ToDeliver::InOrder => {
+            let others = without(*way, send);
+            let to = model::BOARDS + target;
+            apart(words, send, masks, to, &others)
+        }
+        ToDeliver::Alone => {
+            let others = without(*way, send);
+            none_of(masks, SENDS, &others)
+        }
+    }
 }

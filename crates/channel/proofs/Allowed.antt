@@ -13,7 +13,7 @@ use Rattle.model.specs.Limits.{boards, messagesMost}
 use Rattle.model.specs.Bounded.{every}
 use Rattle.model.specs.Channel as model
 use Rattle.model.specs.Order.{Event, sendOf, receiveOf, number, event, messageOf, boardOf, board, Scenario}
-use Rattle.model.specs.Run.{everyEvent, isAhead, ready, bufferEmpty, boardFree, maySend, mayDeliver}
+use Rattle.model.specs.Run.{everyEvent, isAhead, ready, bufferEmpty, boardFree, maySend, mayDeliver, send, deliver, consume, allowed}
 use Rattle.model.proofs.Bounded.{and-left, and-right, and-both, every-at, every-from, which, not-both, not-is-true}
 use Rattle.model.proofs.Events.{event-number, number-event, below-number, below-event}
 use Rattle.relation.specs.Width.{width, wordBits}
@@ -26,11 +26,12 @@ use Rattle.channel.specs.declared.ToSend.{ToSend}
 use Rattle.channel.specs.declared.ToSend.the-variants as to-send
 use Rattle.channel.specs.declared.ToDeliver.{ToDeliver}
 use Rattle.channel.specs.declared.ToDeliver.the-variants as to-deliver
-use Rattle.channel.specs.Table.{toSendIn, toDeliverIn}
+use Rattle.channel.specs.declared.Channel.{Channel}
+use Rattle.channel.specs.Table.{toSendIn, toDeliverIn, channelIn}
 use Rattle.channel.specs.State.{inRow, Without, bufferOf, stateOf}
 use Rattle.channel.specs.Masks.{isSend, Standing}
-use Rattle.channel.specs.Tests.{settledIn, apartIn, noneIn}
-use Rattle.channel.specs.Steps.{SaysReady, SaysSendRule, SaysDeliverRule}
+use Rattle.channel.specs.Tests.{settledIn, apartIn, noneIn, freeIn}
+use Rattle.channel.specs.Steps.{SaysReady, SaysSend, SaysDeliver, SaysConsume, SaysSendRule, SaysDeliverRule}
 
 -- tests that agree below the bound
 every-ext : (n : ℕ) (p q : ℕ → Bool) → ((k : ℕ) → k < n → p k ≡ q k) → every n p ≡ every n q
@@ -215,8 +216,14 @@ module _ (count : ℕ) (on words masks : List ℕ) (standing : Standing count on
       (sym (standing .masksOf .toBoard (S .target m) k there h)
       ∙ and-right (holds width words (2 * m) k) (holds width masks (boards + S .target m) k) (and-left (holds width words (2 * m) k && holds width masks (boards + S .target m) k) (inRow others k) t)))
       (λ f h.
-      rw (standing .masksOf .toBoard (S .target m) (2 * f) there (omega (arith, room)), send-is count f h, w (2 * f),
-      eqb-same (2 * f) (2 * m) f m (λ e. omega arith) (λ e. omega arith), lt-ltb f count h, lt-ltb m count hm)
+      rw (
+        standing .masksOf .toBoard (S .target m) (2 * f) there (omega (arith, room)),
+        send-is count f h,
+        w (2 * f),
+        eqb-same (2 * f) (2 * m) f m (λ e. omega arith) (λ e. omega arith),
+        lt-ltb f count h,
+        lt-ltb m count hm,
+      )
       (overtakes (holds width words (2 * m) (2 * f)) (eqb (S .target f) (S .target m)) (inRow way (2 * f)) (eqb f m)))
     where
       there : S .target m < boards
@@ -284,3 +291,63 @@ module _ (words masks : List ℕ) (rule : ToDeliver) (way : List ℕ) (target m 
       → Without way (2 * m) others → rule ≡ to-deliver.Alone → SaysDeliverRule words masks rule way target m t
   deliver-rule-alone t others s w r count on standing h i c run e d =
       s ∙ deliver-alone count on words masks standing c run m others (rw d w) (e ∙ ap toDeliverIn r)
+
+-- a step is allowed: the tests of the code, one behind the other
+module _ (count : ℕ) (on words masks : List ℕ) (standing : Standing count on words masks) (m : ℕ) (inside : m < count) where
+  send-event : event (2 * m) ≡ sendOf m
+  unfolding number
+  send-event = event-number (sendOf m)
+
+  receive-event : event (2 * m + 1) ≡ receiveOf m
+  unfolding number
+  receive-event = event-number (receiveOf m)
+
+  module _ (c : Channel) (way : List ℕ) (buffer : Buffer) where
+    module _ (done : List ℕ) where
+      pub send-unready : (r : Bool) → r ≡ false → SaysReady count on words done (2 * m) r → SaysSend count on words c done way buffer m false
+      unfolding allowed
+      send-unready r f h run d w b = rw (lt-ltb m count inside, ← send-event, ← h run d, f)
+
+      pub send-unfree : (r t : Bool) → r ≡ true → t ≡ false → SaysReady count on words done (2 * m) r → t ≡ freeIn (c .eager) masks (buffer .held)
+          → SaysSend count on words c done way buffer m false
+      unfolding allowed
+      send-unfree r t p f h g run d w b =
+          rw (lt-ltb m count inside, ← send-event, ← h run d, p, ← free-says count on words masks standing (channelIn c) run (getD on (2 * m) 0) buffer b, ← g, f)
+
+      pub send-ruled : (r t u : Bool) → SaysSendRule words masks (c .«to_send») way m u → r ≡ true → t ≡ true
+          → SaysReady count on words done (2 * m) r → t ≡ freeIn (c .eager) masks (buffer .held) → SaysSend count on words c done way buffer m u
+      unfolding allowed
+      send-ruled r t u k p q h g run d w b =
+          rw (lt-ltb m count inside, ← send-event, ← h run d, p, ← free-says count on words masks standing (channelIn c) run (getD on (2 * m) 0) buffer b, ← g, q)
+          (k count on standing inside (channelIn c) run refl w)
+
+    under : (run : Run) → run .way ≡ way → inRow (run .way) (2 * m) ≡ holds width way 0 (2 * m)
+    under run w = ap (λ (l : List ℕ). inRow l (2 * m)) w
+
+    pub deliver-absent : (r : Bool) → r ≡ false → r ≡ holds width way 0 (2 * m) → SaysDeliver count on words c way buffer m false
+    unfolding allowed
+    deliver-absent r f e run w b = rw (lt-ltb m count inside, under run w, ← e, f)
+
+    pub deliver-unfree : (r t : Bool) → r ≡ true → t ≡ false → r ≡ holds width way 0 (2 * m) → t ≡ freeIn (c .eager) masks (buffer .held)
+        → SaysDeliver count on words c way buffer m false
+    unfolding allowed
+    deliver-unfree r t p f e g run w b =
+        rw (lt-ltb m count inside, under run w, ← e, p, ← free-says count on words masks standing (channelIn c) run (getD on (2 * m + 1) 0) buffer b, ← g, f)
+
+    pub deliver-ruled : (r t u : Bool) (target : ℕ) → SaysDeliverRule words masks (c .«to_deliver») way target m u → r ≡ true → t ≡ true
+        → r ≡ holds width way 0 (2 * m) → t ≡ freeIn (c .eager) masks (buffer .held) → target ≡ getD on (2 * m + 1) 0
+        → SaysDeliver count on words c way buffer m u
+    unfolding allowed
+    deliver-ruled r t u target k p q e g i run w b =
+        rw (lt-ltb m count inside, under run w, ← e, p, ← free-says count on words masks standing (channelIn c) run (getD on (2 * m + 1) 0) buffer b, ← g, q)
+        (k count on standing inside i (channelIn c) run refl w)
+
+  module _ (done : List ℕ) (buffer : Buffer) where
+    pub consume-absent : (r : Bool) → r ≡ false → r ≡ holds width (buffer .held) 0 (2 * m) → SaysConsume count on words done buffer m false
+    unfolding allowed
+    consume-absent r f e c run d b = rw (lt-ltb m count inside, b, ← e, f)
+
+    pub consume-ready : (r u : Bool) → SaysReady count on words done (2 * m + 1) u → r ≡ true → r ≡ holds width (buffer .held) 0 (2 * m)
+        → SaysConsume count on words done buffer m u
+    unfolding allowed
+    consume-ready r u h p e c run d b = rw (lt-ltb m count inside, b, ← e, p, ← receive-event) (h run d)

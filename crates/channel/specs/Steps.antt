@@ -36,9 +36,10 @@ module _ (count : ℕ) (on words : List ℕ) where
   SaysDeliver c way buffer m r =
       (run : Run) → run .way ≡ way → bufferOf run (getD on (2 * m + 1) 0) ≡ buffer → Says c run (deliver m) r
 
-  abbrev pub SaysConsume : Channel → List ℕ → Buffer → ℕ → Bool → Type 0
-  SaysConsume c done buffer m r =
-      (run : Run) → run .done ≡ done → bufferOf run (getD on (2 * m + 1) 0) ≡ buffer → Says c run (consume m) r
+  -- no channel forbids to consume
+  abbrev pub SaysConsume : List ℕ → Buffer → ℕ → Bool → Type 0
+  SaysConsume done buffer m r =
+      (c : Channel) (run : Run) → run .done ≡ done → bufferOf run (getD on (2 * m + 1) 0) ≡ buffer → Says c run (consume m) r
 
 -- the further conditions, of every scenario with these words and masks, and of every run with these messages under way
 abbrev pub SaysSendRule : List ℕ → List ℕ → ToSend → List ℕ → ℕ → Bool → Type 0

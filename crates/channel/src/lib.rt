@@ -296,7 +296,14 @@ fn none_of(masks: &[u64], mask: usize, given: &[u64]) -> bool
 }
 
 // Event x is ready: not done, and all events before it on its board are done.
-pub fn ready(words: &[u64], masks: &[u64], boards: &[u8], count: usize, done: &[u64; WIDTH], x: usize) -> bool
+pub fn ready(
+    words: &[u64],
+    masks: &[u64],
+    boards: &[u8],
+    count: usize,
+    done: &[u64; WIDTH],
+    x: usize,
+) -> bool
     requires { ⌜ Standing count (now boards) (now words) (now masks) ⌝ }
     requires { ⌜ x < 2 * count ⌝ }
     ensures { λ r. ⌜ SaysReady count (now (boards .entry)) (now (words .entry)) (now (done .entry)) x r ⌝ }
@@ -313,7 +320,11 @@ fn board_free(masks: &[u64], eager: bool, buffer: Buffer) -> bool
     requires { ⌜ maskRows * width ≤ length (now masks) ⌝ }
     ensures { λ r. ⌜ r ≡ freeIn eager (now (masks .entry)) (buffer .held) ⌝ }
 {
-    if eager { none_of(masks, SENDS, &buffer.held) } else { true }
+    if eager {
+        none_of(masks, SENDS, &buffer.held)
+    } else {
+        true
+    }
 }
 
 // The further condition to send m.
@@ -334,7 +345,14 @@ fn send_rule(words: &[u64], masks: &[u64], rule: ToSend, way: &[u64; WIDTH], m: 
 }
 
 // The further condition to deliver m to its board.
-fn deliver_rule(words: &[u64], masks: &[u64], rule: ToDeliver, way: &[u64; WIDTH], target: usize, m: usize) -> bool
+fn deliver_rule(
+    words: &[u64],
+    masks: &[u64],
+    rule: ToDeliver,
+    way: &[u64; WIDTH],
+    target: usize,
+    m: usize,
+) -> bool
     requires { ⌜ m < messagesMost ⌝ }
     requires { ⌜ target < boardsMost ⌝ }
     requires { ⌜ 2 * m * width + width ≤ length (now words) ⌝ }
@@ -354,4 +372,81 @@ fn deliver_rule(words: &[u64], masks: &[u64], rule: ToDeliver, way: &[u64; WIDTH
             none_of(masks, SENDS, &others)
         }
     }
+}
+
+// Message m may be sent: its send is ready, its board is free, and the further condition holds. The buffer is its source's.
+pub fn may_send<'a>(
+    words: &[u64],
+    masks: &[u64],
+    boards: &[u8],
+    count: usize,
+    c: Channel,
+    done: &'a [u64; WIDTH],
+    way: &'a [u64; WIDTH],
+    buffer: Buffer,
+    m: usize,
+) -> bool
+    requires { ⌜ Standing count (now boards) (now words) (now masks) ⌝ }
+    requires { ⌜ m < count ⌝ }
+    ensures { λ r. ⌜ SaysSend count (now (boards .entry)) (now (words .entry)) c (now (done .entry)) (now (way .entry)) buffer m r ⌝ }
+{
+    let send = 2 * m;
+    if !ready(words, masks, boards, count, done, send) {
+        return false;
+    }
+    if !board_free(masks, c.eager, buffer) {
+        return false;
+    }
+    let rule = c.to_send;
+    send_rule(words, masks, rule, way, m)
+}
+
+// Message m may be delivered: it is under way, its board is free, and the further condition holds. The buffer is its target's.
+pub fn may_deliver(
+    words: &[u64],
+    masks: &[u64],
+    boards: &[u8],
+    count: usize,
+    c: Channel,
+    way: &[u64; WIDTH],
+    buffer: Buffer,
+    m: usize,
+) -> bool
+    requires { ⌜ Standing count (now boards) (now words) (now masks) ⌝ }
+    requires { ⌜ m < count ⌝ }
+    ensures { λ r. ⌜ SaysDeliver count (now (boards .entry)) (now (words .entry)) c (now (way .entry)) buffer m r ⌝ }
+{
+    let send = 2 * m;
+    if !relation::test(way, 0, send) {
+        return false;
+    }
+    if !board_free(masks, c.eager, buffer) {
+        return false;
+    }
+    let receive = send + 1;
+    let target = wide(boards[receive]);
+    let rule = c.to_deliver;
+    deliver_rule(words, masks, rule, way, target, m)
+}
+
+// Message m may be consumed: it is in the buffer, its target's, and its receive is ready.
+pub fn may_consume(
+    words: &[u64],
+    masks: &[u64],
+    boards: &[u8],
+    count: usize,
+    done: &[u64; WIDTH],
+    buffer: Buffer,
+    m: usize,
+) -> bool
+    requires { ⌜ Standing count (now boards) (now words) (now masks) ⌝ }
+    requires { ⌜ m < count ⌝ }
+    ensures { λ r. ⌜ SaysConsume count (now (boards .entry)) (now (words .entry)) (now (done .entry)) buffer m r ⌝ }
+{
+    let send = 2 * m;
+    if !relation::test(&buffer.held, 0, send) {
+        return false;
+    }
+    let receive = send + 1;
+    ready(words, masks, boards, count, done, receive)
 }

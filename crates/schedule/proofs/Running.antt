@@ -1,0 +1,153 @@
+-- The schedule, choice by choice and byte by byte. Assumes nothing.
+use mathlib.Core.Path.{_≡_, refl, sym, _∙_, ap, subst, subst⁻¹}
+use mathlib.Core.Bool.{Bool, true, false, _&&_}
+use mathlib.Core.List.{List, [], _∷_, _++_, append-assoc, append-nil}
+use mathlib.Core.Option.{Option, none, some}
+use Prim.Native.Nat.{ℕ, zero, suc, _+_, _*_, _-_, _<_, _≤_}
+use native.Mathlib.Omega.{arith}
+use native.Mathlib.Numerals.{add-one}
+use lib.ListN.{length, take, drop, set, length-append, length-drop, length-set}
+use lib.Seq.{set-at, set-append-seam, drop-cons, drop-drop, append-snoc}
+use Rattle.model.specs.Bounded.{lowest}
+use Rattle.model.specs.Order.{Scenario}
+use Rattle.model.specs.Channel.{Channel}
+use Rattle.model.specs.Run.{State, start, Step, send, deliver, consume, next, allowed}
+use Rattle.schedule.specs.Bridge.{Scheduled}
+use Rattle.model.specs.Schedule.{Class, classesFor, choose, scheduleFrom, schedule, bytesOf}
+
+-- the byte of a step's kind, and its message's
+abbrev pub kindOf : Step → ℕ
+kindOf (send m) = 0
+kindOf (deliver m) = 1
+kindOf (consume m) = 2
+
+abbrev pub messageOf : Step → ℕ
+messageOf (send m) = m
+messageOf (deliver m) = m
+messageOf (consume m) = m
+
+pub bytes-length : (ts : List Step) → length (bytesOf ts) ≡ 2 * length ts
+unfolding bytesOf
+bytes-length [] = refl
+bytes-length (send m ∷ ts) = omega (arith, bytes-length ts)
+bytes-length (deliver m ∷ ts) = omega (arith, bytes-length ts)
+bytes-length (consume m ∷ ts) = omega (arith, bytes-length ts)
+
+pub bytes-more : (ts : List Step) (t : Step) → bytesOf (ts ++ (t ∷ [])) ≡ bytesOf ts ++ (kindOf t ∷ messageOf t ∷ [])
+unfolding bytesOf
+bytes-more [] (send m) = refl
+bytes-more [] (deliver m) = refl
+bytes-more [] (consume m) = refl
+bytes-more (send m ∷ ts) t = ap (λ l. 0 ∷ m ∷ l) (bytes-more ts t)
+bytes-more (deliver m ∷ ts) t = ap (λ l. 1 ∷ m ∷ l) (bytes-more ts t)
+bytes-more (consume m ∷ ts) t = ap (λ l. 2 ∷ m ∷ l) (bytes-more ts t)
+
+-- two bytes written behind a front
+pub two-written : (front rest : List ℕ) (n a b : ℕ) → length front ≡ n → 2 ≤ length rest
+    → set (set (front ++ rest) n a) (n + 1) b ≡ front ++ (a ∷ b ∷ []) ++ drop 2 rest
+two-written front [] n a b e l = absurd (omega arith)
+two-written front (x ∷ []) n a b e l = absurd (omega arith)
+two-written front (x ∷ y ∷ rest) n a b e l =
+    let one : set (front ++ x ∷ y ∷ rest) n a ≡ front ++ (a ∷ []) ++ y ∷ rest = set-at front x (y ∷ rest) a n e ∙ sym (append-snoc front a (y ∷ rest)) in
+    let long : length (front ++ (a ∷ [])) ≡ n + 1 = simp length-append (omega arith) in
+    ap (λ w. set w (n + 1) b) one ∙ set-at (front ++ (a ∷ [])) y rest b (n + 1) long ∙ append-snoc front a (b ∷ rest)
+    ∙ sym (append-assoc front (a ∷ b ∷ []) rest)
+
+module _ (S : Scenario) (c : Channel) where
+  pub choose-hit : (k : Class) (ks : List Class) (s : State) (m : ℕ)
+      → lowest (S .count) (λ j. k .takes j && allowed S c s (k .step j)) ≡ some m → choose S c (k ∷ ks) s ≡ some (k .step m)
+  unfolding choose
+  choose-hit k ks s m e = rw (e, choose)
+
+  pub choose-miss : (k : Class) (ks : List Class) (s : State)
+      → lowest (S .count) (λ j. k .takes j && allowed S c s (k .step j)) ≡ none → choose S c (k ∷ ks) s ≡ choose S c ks s
+  unfolding choose
+  choose-miss k ks s e =
+      subst⁻¹ (λ (o : Option ℕ). elim o [ some m ↦ some (k .step m) | none ↦ choose S c ks s ] ≡ choose S c ks s) e refl
+
+  module _ (e : ℕ) (trace : List ℕ) where
+    -- i steps were taken and written, and the schedule goes on from the state s
+    pub record Running (s : State) (i : ℕ) (now : List ℕ) : Type 0 where
+      pub steps : List Step
+      pub counted : length steps ≡ i
+      pub within : i ≤ 3 * S .count
+      pub long : 2 * (3 * S .count) ≤ length trace
+      pub split : schedule S c e ≡ steps ++ scheduleFrom S c e (3 * S .count - i) s
+      pub written : now ≡ bytesOf steps ++ drop (2 * i) trace
+
+    pub running-starts : 2 * (3 * S .count) ≤ length trace → Running start 0 trace
+    unfolding schedule bytesOf
+    running-starts l =
+        let z : 3 * S .count ≡ 3 * S .count - 0 = omega arith in
+        record {
+          steps = [];
+          counted = refl;
+          within = omega arith;
+          long = l;
+          split = ap (λ f. scheduleFrom S c e f start) z;
+          written = refl;
+        }
+
+    -- the schedule by what is chosen
+    chosen : (fuel : ℕ) (s : State) (t : Step) → choose S c (classesFor S e) s ≡ some t
+        → scheduleFrom S c e (suc fuel) s ≡ t ∷ scheduleFrom S c e fuel (next S s t)
+    unfolding scheduleFrom
+    chosen fuel s t h =
+        subst⁻¹
+        (λ (o : Option Step). elim o [ none ↦ [] | some u ↦ u ∷ scheduleFrom S c e fuel (next S s u) ] ≡ t ∷ scheduleFrom S c e fuel (next S s t))
+        h refl
+
+    none-chosen : (fuel : ℕ) (s : State) → choose S c (classesFor S e) s ≡ none → scheduleFrom S c e (suc fuel) s ≡ []
+    unfolding scheduleFrom
+    none-chosen fuel s h =
+        subst⁻¹ (λ (o : Option Step). _≡_ {A = List Step} (elim o [ none ↦ [] | some u ↦ u ∷ scheduleFrom S c e fuel (next S s u) ]) []) h refl
+
+    -- with i steps taken of 3 n, one is left to take
+    left : (i : ℕ) → i < 3 * S .count → 3 * S .count - i ≡ suc (3 * S .count - (i + 1))
+    left i l = omega arith
+
+    pub running-goes-on : (s : State) (i : ℕ) (now : List ℕ) (t : Step) → Running s i now → choose S c (classesFor S e) s ≡ some t → i < 3 * S .count
+        → Running (next S s t) (i + 1) (set (set now (2 * i) (kindOf t)) (2 * i + 1) (messageOf t))
+    running-goes-on s i now t R h l =
+        record {
+          steps = R .steps ++ (t ∷ []);
+          counted = simp length-append (omega (arith, R .counted));
+          within = omega arith;
+          long = R .long;
+          split =
+            R .split
+            ∙ ap (λ rest. R .steps ++ rest) (ap (λ f. scheduleFrom S c e f s) (left i l) ∙ chosen (3 * S .count - (i + 1)) s t h)
+            ∙ sym (append-snoc (R .steps) t (scheduleFrom S c e (3 * S .count - (i + 1)) (next S s t)));
+          written =
+            ap (λ w. set (set w (2 * i) (kindOf t)) (2 * i + 1) (messageOf t)) (R .written)
+            ∙ two-written (bytesOf (R .steps)) (drop (2 * i) trace) (2 * i) (kindOf t) (messageOf t) at room
+            ∙ ap (λ front. front ++ drop 2 (drop (2 * i) trace)) (sym (bytes-more (R .steps) t))
+            ∙ ap (λ rest. bytesOf (R .steps ++ (t ∷ [])) ++ rest) (drop-drop 2 (2 * i) trace ∙ ap (λ k. drop k trace) behind);
+        }
+      where
+        at : length (bytesOf (R .steps)) ≡ 2 * i
+        at = omega (arith, bytes-length (R .steps), R .counted)
+        room : 2 ≤ length (drop (2 * i) trace)
+        room = omega (arith, length-drop (2 * i) trace, R .long)
+        behind : 2 * i + 2 ≡ 2 * (i + 1)
+        behind = omega arith
+
+    -- nothing more to take: what was written is the schedule
+    ended : (s : State) (i : ℕ) (now : List ℕ) → Running s i now → scheduleFrom S c e (3 * S .count - i) s ≡ [] → Scheduled S c e trace now i
+    ended s i now R h =
+        let same : schedule S c e ≡ R .steps = R .split ∙ ap (λ rest. R .steps ++ rest) h ∙ append-nil (R .steps) in
+        record {
+          count = sym (R .counted) ∙ ap length (sym same);
+          trace = R .written ∙ ap (λ k. bytesOf (R .steps) ++ drop (2 * k) trace) (sym (R .counted)) ∙ ap (λ ts. bytesOf ts ++ drop (2 * length ts) trace) (sym same);
+        }
+
+    pub running-stops : (s : State) (i : ℕ) (now : List ℕ) → Running s i now → choose S c (classesFor S e) s ≡ none → i < 3 * S .count
+        → Scheduled S c e trace now i
+    running-stops s i now R h l =
+        ended s i now R (ap (λ f. scheduleFrom S c e f s) (left i l) ∙ none-chosen (3 * S .count - (i + 1)) s h)
+
+    pub running-ends : (s : State) (i : ℕ) (now : List ℕ) → Running s i now → 3 * S .count ≤ i → Scheduled S c e trace now i
+    unfolding scheduleFrom
+    running-ends s i now R l =
+        let z : 3 * S .count - i ≡ 0 = omega arith in
+        ended s i now R (ap (λ f. scheduleFrom S c e f s) z)

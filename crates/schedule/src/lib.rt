@@ -1,0 +1,146 @@
+// The withholding schedule for a message, step by step, and its trace, two bytes a step.
+ghost use mathlib.Core.Path.{_≡_};
+ghost use Prim.Native.Nat.{_*_, _<_, _≤_};
+ghost use lib.ListN.{length, getD};
+ghost use Rattle.relation.specs.Scenario.{scenarioIn};
+ghost use Rattle.race.specs.Bridge.{Lent};
+ghost use Rattle.channel.specs.Masks.{boardsMost, BoardsBelow, Standing};
+ghost use Rattle.schedule.specs.Bridge.{classIn, Lowest, SaysStep, SaysFits};
+
+use channel::{Buffer, Channel, Run};
+use relation::WIDTH;
+
+// The classes of steps, in the order in which they are tried.
+pub enum Class {
+    AnyConsume,
+    DeliveryOf,
+    NeededDelivery,
+    NeededSend,
+    AnyDelivery,
+    AnySend,
+}
+
+// A message of a class whose step is allowed.
+pub enum Found {
+    Message(usize),
+    Nothing,
+}
+
+// The step chosen; nothing where no step is allowed.
+pub enum Choice {
+    Send(usize),
+    Deliver(usize),
+    Consume(usize),
+    Nothing,
+}
+
+// Message m is one of the class, in the schedule for e.
+fn takes(words: &[u64], boards: &[u8], count: usize, e: usize, class: Class, m: usize) -> bool
+    requires { ⌜ Lent count (now boards) (now words) ⌝ }
+    requires { ⌜ (e < count) × (m < count) ⌝ }
+    ensures { λ r. ⌜ r ≡ (classIn (scenarioIn count (now (boards .entry)) (now (words .entry))) e class) .takes m ⌝ }
+{
+    let needing = 2 * e;
+    let send = 2 * m;
+    let receive = send + 1;
+    match class {
+        Class::AnyConsume => true,
+        Class::DeliveryOf => m == e,
+        Class::NeededDelivery => relation::test(words, needing, receive),
+        Class::NeededSend => race::at_or_before(words, boards, count, send, needing),
+        Class::AnyDelivery => true,
+        Class::AnySend => true,
+    }
+}
+
+// Message m's step of the class is allowed. It reads the pieces of a run: what is done, what is under way, and the buffers of
+// the message's two boards.
+fn may<'a>(
+    words: &[u64],
+    masks: &[u64],
+    boards: &[u8],
+    count: usize,
+    c: Channel,
+    done: &'a [u64; WIDTH],
+    way: &'a [u64; WIDTH],
+    source: Buffer,
+    target: Buffer,
+    class: Class,
+    m: usize,
+) -> bool
+    requires { ⌜ Standing count (now boards) (now words) (now masks) ⌝ }
+    requires { ⌜ m < count ⌝ }
+    ensures { λ r. ⌜ SaysStep count (now (boards .entry)) (now (words .entry)) c (now (done .entry)) (now (way .entry)) source target class m r ⌝ }
+{
+    match class {
+        Class::AnyConsume => channel::may_consume(words, masks, boards, count, done, target, m),
+        Class::DeliveryOf => channel::may_deliver(words, masks, boards, count, c, way, target, m),
+        Class::NeededDelivery => channel::may_deliver(words, masks, boards, count, c, way, target, m),
+        Class::NeededSend => channel::may_send(words, masks, boards, count, c, done, way, source, m),
+        Class::AnyDelivery => channel::may_deliver(words, masks, boards, count, c, way, target, m),
+        Class::AnySend => channel::may_send(words, masks, boards, count, c, done, way, source, m),
+    }
+}
+
+// Message m is of the class and its step is allowed, by the same pieces of a run.
+fn fits_class<'a>(
+    words: &[u64],
+    masks: &[u64],
+    boards: &[u8],
+    count: usize,
+    c: Channel,
+    done: &'a [u64; WIDTH],
+    way: &'a [u64; WIDTH],
+    source: Buffer,
+    target: Buffer,
+    e: usize,
+    class: Class,
+    m: usize,
+) -> bool
+    requires { ⌜ Standing count (now boards) (now words) (now masks) ⌝ }
+    requires { ⌜ (e < count) × (m < count) ⌝ }
+    ensures { λ r. ⌜ SaysFits count (now (boards .entry)) (now (words .entry)) c (now (done .entry)) (now (way .entry)) source target e class m r ⌝ }
+{
+    if !takes(words, boards, count, e, class, m) {
+        return false;
+    }
+    may(words, masks, boards, count, c, done, way, source, target, class, m)
+}
+
+// The board of event x.
+fn board_of(boards: &[u8], count: usize, x: usize) -> usize
+    requires { ⌜ BoardsBelow count (now boards) ⌝ }
+    requires { ⌜ (x < 2 * count) × (2 * count ≤ length (now boards)) ⌝ }
+    ensures { λ r. ⌜ (r ≡ getD (now (boards .entry)) x 0) × (r < boardsMost) ⌝ }
+{
+    boards[x] as usize
+}
+
+// The lowest message of the class whose step is allowed.
+fn lowest(
+    words: &[u64],
+    masks: &[u64],
+    boards: &[u8],
+    count: usize,
+    c: Channel,
+    run: Run,
+    e: usize,
+    class: Class,
+) -> Found
+    requires { ⌜ Standing count (now boards) (now words) (now masks) ⌝ }
+    requires { ⌜ e < count ⌝ }
+    ensures { λ r. ⌜ Lowest count (now (boards .entry)) (now (words .entry)) c run e class r ⌝ }
+{
+    for m in 0..count {
+        let send = 2 * m;
+        let receive = send + 1;
+        let source = board_of(boards, count, send);
+        let target = board_of(boards, count, receive);
+        let from = run.buffers[source];
+        let into = run.buffers[target];
+        if fits_class(words, masks, boards, count, c, &run.done, &run.way, from, into, e, class, m) {
+            return Found::Message(m);
+        }
+    }
+    Found::Nothing
+}

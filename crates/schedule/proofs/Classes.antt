@@ -1,5 +1,5 @@
 -- The classes at event numbers: what each return of `takes` is to show, from what led there. Assumes nothing.
-use mathlib.Core.Path.{_≡_, refl, sym, _∙_, ap, ap₂, subst}
+use mathlib.Core.Path.{_≡_, refl, sym, _∙_, ap, ap₂, subst, subst⁻¹}
 use mathlib.Core.Bool.{Bool, true, false, not, _&&_}
 use borrow.Author.Tests.{not-true, not-false}
 use mathlib.Core.Option.{none, some}
@@ -7,10 +7,11 @@ use mathlib.Core.List.{List}
 use Prim.Native.Nat.{ℕ, _+_, _*_, _<_, _≤_}
 use native.Mathlib.Omega.{arith}
 use native.Mathlib.Numerals.{add-one}
-use lib.ListN.{getD}
+use lib.ListN.{length, getD, set}
 use lib.Dec.{eqb}
 use Rattle.model.specs.Bounded.{lowest}
-use Rattle.model.specs.Run.{allowed}
+use Rattle.model.specs.Limits.{messagesMost}
+use Rattle.model.specs.Run.{send, deliver, consume, allowed}
 use Rattle.model.proofs.Bounded.{lowest-hit, lowest-miss}
 use Rattle.model.specs.Order.{sendOf, receiveOf, event, atOrBefore}
 use Rattle.relation.specs.Width.{width}
@@ -22,11 +23,14 @@ use Rattle.channel.specs.declared.Buffer.{Buffer}
 use Rattle.channel.specs.declared.Channel.{Channel}
 use Rattle.channel.specs.declared.Run.{Run}
 use Rattle.channel.specs.Table.{channelIn}
-use Rattle.channel.specs.State.{bufferOf, stateOf}
+use Rattle.channel.specs.State.{bufferOf, stateOf, Follows}
+use Rattle.channel.specs.Masks.{boardsMost, BoardsBelow}
 use Rattle.channel.specs.Steps.{SaysSend, SaysDeliver, SaysConsume}
 use Rattle.schedule.specs.declared.Class.{Class}
 use Rattle.schedule.specs.declared.Class.the-variants.{AnyConsume, DeliveryOf, NeededDelivery, NeededSend, AnyDelivery, AnySend}
-use Rattle.schedule.specs.Bridge.{classIn, SaysStep, SaysFits, fits}
+use Rattle.schedule.specs.declared.Choice.{Choice}
+use Rattle.schedule.specs.declared.Choice.the-variants as choice
+use Rattle.schedule.specs.Bridge.{classIn, SaysStep, SaysFits, fits, stepIn, Below, kindIn, messageIn, Moved}
 
 module _ (count : ℕ) (boards words : List ℕ) (e : ℕ) (q : Class) (m : ℕ) where
   pub takes-one : q ≡ DeliveryOf → eqb m e ≡ (classIn (scenarioIn count boards words) e q) .takes m
@@ -115,3 +119,65 @@ module _ (count : ℕ) (boards words : List ℕ) (c : Channel) (done way : List 
 -- the buffer of one board, named in two ways
 pub same-buffer : (run : Run) (k b : ℕ) → k ≡ b → bufferOf run b ≡ bufferOf run k
 same-buffer run k b i = ap (bufferOf run) (sym i)
+
+-- What each return of `step_of` is to show.
+module _ (q : Class) (m : ℕ) where
+  pub step-consume : q ≡ AnyConsume → choice.Consume m ≡ stepIn q m
+  step-consume i = rw i
+
+  pub step-one : q ≡ DeliveryOf → choice.Deliver m ≡ stepIn q m
+  step-one i = rw i
+
+  pub step-needed-delivery : q ≡ NeededDelivery → choice.Deliver m ≡ stepIn q m
+  step-needed-delivery i = rw i
+
+  pub step-needed-send : q ≡ NeededSend → choice.Send m ≡ stepIn q m
+  step-needed-send i = rw i
+
+  pub step-delivery : q ≡ AnyDelivery → choice.Deliver m ≡ stepIn q m
+  step-delivery i = rw i
+
+  pub step-send : q ≡ AnySend → choice.Send m ≡ stepIn q m
+  step-send i = rw i
+
+-- the message of a step chosen is below the count
+pub below-send : (count : ℕ) (r : Choice) (m : ℕ) → r ≡ choice.Send m → Below count r → m < count
+below-send count r m i b = subst (Below count) i b
+
+pub below-deliver : (count : ℕ) (r : Choice) (m : ℕ) → r ≡ choice.Deliver m → Below count r → m < count
+below-deliver count r m i b = subst (Below count) i b
+
+pub below-consume : (count : ℕ) (r : Choice) (m : ℕ) → r ≡ choice.Consume m → Below count r → m < count
+below-consume count r m i b = subst (Below count) i b
+
+pub two-bytes : (trace : List ℕ) (i k m : ℕ) (r : Choice) → k ≡ kindIn r → m ≡ messageIn r
+    → set (set trace (2 * i) k) (2 * i + 1) m ≡ set (set trace (2 * i) (kindIn r)) (2 * i + 1) (messageIn r)
+two-bytes trace i k m r p q = rw (p, q)
+
+-- What `advanced` asks of the run's steps, and what it returns.
+module _ (count : ℕ) (boards : List ℕ) (r : Choice) (m : ℕ) (room : (2 * count ≤ length boards) × BoardsBelow count boards)
+    (few : (count ≤ messagesMost) × Below count r) where
+  received : m < count → (m < messagesMost) × ((2 * m + 1 < length boards) × (getD boards (2 * m + 1) 0 < boardsMost))
+  received l = (omega (arith, few .0), (omega (arith, room .0), room .1 (2 * m + 1) (omega arith)))
+
+  pub send-room : r ≡ choice.Send m → m < messagesMost
+  send-room i = omega (arith, few .0, below-send count r m i (few .1))
+
+  pub deliver-room : r ≡ choice.Deliver m → (m < messagesMost) × ((2 * m + 1 < length boards) × (getD boards (2 * m + 1) 0 < boardsMost))
+  deliver-room i = received (below-deliver count r m i (few .1))
+
+  pub consume-room : r ≡ choice.Consume m → (m < messagesMost) × ((2 * m + 1 < length boards) × (getD boards (2 * m + 1) 0 < boardsMost))
+  consume-room i = received (below-consume count r m i (few .1))
+
+module _ (boards : List ℕ) (run behind : Run) (r : Choice) where
+  pub moved-send : (m : ℕ) → r ≡ choice.Send m → ((on : List ℕ) → Follows on run (send m) behind) → Moved boards run r behind
+  moved-send m i h = subst⁻¹ (λ (k : Choice). Moved boards run k behind) i (h boards)
+
+  pub moved-deliver : (m : ℕ) → r ≡ choice.Deliver m → Follows boards run (deliver m) behind → Moved boards run r behind
+  moved-deliver m i h = subst⁻¹ (λ (k : Choice). Moved boards run k behind) i h
+
+  pub moved-consume : (m : ℕ) → r ≡ choice.Consume m → Follows boards run (consume m) behind → Moved boards run r behind
+  moved-consume m i h = subst⁻¹ (λ (k : Choice). Moved boards run k behind) i h
+
+pub moved-nothing : (boards : List ℕ) (run : Run) (r : Choice) → r ≡ choice.Nothing → Moved boards run r run
+moved-nothing boards run r i = subst⁻¹ (λ (k : Choice). Moved boards run k run) i refl

@@ -6,13 +6,25 @@ use mathlib.Core.Option.{Option, none, some}
 use Prim.Native.Nat.{ℕ, zero, suc, _+_, _*_, _-_, _<_, _≤_}
 use native.Mathlib.Omega.{arith}
 use native.Mathlib.Numerals.{add-one}
-use lib.ListN.{length, take, drop, set, length-append, length-drop, length-set}
+use lib.ListN.{getD, length, take, drop, set, length-append, length-drop, length-set}
 use lib.Seq.{set-at, set-append-seam, drop-cons, drop-drop, append-snoc}
 use Rattle.model.specs.Bounded.{lowest}
 use Rattle.model.specs.Order.{Scenario}
 use Rattle.model.specs.Channel.{Channel}
 use Rattle.model.specs.Run.{State, start, Step, send, deliver, consume, next, allowed}
-use Rattle.schedule.specs.Bridge.{Scheduled}
+use Rattle.model.proofs.Bounded.{lowest-some}
+use Rattle.relation.specs.Scenario.{scenarioIn}
+use Rattle.channel.specs.declared.Channel as channel
+use Rattle.channel.specs.declared.Run.{Run}
+use Rattle.channel.specs.Table.{channelIn}
+use Rattle.channel.specs.State.{stateOf}
+use Rattle.schedule.specs.declared.Class as code
+use Rattle.schedule.specs.declared.Found as code-found
+use Rattle.schedule.specs.declared.Class.the-variants.{AnyConsume, DeliveryOf, NeededDelivery, NeededSend, AnyDelivery, AnySend}
+use Rattle.schedule.specs.declared.Found.the-variants as found
+use Rattle.schedule.specs.declared.Choice.{Choice}
+use Rattle.schedule.specs.declared.Choice.the-variants as choice
+use Rattle.schedule.specs.Bridge.{classIn, foundIn, choiceIn, Below, fits, Lowest, stepIn, Chosen, Scheduled}
 use Rattle.model.specs.Schedule.{Class, classesFor, choose, scheduleFrom, schedule, bytesOf}
 
 -- the byte of a step's kind, and its message's
@@ -151,3 +163,75 @@ module _ (S : Scenario) (c : Channel) where
     running-ends s i now R l =
         let z : 3 * S .count - i ≡ 0 = omega arith in
         ended s i now R (ap (λ f. scheduleFrom S c e f s) z)
+
+-- The classes tried so far have no allowed step: what is left to choose from is chosen from as before.
+module _ (count : ℕ) (boards words : List ℕ) (c : channel.Channel) (run : Run) (e : ℕ) where
+  abbrev classes : List code.Class
+  classes = AnyConsume ∷ DeliveryOf ∷ NeededDelivery ∷ NeededSend ∷ AnyDelivery ∷ AnySend ∷ []
+
+  pub record Tried (k : ℕ) : Type 0 where
+    pub within : k ≤ 6
+    pub same :
+      choose (scenarioIn count boards words) (channelIn c) (classesFor (scenarioIn count boards words) e) (stateOf run)
+      ≡ choose (scenarioIn count boards words) (channelIn c) (drop k (classesFor (scenarioIn count boards words) e)) (stateOf run)
+
+  pub tried-none : Tried 0
+  tried-none = record { within = omega arith; same = refl }
+
+  -- the k-th class and those behind it
+  at-class : (k : ℕ) → k < 6
+      → drop k (classesFor (scenarioIn count boards words) e) ≡ classIn (scenarioIn count boards words) e (getD classes k AnyConsume) ∷ drop (k + 1) (classesFor (scenarioIn count boards words) e)
+  at-class zero l = refl
+  at-class (suc zero) l = refl
+  at-class (suc (suc zero)) l = refl
+  at-class (suc (suc (suc zero))) l = refl
+  at-class (suc (suc (suc (suc zero)))) l = refl
+  at-class (suc (suc (suc (suc (suc zero))))) l = refl
+  at-class (suc (suc (suc (suc (suc (suc k)))))) l = absurd (omega arith)
+
+  pub tried-more : (k : ℕ) (f : code-found.Found) → Tried k → f ≡ found.Nothing → Lowest count boards words c run e (getD classes k AnyConsume) f → k < 6 → Tried (k + 1)
+  tried-more k f T i h l =
+      record {
+        within = omega arith;
+        same =
+          T .same ∙ ap (λ ks. choose (scenarioIn count boards words) (channelIn c) ks (stateOf run)) (at-class k l)
+          ∙ choose-miss (scenarioIn count boards words) (channelIn c) (classIn (scenarioIn count boards words) e (getD classes k AnyConsume)) (drop (k + 1) (classesFor (scenarioIn count boards words) e)) (stateOf run) (sym h ∙ ap foundIn i);
+      }
+
+  step-is : (q : code.Class) (m : ℕ) → choiceIn (stepIn q m) ≡ some ((classIn (scenarioIn count boards words) e q) .step m)
+  step-is AnyConsume m = refl
+  step-is DeliveryOf m = refl
+  step-is NeededDelivery m = refl
+  step-is NeededSend m = refl
+  step-is AnyDelivery m = refl
+  step-is AnySend m = refl
+
+  step-below : (q : code.Class) (m : ℕ) → m < count → Below count (stepIn q m)
+  step-below AnyConsume m l = l
+  step-below DeliveryOf m l = l
+  step-below NeededDelivery m l = l
+  step-below NeededSend m l = l
+  step-below AnyDelivery m l = l
+  step-below AnySend m l = l
+
+  pub chooses : (k m : ℕ) (f : code-found.Found) (r : Choice) → Tried k → f ≡ found.Message m → Lowest count boards words c run e (getD classes k AnyConsume) f → k < 6
+      → r ≡ stepIn (getD classes k AnyConsume) m → Chosen count boards words c run e r
+  chooses k m f r T i h l g =
+      let q = getD classes k AnyConsume in
+      let at : lowest count (fits count boards words c run e q) ≡ some m = sym h ∙ ap foundIn i in
+      record {
+        choice =
+          ap choiceIn g ∙ step-is q m
+          ∙ sym (T .same ∙ ap (λ ks. choose (scenarioIn count boards words) (channelIn c) ks (stateOf run)) (at-class k l)
+          ∙ choose-hit (scenarioIn count boards words) (channelIn c) (classIn (scenarioIn count boards words) e q) (drop (k + 1) (classesFor (scenarioIn count boards words) e)) (stateOf run) m at);
+        below = subst⁻¹ (Below count) g (step-below q m (lowest-some count (fits count boards words c run e q) m at .below));
+      }
+
+  pub chooses-nothing : (k : ℕ) → Tried k → 6 ≤ k → Chosen count boards words c run e choice.Nothing
+  unfolding choose
+  chooses-nothing k T l =
+      let i : k ≡ 6 = omega (arith, T .within) in
+      record {
+        choice = sym (T .same ∙ ap (λ j. choose (scenarioIn count boards words) (channelIn c) (drop j (classesFor (scenarioIn count boards words) e)) (stateOf run)) i);
+        below = tt;
+      }

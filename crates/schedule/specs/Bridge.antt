@@ -16,7 +16,7 @@ use Rattle.channel.specs.declared.Buffer.{Buffer}
 use Rattle.channel.specs.declared.Channel.{Channel}
 use Rattle.channel.specs.declared.Run.{Run}
 use Rattle.channel.specs.Table.{channelIn}
-use Rattle.channel.specs.State.{bufferOf, stateOf}
+use Rattle.channel.specs.State.{bufferOf, stateOf, Follows}
 use Rattle.schedule.specs.declared.Class.{Class}
 use Rattle.schedule.specs.declared.Class.the-variants.{AnyConsume, DeliveryOf, NeededDelivery, NeededSend, AnyDelivery, AnySend}
 use Rattle.schedule.specs.declared.Found.{Found}
@@ -72,6 +72,40 @@ SaysFits count boards words c done way source target e class m r =
 -- the lowest message that does
 abbrev pub Lowest : ℕ → List ℕ → List ℕ → Channel → Run → ℕ → Class → Found → Type 0
 Lowest count boards words c run e class r = foundIn r ≡ lowest count (fits count boards words c run e class)
+
+-- the step of a class on message m
+abbrev pub stepIn : Class → ℕ → Choice
+stepIn AnyConsume m = choice.Consume m
+stepIn DeliveryOf m = choice.Deliver m
+stepIn NeededDelivery m = choice.Deliver m
+stepIn NeededSend m = choice.Send m
+stepIn AnyDelivery m = choice.Deliver m
+stepIn AnySend m = choice.Send m
+
+-- what the schedule for e takes next, in the run's state
+pub record Chosen (count : ℕ) (boards words : List ℕ) (c : Channel) (run : Run) (e : ℕ) (r : Choice) : Type 0 where
+  pub choice : choiceIn r ≡ plan.choose (scenarioIn count boards words) (channelIn c) (plan.classesFor (scenarioIn count boards words) e) (stateOf run)
+  pub below : Below count r
+
+-- the two bytes of a step; with no step there is none to write
+abbrev pub kindIn : Choice → ℕ
+kindIn (choice.Send m) = 0
+kindIn (choice.Deliver m) = 1
+kindIn (choice.Consume m) = 2
+kindIn choice.Nothing = 3
+
+abbrev pub messageIn : Choice → ℕ
+messageIn (choice.Send m) = m
+messageIn (choice.Deliver m) = m
+messageIn (choice.Consume m) = m
+messageIn choice.Nothing = 0
+
+-- the run behind a step; with no step it stays
+abbrev pub Moved : List ℕ → Run → Choice → Run → Type 0
+Moved boards run (choice.Send m) r = Follows boards run (send m) r
+Moved boards run (choice.Deliver m) r = Follows boards run (deliver m) r
+Moved boards run (choice.Consume m) r = Follows boards run (consume m) r
+Moved boards run choice.Nothing r = r ≡ run
 
 -- the number of steps counted, and the trace buffer: the schedule's bytes, and all others as they were
 pub record Scheduled (S : Scenario) (c : model.Channel) (e : ℕ) (before behind : List ℕ) (steps : ℕ) : Type 0 where

@@ -1,11 +1,13 @@
 // The withholding schedule for a message, step by step, and its trace, two bytes a step.
 ghost use mathlib.Core.Path.{_≡_};
-ghost use Prim.Native.Nat.{_*_, _<_, _≤_};
-ghost use lib.ListN.{length, getD};
+ghost use Prim.Native.Nat.{_+_, _*_, _<_, _≤_};
+ghost use lib.ListN.{length, getD, set};
 ghost use Rattle.relation.specs.Scenario.{scenarioIn};
 ghost use Rattle.race.specs.Bridge.{Lent};
+ghost use Rattle.model.specs.Limits.{channels, messagesMost};
+ghost use Rattle.model.specs.Channel.{channelOf};
 ghost use Rattle.channel.specs.Masks.{boardsMost, BoardsBelow, Standing};
-ghost use Rattle.schedule.specs.Bridge.{classIn, Lowest, SaysStep, SaysFits};
+ghost use Rattle.schedule.specs.Bridge.{classIn, Lowest, SaysStep, SaysFits, stepIn, Below, Chosen, kindIn, messageIn, Moved};
 
 use channel::{Buffer, Channel, Run};
 use relation::WIDTH;
@@ -19,6 +21,17 @@ pub enum Class {
     AnyDelivery,
     AnySend,
 }
+
+const CLASS_COUNT: usize = 6;
+
+const CLASSES: [Class; CLASS_COUNT] = [
+    Class::AnyConsume,
+    Class::DeliveryOf,
+    Class::NeededDelivery,
+    Class::NeededSend,
+    Class::AnyDelivery,
+    Class::AnySend,
+];
 
 // A message of a class whose step is allowed.
 pub enum Found {
@@ -143,4 +156,94 @@ fn lowest(
         }
     }
     Found::Nothing
+}
+
+// The step of a class on message m.
+fn step_of(class: Class, m: usize) -> Choice
+    ensures { λ r. ⌜ r ≡ stepIn class m ⌝ }
+{
+    match class {
+        Class::AnyConsume => Choice::Consume(m),
+        Class::DeliveryOf => Choice::Deliver(m),
+        Class::NeededDelivery => Choice::Deliver(m),
+        Class::NeededSend => Choice::Send(m),
+        Class::AnyDelivery => Choice::Deliver(m),
+        Class::AnySend => Choice::Send(m),
+    }
+}
+
+// The first class with an allowed step, and in it the lowest message.
+fn choose(
+    words: &[u64],
+    masks: &[u64],
+    boards: &[u8],
+    count: usize,
+    c: Channel,
+    run: Run,
+    e: usize,
+) -> Choice
+    requires { ⌜ Standing count (now boards) (now words) (now masks) ⌝ }
+    requires { ⌜ e < count ⌝ }
+    ensures { λ r. ⌜ Chosen count (now (boards .entry)) (now (words .entry)) c run e r ⌝ }
+{
+    for k in 0..CLASS_COUNT {
+        let class = CLASSES[k];
+        let found = lowest(words, masks, boards, count, c, run, e, class);
+        match found {
+            Found::Message(m) => return step_of(class, m),
+            Found::Nothing => {}
+        }
+    }
+    Choice::Nothing
+}
+
+// The byte of a step's kind: 0 send, 1 deliver, 2 consume.
+fn kind_of(choice: Choice) -> u8
+    ensures { λ r. ⌜ r ≡ kindIn choice ⌝ }
+{
+    match choice {
+        Choice::Send(_) => 0,
+        Choice::Deliver(_) => 1,
+        Choice::Consume(_) => 2,
+        Choice::Nothing => 3,
+    }
+}
+
+// The byte of a step's message.
+fn message_of(choice: Choice, count: usize) -> u8
+    requires { ⌜ (count ≤ messagesMost) × Below count choice ⌝ }
+    ensures { λ r. ⌜ r ≡ messageIn choice ⌝ }
+{
+    match choice {
+        Choice::Send(m) => m as u8,
+        Choice::Deliver(m) => m as u8,
+        Choice::Consume(m) => m as u8,
+        Choice::Nothing => 0,
+    }
+}
+
+// Step i of the trace: its kind and its message.
+fn write_step(trace: &mut [u8], i: usize, choice: Choice, count: usize)
+    requires { ⌜ 2 * i + 1 < length (now trace) ⌝ }
+    requires { ⌜ (count ≤ messagesMost) × Below count choice ⌝ }
+    ensures { λ _. ⌜ now (trace .exit) ≡ set (set (now (trace .entry)) (2 * i) (kindIn choice)) (2 * i + 1) (messageIn choice) ⌝ }
+{
+    let at = 2 * i;
+    let behind = at + 1;
+    trace[at] = kind_of(choice);
+    trace[behind] = message_of(choice, count);
+}
+
+// The run behind a step.
+fn advanced(run: Run, boards: &[u8], count: usize, choice: Choice) -> Run
+    requires { ⌜ (2 * count ≤ length (now boards)) × BoardsBelow count (now boards) ⌝ }
+    requires { ⌜ (count ≤ messagesMost) × Below count choice ⌝ }
+    ensures { λ r. ⌜ Moved (now (boards .entry)) run choice r ⌝ }
+{
+    match choice {
+        Choice::Send(m) => run.sent(m),
+        Choice::Deliver(m) => run.delivered(boards, m),
+        Choice::Consume(m) => run.consumed(boards, m),
+        Choice::Nothing => run,
+    }
 }

@@ -33,9 +33,9 @@ checked-from text code scratch scratchExit trace traceExit r a e i s t =
       scratchLeft = s ∙ ap (λ b. scratchAfter b scratch) (sym e);
       traceLeft = t ∙ ap (λ b. traceAfter b trace) (sym e);
       pointThree =
-        subst⁻¹ (λ (n : Numbers). PointThree text code (length scratch) (length trace) n traceExit) (i ∙ ap numbersOf (sym e))
-        (subst⁻¹ (λ (l : List ℕ). PointThree text code (length scratch) (length trace) (numbersOf (answerOf text code (length scratch) (length trace))) l)
-        (t ∙ ap (λ b. traceAfter b trace) (sym e)) (point-three text code (length scratch) trace));
+          subst⁻¹ (λ (n : Numbers). PointThree text code (length scratch) (length trace) n traceExit) (i ∙ ap numbersOf (sym e))
+          (subst⁻¹ (λ (l : List ℕ). PointThree text code (length scratch) (length trace) (numbersOf (answerOf text code (length scratch) (length trace))) l)
+          (t ∙ ap (λ b. traceAfter b trace) (sym e)) (point-three text code (length scratch) trace));
     }
 
 -- refusal 1: the code is above 5
@@ -80,6 +80,6 @@ scratch-left text code scratch used n e l =
     let at : length used + k ≡ scratchLeast = omega arith in
     let back : n + k ≡ scratchLeast = omega arith in
     let rest : drop scratchLeast (used ++ drop n scratch) ≡ drop scratchLeast scratch =
-          ap (λ j. drop j (used ++ drop n scratch)) (sym at) ∙ drop-append-add used (drop n scratch) k ∙ drop-drop k n scratch
-          ∙ ap (λ j. drop j scratch) back in
+    ap (λ j. drop j (used ++ drop n scratch)) (sym at) ∙ drop-append-add used (drop n scratch) k ∙ drop-drop k n scratch
+    ∙ ap (λ j. drop j scratch) back in
     rw (touches text code, rest)

@@ -12,7 +12,7 @@ use Rattle.model.specs.Bounded.{lowest}
 use Rattle.model.specs.Order.{Scenario}
 use Rattle.model.specs.Channel.{Channel}
 use Rattle.model.specs.Run.{State, start, Step, send, deliver, consume, next, allowed}
-use Rattle.model.proofs.Bounded.{lowest-some}
+use Rattle.model.proofs.Bounded.{not-both, lowest-some}
 use Rattle.relation.specs.Scenario.{scenarioIn}
 use Rattle.channel.specs.declared.Channel as channel
 use Rattle.channel.specs.declared.Run.{Run}
@@ -24,7 +24,7 @@ use Rattle.schedule.specs.declared.Class.the-variants.{AnyConsume, Deliv
 use Rattle.schedule.specs.declared.Found.the-variants as found
 use Rattle.schedule.specs.declared.Choice.{Choice}
 use Rattle.schedule.specs.declared.Choice.the-variants as choice
-use Rattle.schedule.specs.Bridge.{classIn, foundIn, choiceIn, Below, fits, Lowest, stepIn, Chosen, Scheduled}
+use Rattle.schedule.specs.Bridge.{classIn, foundIn, choiceIn, Below, fits, Lowest, stepIn, isNothing, kindIn, messageIn, Moved, Chosen, Scheduled}
 use Rattle.model.specs.Schedule.{Class, classesFor, choose, scheduleFrom, schedule, bytesOf}
 
 -- the byte of a step's kind, and its message's
@@ -127,20 +127,22 @@ module _ (S : Scenario) (c : Channel) where
           within = omega arith;
           long = R .long;
           split =
-            R .split
-            ∙ ap (λ rest. R .steps ++ rest) (ap (λ f. scheduleFrom S c e f s) (left i l) ∙ chosen (3 * S .count - (i + 1)) s t h)
-            ∙ sym (append-snoc (R .steps) t (scheduleFrom S c e (3 * S .count - (i + 1)) (next S s t)));
+              R .split
+              ∙ ap (λ rest. R .steps ++ rest) (ap (λ f. scheduleFrom S c e f s) (left i l) ∙ chosen (3 * S .count - (i + 1)) s t h)
+              ∙ sym (append-snoc (R .steps) t (scheduleFrom S c e (3 * S .count - (i + 1)) (next S s t)));
           written =
-            ap (λ w. set (set w (2 * i) (kindOf t)) (2 * i + 1) (messageOf t)) (R .written)
-            ∙ two-written (bytesOf (R .steps)) (drop (2 * i) trace) (2 * i) (kindOf t) (messageOf t) at room
-            ∙ ap (λ front. front ++ drop 2 (drop (2 * i) trace)) (sym (bytes-more (R .steps) t))
-            ∙ ap (λ rest. bytesOf (R .steps ++ (t ∷ [])) ++ rest) (drop-drop 2 (2 * i) trace ∙ ap (λ k. drop k trace) behind);
+              ap (λ w. set (set w (2 * i) (kindOf t)) (2 * i + 1) (messageOf t)) (R .written)
+              ∙ two-written (bytesOf (R .steps)) (drop (2 * i) trace) (2 * i) (kindOf t) (messageOf t) at room
+              ∙ ap (λ front. front ++ drop 2 (drop (2 * i) trace)) (sym (bytes-more (R .steps) t))
+              ∙ ap (λ rest. bytesOf (R .steps ++ (t ∷ [])) ++ rest) (drop-drop 2 (2 * i) trace ∙ ap (λ k. drop k trace) behind);
         }
       where
         at : length (bytesOf (R .steps)) ≡ 2 * i
         at = omega (arith, bytes-length (R .steps), R .counted)
+
         room : 2 ≤ length (drop (2 * i) trace)
         room = omega (arith, length-drop (2 * i) trace, R .long)
+
         behind : 2 * i + 2 ≡ 2 * (i + 1)
         behind = omega arith
 
@@ -172,8 +174,8 @@ module _ (count : ℕ) (boards words : List ℕ) (c : channel.Channel) (run : Ru
   pub record Tried (k : ℕ) : Type 0 where
     pub within : k ≤ 6
     pub same :
-      choose (scenarioIn count boards words) (channelIn c) (classesFor (scenarioIn count boards words) e) (stateOf run)
-      ≡ choose (scenarioIn count boards words) (channelIn c) (drop k (classesFor (scenarioIn count boards words) e)) (stateOf run)
+        choose (scenarioIn count boards words) (channelIn c) (classesFor (scenarioIn count boards words) e) (stateOf run)
+        ≡ choose (scenarioIn count boards words) (channelIn c) (drop k (classesFor (scenarioIn count boards words) e)) (stateOf run)
 
   pub tried-none : Tried 0
   tried-none = record { within = omega arith; same = refl }
@@ -194,8 +196,8 @@ module _ (count : ℕ) (boards words : List ℕ) (c : channel.Channel) (run : Ru
       record {
         within = omega arith;
         same =
-          T .same ∙ ap (λ ks. choose (scenarioIn count boards words) (channelIn c) ks (stateOf run)) (at-class k l)
-          ∙ choose-miss (scenarioIn count boards words) (channelIn c) (classIn (scenarioIn count boards words) e (getD classes k AnyConsume)) (drop (k + 1) (classesFor (scenarioIn count boards words) e)) (stateOf run) (sym h ∙ ap foundIn i);
+            T .same ∙ ap (λ ks. choose (scenarioIn count boards words) (channelIn c) ks (stateOf run)) (at-class k l)
+            ∙ choose-miss (scenarioIn count boards words) (channelIn c) (classIn (scenarioIn count boards words) e (getD classes k AnyConsume)) (drop (k + 1) (classesFor (scenarioIn count boards words) e)) (stateOf run) (sym h ∙ ap foundIn i);
       }
 
   step-is : (q : code.Class) (m : ℕ) → choiceIn (stepIn q m) ≡ some ((classIn (scenarioIn count boards words) e q) .step m)
@@ -221,9 +223,9 @@ module _ (count : ℕ) (boards words : List ℕ) (c : channel.Channel) (run : Ru
       let at : lowest count (fits count boards words c run e q) ≡ some m = sym h ∙ ap foundIn i in
       record {
         choice =
-          ap choiceIn g ∙ step-is q m
-          ∙ sym (T .same ∙ ap (λ ks. choose (scenarioIn count boards words) (channelIn c) ks (stateOf run)) (at-class k l)
-          ∙ choose-hit (scenarioIn count boards words) (channelIn c) (classIn (scenarioIn count boards words) e q) (drop (k + 1) (classesFor (scenarioIn count boards words) e)) (stateOf run) m at);
+            ap choiceIn g ∙ step-is q m
+            ∙ sym (T .same ∙ ap (λ ks. choose (scenarioIn count boards words) (channelIn c) ks (stateOf run)) (at-class k l)
+            ∙ choose-hit (scenarioIn count boards words) (channelIn c) (classIn (scenarioIn count boards words) e q) (drop (k + 1) (classesFor (scenarioIn count boards words) e)) (stateOf run) m at);
         below = subst⁻¹ (Below count) g (step-below q m (lowest-some count (fits count boards words c run e q) m at .below));
       }
 
@@ -235,3 +237,71 @@ module _ (count : ℕ) (boards words : List ℕ) (c : channel.Channel) (run : Ru
         choice = sym (T .same ∙ ap (λ j. choose (scenarioIn count boards words) (channelIn c) (drop j (classesFor (scenarioIn count boards words) e)) (stateOf run)) i);
         below = tt;
       }
+
+-- The loop of the schedule: i steps were taken and written, and the run's state is the one behind them.
+module _ (count : ℕ) (boards words : List ℕ) (c : channel.Channel) (e : ℕ) (trace : List ℕ) where
+  abbrev S : Scenario
+  S = scenarioIn count boards words
+
+  pub record Goes (end : ℕ) (now : List ℕ) (run : Run) (i : ℕ) : Type 0 where
+    pub whole : end ≡ 3 * count
+    pub within : i ≤ end
+    pub room : 2 * (3 * count) ≤ length now
+    pub same-length : length now ≡ length trace
+    pub running : Running S (channelIn c) e trace (stateOf run) i now
+
+  pub goes-start : (run : Run) → 2 * (3 * count) ≤ length trace → stateOf run ≡ start → Goes (3 * count) trace run 0
+  goes-start run l h =
+      record {
+        whole = refl;
+        within = omega arith;
+        room = l;
+        same-length = refl;
+        running = subst⁻¹ (λ (s : State). Running S (channelIn c) e trace s 0 trace) h (running-starts S (channelIn c) e trace l);
+      }
+
+  -- what a step chosen leaves, by its kind
+  stepped : (r : Choice) (run behind : Run) (i : ℕ) (now : List ℕ) → isNothing r ≡ false → Chosen count boards words c run e r → Moved boards run r behind
+      → Running S (channelIn c) e trace (stateOf run) i now → i < 3 * count
+      → Running S (channelIn c) e trace (stateOf behind) (i + 1) (set (set now (2 * i) (kindIn r)) (2 * i + 1) (messageIn r))
+  stepped choice.Nothing run behind i now f h v R l = not-both true refl f
+  stepped (choice.Send m) run behind i now f h v R l =
+      subst⁻¹ (λ (s : State). Running S (channelIn c) e trace s (i + 1) (set (set now (2 * i) 0) (2 * i + 1) m)) (v count words)
+      (running-goes-on S (channelIn c) e trace (stateOf run) i now (send m) R (sym (h .choice)) l)
+  stepped (choice.Deliver m) run behind i now f h v R l =
+      subst⁻¹ (λ (s : State). Running S (channelIn c) e trace s (i + 1) (set (set now (2 * i) 1) (2 * i + 1) m)) (v count words)
+      (running-goes-on S (channelIn c) e trace (stateOf run) i now (deliver m) R (sym (h .choice)) l)
+  stepped (choice.Consume m) run behind i now f h v R l =
+      subst⁻¹ (λ (s : State). Running S (channelIn c) e trace s (i + 1) (set (set now (2 * i) 2) (2 * i + 1) m)) (v count words)
+      (running-goes-on S (channelIn c) e trace (stateOf run) i now (consume m) R (sym (h .choice)) l)
+
+  pub goes-on : (end : ℕ) (now later : List ℕ) (run behind : Run) (i : ℕ) (r : Choice) (b : Bool) → Goes end now run i
+      → Chosen count boards words c run e r → b ≡ false → b ≡ isNothing r
+      → later ≡ set (set now (2 * i) (kindIn r)) (2 * i + 1) (messageIn r) → Moved boards run r behind → i < end → Goes end later behind (i + 1)
+  goes-on end now later run behind i r b G h f g w v l =
+      let R = stepped r run behind i now (sym g ∙ f) h v (G .running) (omega (arith, G .whole)) in
+      let kept : length later ≡ length now = ap length w ∙ simp length-set in
+      record {
+        whole = G .whole;
+        within = omega arith;
+        room = omega (arith, G .room);
+        same-length = kept ∙ G .same-length;
+        running = subst⁻¹ (λ (t : List ℕ). Running S (channelIn c) e trace (stateOf behind) (i + 1) t) w R;
+      }
+
+  nothing-chosen : (r : Choice) → isNothing r ≡ true → choiceIn r ≡ none
+  nothing-chosen choice.Nothing t = refl
+  nothing-chosen (choice.Send m) t = not-both false t refl
+  nothing-chosen (choice.Deliver m) t = not-both false t refl
+  nothing-chosen (choice.Consume m) t = not-both false t refl
+
+  pub goes-stops : (end : ℕ) (now : List ℕ) (run : Run) (i : ℕ) (r : Choice) (b : Bool) → Goes end now run i
+      → Chosen count boards words c run e r → b ≡ true → b ≡ isNothing r → i < end → Scheduled S (channelIn c) e trace now i
+  goes-stops end now run i r b G h t g l =
+      running-stops S (channelIn c) e trace (stateOf run) i now (G .running) (sym (h .choice) ∙ nothing-chosen r (sym g ∙ t)) (omega (arith, G .whole))
+
+  pub goes-ends : (end : ℕ) (now : List ℕ) (run : Run) (i : ℕ) → Goes end now run i → end ≤ i → Scheduled S (channelIn c) e trace now (3 * count)
+  goes-ends end now run i G l =
+      let k : i ≡ 3 * count = omega (arith, G .whole, G .within) in
+      subst (λ (j : ℕ). Scheduled S (channelIn c) e trace now j) k
+      (running-ends S (channelIn c) e trace (stateOf run) i now (G .running) (omega arith))

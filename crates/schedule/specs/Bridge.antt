@@ -1,6 +1,6 @@
 -- The schedule's data as the model's, and its promise. Assumes nothing.
 use mathlib.Core.Path.{_≡_}
-use mathlib.Core.Bool.{Bool, _&&_}
+use mathlib.Core.Bool.{Bool, true, false, _&&_}
 use mathlib.Core.List.{List, _++_}
 use mathlib.Core.Option.{Option, none, some}
 use Prim.Native.Nat.{ℕ, _+_, _*_, _<_}
@@ -86,6 +86,12 @@ stepIn AnySend m = choice.Send m
 pub record Chosen (count : ℕ) (boards words : List ℕ) (c : Channel) (run : Run) (e : ℕ) (r : Choice) : Type 0 where
   pub choice : choiceIn r ≡ plan.choose (scenarioIn count boards words) (channelIn c) (plan.classesFor (scenarioIn count boards words) e) (stateOf run)
   pub below : Below count r
+
+abbrev pub isNothing : Choice → Bool
+isNothing (choice.Send m) = false
+isNothing (choice.Deliver m) = false
+isNothing (choice.Consume m) = false
+isNothing choice.Nothing = true
 
 -- the two bytes of a step; with no step there is none to write
 abbrev pub kindIn : Choice → ℕ

@@ -4,12 +4,13 @@ ghost use Prim.Native.Nat.{_+_, _*_, _<_, _≤_};
 ghost use lib.ListN.{length, getD, set};
 ghost use Rattle.relation.specs.Scenario.{scenarioIn};
 ghost use Rattle.race.specs.Bridge.{Lent};
-ghost use Rattle.model.specs.Limits.{channels, messagesMost};
-ghost use Rattle.model.specs.Channel.{channelOf};
+ghost use Rattle.model.specs.Limits.{messagesMost};
 ghost use Rattle.channel.specs.Masks.{boardsMost, BoardsBelow, Standing};
-ghost use Rattle.schedule.specs.Bridge.{classIn, Lowest, SaysStep, SaysFits, stepIn, Below, Chosen, kindIn, messageIn, Moved};
-
-use channel::{Buffer, Channel, Run};
+ghost use Rattle.schedule.specs.Bridge.{classIn, Lowest, SaysStep, SaysFits, stepIn, Below, Chosen, isNothing, kindIn, messageIn, Moved, Scheduled};
+ghost use Rattle.channel.specs.Table.{channelIn};
+use channel::Buffer;
+use channel::Channel;
+use channel::Run;
 use relation::WIDTH;
 
 // The classes of steps, in the order in which they are tried.
@@ -88,8 +89,27 @@ fn may<'a>(
     match class {
         Class::AnyConsume => channel::may_consume(words, masks, boards, count, done, target, m),
         Class::DeliveryOf => channel::may_deliver(words, masks, boards, count, c, way, target, m),
-        Class::NeededDelivery => channel::may_deliver(words, masks, boards, count, c, way, target, m),
-        Class::NeededSend => channel::may_send(words, masks, boards, count, c, done, way, source, m),
+        Class::NeededDelivery => channel::may_deliver(
+            words,
+            masks,
+            boards,
+            count,
+            c,
+            way,
+            target,
+            m,
+        ),
+        Class::NeededSend => channel::may_send(
+            words,
+            masks,
+            boards,
+            count,
+            c,
+            done,
+            way,
+            source,
+            m,
+        ),
         Class::AnyDelivery => channel::may_deliver(words, masks, boards, count, c, way, target, m),
         Class::AnySend => channel::may_send(words, masks, boards, count, c, done, way, source, m),
     }
@@ -117,7 +137,19 @@ fn fits_class<'a>(
     if !takes(words, boards, count, e, class, m) {
         return false;
     }
-    may(words, masks, boards, count, c, done, way, source, target, class, m)
+    may(
+        words,
+        masks,
+        boards,
+        count,
+        c,
+        done,
+        way,
+        source,
+        target,
+        class,
+        m,
+    )
 }
 
 // The board of event x.
@@ -151,7 +183,20 @@ fn lowest(
         let target = board_of(boards, count, receive);
         let from = run.buffers[source];
         let into = run.buffers[target];
-        if fits_class(words, masks, boards, count, c, &run.done, &run.way, from, into, e, class, m) {
+        if fits_class(
+            words,
+            masks,
+            boards,
+            count,
+            c,
+            &run.done,
+            &run.way,
+            from,
+            into,
+            e,
+            class,
+            m,
+        ) {
             return Found::Message(m);
         }
     }
@@ -195,6 +240,18 @@ fn choose(
         }
     }
     Choice::Nothing
+}
+
+// No step was chosen.
+fn is_nothing(choice: Choice) -> bool
+    ensures { λ r. ⌜ r ≡ isNothing choice ⌝ }
+{
+    match choice {
+        Choice::Send(_) => false,
+        Choice::Deliver(_) => false,
+        Choice::Consume(_) => false,
+        Choice::Nothing => true,
+    }
 }
 
 // The byte of a step's kind: 0 send, 1 deliver, 2 consume.
@@ -246,4 +303,31 @@ fn advanced(run: Run, boards: &[u8], count: usize, choice: Choice) -> Run
         Choice::Consume(m) => run.consumed(boards, m),
         Choice::Nothing => run,
     }
+}
+
+// The schedule for e on a channel, written into the trace: the number of its steps. Three steps a message are always enough.
+pub fn schedule(
+    words: &[u64],
+    masks: &[u64],
+    boards: &[u8],
+    count: usize,
+    c: Channel,
+    e: usize,
+    trace: &mut [u8],
+) -> usize
+    requires { ⌜ Standing count (now boards) (now words) (now masks) ⌝ }
+    requires { ⌜ e < count ⌝ }
+    requires { ⌜ 2 * (3 * count) ≤ length (now trace) ⌝ }
+    ensures { λ r. ⌜ Scheduled (scenarioIn count (now (boards .entry)) (now (words .entry))) (channelIn c) e (now (trace .entry)) (now (trace .exit)) r ⌝ }
+{
+    let mut run = Run::start();
+    for i in 0..3 * count {
+        let choice = choose(words, masks, boards, count, c, run, e);
+        if is_nothing(choice) {
+            return i;
+        }
+        write_step(trace, i, choice, count);
+        run = advanced(run, boards, count, choice);
+    }
+    3 * count
 }

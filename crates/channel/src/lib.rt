@@ -4,7 +4,6 @@ ghost use mathlib.Core.List.{List};
 ghost use Prim.Native.Nat.{ℕ, _+_, _*_, _<_, _≤_};
 ghost use lib.ListN.{length, getD};
 ghost use Rattle.model.specs.Limits.{channels, messagesMost};
-ghost use Rattle.model.specs.Order.{event};
 ghost use Rattle.model.specs.Channel.{channelOf};
 ghost use Rattle.model.specs.Run.{start, send, deliver, consume};
 ghost use Rattle.relation.specs.Width.{width, wordBits};
@@ -81,6 +80,7 @@ pub fn channel_of(code: usize) -> Channel
 // The bits of a word.
 const WORD_BITS: usize = 64;
 
+// A board's number, as an index.
 fn wide(board: u8) -> usize
     ensures { λ r. ⌜ r ≡ board ⌝ }
 {

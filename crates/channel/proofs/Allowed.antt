@@ -1,20 +1,20 @@
 -- The tests of whole words are the model's tests of events and messages. Assumes nothing.
 use mathlib.Core.Path.{_≡_, refl, sym, ap, ap₂, _∙_}
-use mathlib.Core.Bool.{Bool, true, false, not, _&&_, _||_, and-comm, and-false}
+use mathlib.Core.Bool.{Bool, true, false, not, _&&_, _||_, and-false}
 use mathlib.Core.List.{List}
 use Prim.Native.Nat.{ℕ, _+_, _*_, _/_, _%_, _<_, _≤_}
 use native.Mathlib.Decide.{decLt}
 use native.Mathlib.Omega.{arith}
 use mathlib.Core.Logic.{⊎-elim}
 use lib.Dec.{eqb, ltb}
-use lib.ListN.{length, getD}
+use lib.ListN.{getD}
 use borrow.Author.Tests.{eq-eqb, lt-ltb, le-ltb, eqb-true, ltb-true}
 use Rattle.model.specs.Limits.{boards, messagesMost}
 use Rattle.model.specs.Bounded.{every}
 use Rattle.model.specs.Channel as model
 use Rattle.model.specs.Order.{Event, sendOf, receiveOf, number, event, messageOf, boardOf, board, Scenario}
-use Rattle.model.specs.Run.{everyEvent, isAhead, ready, bufferEmpty, boardFree, maySend, mayDeliver, send, deliver, consume, allowed}
-use Rattle.model.proofs.Bounded.{and-left, and-right, and-both, every-at, every-from, which, not-both, not-is-true}
+use Rattle.model.specs.Run.{everyEvent, isAhead, ready, bufferEmpty, boardFree, maySend, mayDeliver, send, allowed}
+use Rattle.model.proofs.Bounded.{and-left, and-right, and-both, every-at, every-from, which, not-is-true}
 use Rattle.model.proofs.Events.{event-number, number-event, below-number, below-event}
 use Rattle.relation.specs.Width.{width, wordBits}
 use Rattle.relation.specs.Rows.{holds}

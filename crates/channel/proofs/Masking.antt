@@ -1,8 +1,8 @@
 -- The masks grow message by message: four marks each. Assumes nothing.
-use mathlib.Core.Path.{_≡_, refl, sym, ap, _∙_, subst}
-use mathlib.Core.Bool.{Bool, true, false, _&&_, _||_, and-false, and-true, or-false}
+use mathlib.Core.Path.{_≡_, refl, sym, _∙_, subst}
+use mathlib.Core.Bool.{false, _&&_, _||_, and-false, and-true, or-false}
 use mathlib.Core.List.{List}
-use Prim.Native.Nat.{ℕ, suc, _+_, _-_, _*_, _%_, _<_, _≤_}
+use Prim.Native.Nat.{ℕ, _+_, _*_, _%_, _<_, _≤_}
 use native.Mathlib.Decide.{ℕ-discrete, decLt}
 use native.Mathlib.Nat.{le-antisymm}
 use native.Mathlib.Omega.{arith}
@@ -14,7 +14,7 @@ use Rattle.relation.specs.Width.{width, wordBits}
 use Rattle.relation.specs.Rows.{holds, marked, cleared}
 use Rattle.relation.proofs.Tests.{eqb-same}
 use Rattle.relation.proofs.Marked.{length-marked, holds-marked}
-use Rattle.relation.proofs.Cleared.{length-cleared, holds-cleared}
+use Rattle.relation.proofs.Cleared.{holds-cleared}
 use Rattle.channel.specs.Masks.{maskRows, isSend, masksWith, BoardsBelow, MasksOf}
 
 eqb-swap : (a b : ℕ) → eqb a b ≡ eqb b a

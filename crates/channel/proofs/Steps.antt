@@ -1,5 +1,5 @@
 -- The run state behind each step is the model's. Assumes nothing.
-use mathlib.Core.Path.{_≡_, refl, sym, ap, _∙_, fun-ext}
+use mathlib.Core.Path.{_≡_, refl, _∙_, fun-ext}
 use mathlib.Core.Bool.{Bool, true, false, not, cond, _&&_, _||_, or-comm, or-false, or-true, and-true, and-false}
 use mathlib.Core.List.{List, [], _∷_}
 use Prim.Native.Nat.{ℕ, zero, suc, _+_, _*_, _/_, _%_, _<_}
@@ -12,9 +12,8 @@ use lib.Seq.{getD-set-same, getD-set-other}
 use borrow.Author.Tests.{eq-eqb, ne-eqb}
 use Rattle.model.specs.Limits.{boards}
 use Rattle.model.specs.Order.{Event, sendOf, receiveOf, number}
-use Rattle.model.specs.Run.{State, start, Step, send, deliver, consume, with, withDone, withHeld, next}
+use Rattle.model.specs.Run.{start, send, deliver, consume, with, withDone, withHeld, next}
 use Rattle.relation.specs.Width.{width, wordBits}
-use Rattle.relation.specs.Scenario.{scenarioIn}
 use Rattle.relation.proofs.Bits.{has-zero}
 use Rattle.relation.proofs.Tests.{eqb-same}
 use Rattle.channel.specs.declared.Buffer.{Buffer}
@@ -76,6 +75,10 @@ getD-inside : {A : Type 0} (l : List A) (i : ℕ) (d e : A) → i < length l →
 getD-inside [] i d e h = absurd (not-suc-le-zero h)
 getD-inside (a ∷ l) zero d e h = refl
 getD-inside (a ∷ l) (suc i) d e h = getD-inside l i d e (le-of-suc-le-suc h)
+
+-- a buffer as the code reads it is that of the board
+pub buffer-read : (run : Run) (b at : ℕ) (other : Buffer) → b ≡ at → b < length (run .buffers) → bufferOf run at ≡ getD (run .buffers) b other
+buffer-read run b at other e h = rw (← e) (getD-inside (run .buffers) b (record { held = [] }) other h)
 
 module _ (run : Run) (m : ℕ) (on : List ℕ) (b : ℕ) (other : Buffer) (target : b ≡ getD on (2 * m + 1) 0) (inside : b < length (run .buffers)) where
   pub delivered-follows : (way held : List ℕ) → With (getD (run .buffers) b other .held) (2 * m) held → Without (run .way) (2 * m) way

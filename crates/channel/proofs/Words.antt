@@ -1,6 +1,6 @@
 -- The bits of a word: of an and, of a complement; and that a word is zero where none of its bits is set.
 -- Assumes nothing.
-use mathlib.Core.Path.{_≡_, refl, sym, ap, _∙_}
+use mathlib.Core.Path.{_≡_, refl, ap, _∙_}
 use mathlib.Core.Bool.{Bool, true, false, not, _&&_}
 use Prim.Native.Nat.{ℕ, zero, suc, _+_, _-_, _*_, _/_, _%_, _^_, _<_}
 use native.Mathlib.Nat.{mod-lt, zero-lt-suc, lt-suc-self, le-step, pow-suc, div-one, div-lt-iff-lt-mul}
@@ -9,7 +9,7 @@ use lib.Arith.{lt-one}
 use lib.Bits.{bitAnd, and-shr, and-mod}
 use lib.Dec.{eqb}
 use lib.Pow.{pow-pos, shr-shr}
-use borrow.Author.Tests.{eq-eqb, eqb-true, eqb-false}
+use borrow.Author.Tests.{eqb-false}
 use Rattle.relation.specs.Rows.{has}
 
 digits : (p q : ℕ) → p < 2 → q < 2 → eqb (bitAnd p q) 1 ≡ (eqb p 1 && eqb q 1)

@@ -4,11 +4,10 @@ ghost use mathlib.Core.List.{List};
 ghost use Prim.Native.Nat.{ℕ, _+_, _*_, _<_, _≤_};
 ghost use lib.ListN.{length, getD};
 ghost use Rattle.model.specs.Limits.{channels, messagesMost};
-ghost use Rattle.model.specs.Order.{event};
 ghost use Rattle.model.specs.Channel.{channelOf};
 ghost use Rattle.model.specs.Run.{start, send, deliver, consume};
 ghost use Rattle.relation.specs.Width.{width, wordBits};
-ghost use Rattle.channel.specs.Table.{channelIn, toSendIn, toDeliverIn};
+ghost use Rattle.channel.specs.Table.{channelIn};
 ghost use Rattle.channel.specs.State.{With, Without, stateOf, Follows};
 ghost use Rattle.channel.specs.Tests.{settledIn, apartIn, noneIn, freeIn};
 ghost use Rattle.channel.specs.Steps.{SaysReady, Says, SaysSend, SaysDeliver, SaysConsume, SaysSendRule, SaysDeliverRule};
@@ -36,34 +35,35 @@ pub struct Channel {
     pub to_deliver: ToDeliver,
 }
 
+// One row a channel, by code.
 const TABLE: [Channel; model::CHANNELS] = [
     Channel {
-        eager: true,
+        eager: true, // code 0, eager free-running
         to_send: ToSend::Always,
         to_deliver: ToDeliver::Always,
     },
     Channel {
-        eager: false,
+        eager: false, // code 1, lazy free-running
         to_send: ToSend::Always,
         to_deliver: ToDeliver::Always,
     },
     Channel {
-        eager: true,
+        eager: true, // code 2, eager FIFO
         to_send: ToSend::Always,
         to_deliver: ToDeliver::InOrder,
     },
     Channel {
-        eager: false,
+        eager: false, // code 3, lazy FIFO
         to_send: ToSend::Always,
         to_deliver: ToDeliver::InOrder,
     },
     Channel {
-        eager: true,
+        eager: true, // code 4, synchronous, eager
         to_send: ToSend::NoEarlierUnderWay,
         to_deliver: ToDeliver::Always,
     },
     Channel {
-        eager: true,
+        eager: true, // code 5, token ring, eager
         to_send: ToSend::ChannelEmpty,
         to_deliver: ToDeliver::Alone,
     },
@@ -80,6 +80,7 @@ pub fn channel_of(code: usize) -> Channel
 // The bits of a word.
 const WORD_BITS: usize = 64;
 
+// A board's number, as an index.
 fn wide(board: u8) -> usize
     ensures { λ r. ⌜ r ≡ board ⌝ }
 {
@@ -364,8 +365,8 @@ fn deliver_rule(
         ToDeliver::Always => true,
         ToDeliver::InOrder => {
             let others = without(*way, send);
-            let to = model::BOARDS + target;
-            apart(words, send, masks, to, &others)
+            let toward = model::BOARDS + target;
+            apart(words, send, masks, toward, &others)
         }
         ToDeliver::Alone => {
             let others = without(*way, send);
@@ -374,7 +375,7 @@ fn deliver_rule(
     }
 }
 
-// Message m may be sent: its send is ready, its board is free, and the further condition holds. The buffer is its source's.
+// Message m may be sent: its send is ready, its board, the buffer's, is free, and the further condition holds.
 pub fn may_send<'a>(
     words: &[u64],
     masks: &[u64],
@@ -383,25 +384,25 @@ pub fn may_send<'a>(
     c: Channel,
     done: &'a [u64; WIDTH],
     way: &'a [u64; WIDTH],
-    buffer: Buffer,
+    sender: Buffer,
     m: usize,
 ) -> bool
     requires { ⌜ Standing count (now boards) (now words) (now masks) ⌝ }
     requires { ⌜ m < count ⌝ }
-    ensures { λ r. ⌜ SaysSend count (now (boards .entry)) (now (words .entry)) c (now (done .entry)) (now (way .entry)) buffer m r ⌝ }
+    ensures { λ r. ⌜ SaysSend count (now (boards .entry)) (now (words .entry)) c (now (done .entry)) (now (way .entry)) sender m r ⌝ }
 {
     let send = 2 * m;
     if !ready(words, masks, boards, count, done, send) {
         return false;
     }
-    if !board_free(masks, c.eager, buffer) {
+    if !board_free(masks, c.eager, sender) {
         return false;
     }
     let rule = c.to_send;
     send_rule(words, masks, rule, way, m)
 }
 
-// Message m may be delivered: it is under way, its board is free, and the further condition holds. The buffer is its target's.
+// Message m may be delivered: it is under way, its board, the buffer's, is free, and the further condition holds.
 pub fn may_deliver(
     words: &[u64],
     masks: &[u64],
@@ -409,18 +410,18 @@ pub fn may_deliver(
     count: usize,
     c: Channel,
     way: &[u64; WIDTH],
-    buffer: Buffer,
+    receiver: Buffer,
     m: usize,
 ) -> bool
     requires { ⌜ Standing count (now boards) (now words) (now masks) ⌝ }
     requires { ⌜ m < count ⌝ }
-    ensures { λ r. ⌜ SaysDeliver count (now (boards .entry)) (now (words .entry)) c (now (way .entry)) buffer m r ⌝ }
+    ensures { λ r. ⌜ SaysDeliver count (now (boards .entry)) (now (words .entry)) c (now (way .entry)) receiver m r ⌝ }
 {
     let send = 2 * m;
     if !relation::test(way, 0, send) {
         return false;
     }
-    if !board_free(masks, c.eager, buffer) {
+    if !board_free(masks, c.eager, receiver) {
         return false;
     }
     let receive = send + 1;
@@ -429,24 +430,92 @@ pub fn may_deliver(
     deliver_rule(words, masks, rule, way, target, m)
 }
 
-// Message m may be consumed: it is in the buffer, its target's, and its receive is ready.
+// Message m may be consumed: it is in its target's buffer and its receive is ready.
 pub fn may_consume(
     words: &[u64],
     masks: &[u64],
     boards: &[u8],
     count: usize,
     done: &[u64; WIDTH],
-    buffer: Buffer,
+    receiver: Buffer,
     m: usize,
 ) -> bool
     requires { ⌜ Standing count (now boards) (now words) (now masks) ⌝ }
     requires { ⌜ m < count ⌝ }
-    ensures { λ r. ⌜ SaysConsume count (now (boards .entry)) (now (words .entry)) (now (done .entry)) buffer m r ⌝ }
+    ensures { λ r. ⌜ SaysConsume count (now (boards .entry)) (now (words .entry)) (now (done .entry)) receiver m r ⌝ }
 {
     let send = 2 * m;
-    if !relation::test(&buffer.held, 0, send) {
+    if !relation::test(&receiver.held, 0, send) {
         return false;
     }
     let receive = send + 1;
     ready(words, masks, boards, count, done, receive)
+}
+
+// The same of a whole run, for single use: each call copies the run.
+pub fn allowed_send(
+    run: Run,
+    words: &[u64],
+    masks: &[u64],
+    boards: &[u8],
+    count: usize,
+    c: Channel,
+    m: usize,
+) -> bool
+    requires { ⌜ Standing count (now boards) (now words) (now masks) ⌝ }
+    requires { ⌜ m < count ⌝ }
+    ensures { λ r. ⌜ Says count (now (boards .entry)) (now (words .entry)) c run (send m) r ⌝ }
+{
+    let x = 2 * m;
+    let source = wide(boards[x]);
+    let buffer = run.buffers[source];
+    may_send(
+        words,
+        masks,
+        boards,
+        count,
+        c,
+        &run.done,
+        &run.way,
+        buffer,
+        m,
+    )
+}
+
+pub fn allowed_deliver(
+    run: Run,
+    words: &[u64],
+    masks: &[u64],
+    boards: &[u8],
+    count: usize,
+    c: Channel,
+    m: usize,
+) -> bool
+    requires { ⌜ Standing count (now boards) (now words) (now masks) ⌝ }
+    requires { ⌜ m < count ⌝ }
+    ensures { λ r. ⌜ Says count (now (boards .entry)) (now (words .entry)) c run (deliver m) r ⌝ }
+{
+    let x = 2 * m + 1;
+    let target = wide(boards[x]);
+    let buffer = run.buffers[target];
+    may_deliver(words, masks, boards, count, c, &run.way, buffer, m)
+}
+
+pub fn allowed_consume(
+    run: Run,
+    words: &[u64],
+    masks: &[u64],
+    boards: &[u8],
+    count: usize,
+    c: Channel,
+    m: usize,
+) -> bool
+    requires { ⌜ Standing count (now boards) (now words) (now masks) ⌝ }
+    requires { ⌜ m < count ⌝ }
+    ensures { λ r. ⌜ Says count (now (boards .entry)) (now (words .entry)) c run (consume m) r ⌝ }
+{
+    let x = 2 * m + 1;
+    let target = wide(boards[x]);
+    let buffer = run.buffers[target];
+    may_consume(words, masks, boards, count, &run.done, buffer, m)
 }

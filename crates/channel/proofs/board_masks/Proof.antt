@@ -1,3 +1,5 @@
+-- `channel::board_masks` meets its contract. The loop keeps `Masking`: the masks of the messages passed.
+-- Assumes nothing.
 use Prim.Native.Nat.{_+_, _*_, _-_}
 use native.Mathlib.Omega.{arith}
 use borrow.Author.Needs.{needs}
@@ -5,11 +7,6 @@ use lib.ListN.{length}
 use Rattle.channel.proofs.Masking.{Masking, masking-start, masking-more, masking-end}
 use Rattle.channel.proofs.board_masks.Statement.{statement}
 use Rattle.channel.proofs.board_masks.Tie as tie
-use Rattle.channel.proofs.board_masks.Reads as reads
-use Rattle.channel.proofs.board_masks.Lts as lts
-use Rattle.channel.proofs.mask_message.Reads as mask-message-reads
-use Rattle.channel.proofs.wide.Reads as wide-reads
-use Rattle.relation.proofs.clear.Reads as clear-reads
 
 abbrev Inv-loop : tie.InvT-loop
 Inv-loop boards count masks₀ m₀ masks m = Masking boards count (length masks₀) m masks
@@ -17,39 +14,30 @@ Inv-loop boards count masks₀ m₀ masks m = Masking boards count (length masks
 abbrev μ-loop : tie.MeasureT-loop
 μ-loop boards count masks₀ m₀ masks m = count - m
 
--- src/lib.rt:194:5
 clear-requires : tie.Need-clear-requires Inv-loop μ-loop
 clear-requires c κs = search needs
 
--- src/lib.rt:195:5
 loop-holds : tie.Need-loop-holds Inv-loop μ-loop
 loop-holds c = search masking-start
 
--- src/lib.rt:196:20
 mul-send : tie.Need-mul-send Inv-loop μ-loop
 mul-send c = search needs
 
--- src/lib.rt:197:23
 add-receive : tie.Need-add-receive Inv-loop μ-loop
 add-receive c = search needs
 
--- src/lib.rt:198:27
 shared-slice-read-wide : tie.Need-shared-slice-read-wide Inv-loop μ-loop
 shared-slice-read-wide c = search needs
 
--- src/lib.rt:198:13
 wide-requires : tie.Need-wide-requires Inv-loop μ-loop
 wide-requires c κs = search needs
 
--- src/lib.rt:199:27
 shared-slice-read-wide-2 : tie.Need-shared-slice-read-wide-2 Inv-loop μ-loop
 shared-slice-read-wide-2 c = search needs
 
--- src/lib.rt:199:13
 wide-requires-2 : tie.Need-wide-requires-2 Inv-loop μ-loop
 wide-requires-2 c κs = search needs
 
--- src/lib.rt:200:9
 mask-message-requires : tie.Need-mask-message-requires Inv-loop μ-loop
 mask-message-requires c κs =
     let s = c .before .before .before .before .before .before .loop in
@@ -57,15 +45,12 @@ mask-message-requires c κs =
     let target = s .inv .below (2 * s .m + 1) (omega arith) in
     search needs
 
--- src/lib.rt:195:9
 add-m : tie.Need-add-m Inv-loop μ-loop
 add-m c = search needs
 
--- src/lib.rt:195:5
 loop-less : tie.Need-loop-less Inv-loop μ-loop
 loop-less c = search needs
 
--- src/lib.rt:195:5
 loop-again : tie.Need-loop-again Inv-loop μ-loop
 loop-again c =
     let w = c .before .before .before .before in
@@ -73,11 +58,9 @@ loop-again c =
     masking-more _ _ _ _ _ _ _ _ (s .before .loop .inv) (c .before .before .mask-message .ensures) (w .before .before .wide .ensures) (w .wide2 .ensures)
     (s .loop-test .taken) (search needs) (search needs)
 
--- src/lib.rt:187:1
 same-length : tie.Need-same-length Inv-loop μ-loop
 same-length c = search needs
 
--- src/lib.rt:187:1
 returns : tie.Need-returns Inv-loop μ-loop
 returns c = search masking-end
 

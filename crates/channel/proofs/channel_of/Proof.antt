@@ -1,20 +1,17 @@
+-- `channel::channel_of` meets its contract: row by row, the table is the model's.
+-- Assumes nothing.
 use mathlib.Core.Logic.{⊎-elim}
-use Rattle.channel.proofs.Rules.{each-code}
+use Rattle.channel.proofs.Codes.{each-code}
 use borrow.Author.Needs.{needs}
 use Rattle.channel.proofs.channel_of.Statement.{statement}
 use Rattle.channel.proofs.channel_of.Tie as tie
-use Rattle.channel.proofs.channel_of.Reads as reads
-use Rattle.channel.proofs.channel_of.Lts as lts
 
--- src/lib.rt:55:5
 mul-result : tie.Need-mul-result
 mul-result c = search needs
 
--- src/lib.rt:55:5
 array-copy-out-result : tie.Need-array-copy-out-result
 array-copy-out-result c = search needs
 
--- src/lib.rt:51:1
 returns : tie.Need-returns
 returns c =
     ⊎-elim (λ e. rw e) (λ k.

@@ -1,44 +1,34 @@
+-- `channel::mask_message` meets its contract: the four marks, one behind the other.
+-- Assumes nothing.
 use Rattle.channel.proofs.Masking.{marks-made}
 use borrow.Author.Needs.{needs}
 use Rattle.channel.proofs.mask_message.Statement.{statement}
 use Rattle.channel.proofs.mask_message.Tie as tie
-use Rattle.channel.proofs.mask_message.Reads as reads
-use Rattle.channel.proofs.mask_message.Lts as lts
-use Rattle.relation.proofs.mark.Reads as mark-reads
 
--- src/lib.rt:177:16
 mul-send : tie.Need-mul-send
 mul-send c = search needs
 
--- src/lib.rt:178:19
 add-receive : tie.Need-add-receive
 add-receive c = search needs
 
--- src/lib.rt:179:14
 add-to : tie.Need-add-to
 add-to c = search needs
 
--- src/lib.rt:180:5
 mark-requires : tie.Need-mark-requires
 mark-requires c κs = search needs
 
--- src/lib.rt:181:5
 mark-requires-2 : tie.Need-mark-requires-2
 mark-requires-2 c κs = search needs
 
--- src/lib.rt:182:5
 mark-requires-3 : tie.Need-mark-requires-3
 mark-requires-3 c κs = search needs
 
--- src/lib.rt:183:5
 mark-requires-4 : tie.Need-mark-requires-4
 mark-requires-4 c κs = search needs
 
--- src/lib.rt:170:1
 same-length : tie.Need-same-length
 same-length c = search needs
 
--- src/lib.rt:170:1
 returns : tie.Need-returns
 returns c =
     let four = c .before .before in

@@ -1,36 +1,28 @@
+-- `channel::may_consume` meets its contract: in the buffer, and ready.
+-- Assumes nothing.
 use borrow.Author.Tests.{not-true, not-false}
 use Rattle.channel.proofs.Allowed.{consume-absent, consume-ready}
 use borrow.Author.Needs.{needs}
 use Rattle.channel.proofs.may_consume.Statement.{statement}
 use Rattle.channel.proofs.may_consume.Tie as tie
-use Rattle.channel.proofs.may_consume.Reads as reads
-use Rattle.channel.proofs.may_consume.Lts as lts
-use Rattle.channel.proofs.ready.Reads as ready-reads
-use Rattle.relation.proofs.test.Reads as test-reads
 
--- src/lib.rt:428:16
 mul-send : tie.Need-mul-send
 mul-send c = search needs
 
--- src/lib.rt:429:9
 test-requires : tie.Need-test-requires
 test-requires c κs = search needs
 
--- src/lib.rt:430:9
 returns : tie.Need-returns
 returns c =
     let s = c .before .before .before .before .before .before .before .before in
     consume-absent _ _ _ _ (s .pre .0) _ (s .pre .1) _ _ _ (not-true _ (c .if1 .taken)) (c .before .test .ensures)
 
--- src/lib.rt:432:19
 add-receive : tie.Need-add-receive
 add-receive c = search needs
 
--- src/lib.rt:433:5
 ready-requires : tie.Need-ready-requires
 ready-requires c κs = search needs
 
--- src/lib.rt:415:1
 returns-2 : tie.Need-returns-2
 returns-2 c =
     let s = c .before .before .before .before .before .before .before .before .before in

@@ -1,3 +1,5 @@
+-- `channel::may_deliver` meets its contract: under way, free, and the further condition, in this order.
+-- Assumes nothing.
 use borrow.Author.Tests.{not-true, not-false}
 use Prim.Native.Nat.{_+_, _*_}
 use native.Mathlib.Omega.{arith}
@@ -5,62 +7,46 @@ use Rattle.channel.proofs.Allowed.{deliver-absent, deliver-unfree, deli
 use borrow.Author.Needs.{needs}
 use Rattle.channel.proofs.may_deliver.Statement.{statement}
 use Rattle.channel.proofs.may_deliver.Tie as tie
-use Rattle.channel.proofs.may_deliver.Reads as reads
-use Rattle.channel.proofs.may_deliver.Lts as lts
-use Rattle.channel.proofs.board_free.Reads as board-free-reads
-use Rattle.channel.proofs.deliver_rule.Reads as deliver-rule-reads
-use Rattle.channel.proofs.wide.Reads as wide-reads
-use Rattle.relation.proofs.test.Reads as test-reads
 
--- src/lib.rt:401:16
 mul-send : tie.Need-mul-send
 mul-send c = search needs
 
--- src/lib.rt:402:9
 test-requires : tie.Need-test-requires
 test-requires c κs = search needs
 
--- src/lib.rt:403:9
 returns : tie.Need-returns
 returns c =
     let s = c .before .before .before .before .before .before in
-    deliver-absent _ _ _ _ (s .pre .0) _ (s .pre .1) (s .args .c) _ (s .args .buffer) _ (not-true _ (c .if1 .taken)) (c .before .test .ensures)
+    deliver-absent _ _ _ _ (s .pre .0) _ (s .pre .1) (s .args .c) _ (s .args .receiver) _ (not-true _ (c .if1 .taken)) (c .before .test .ensures)
 
--- src/lib.rt:405:9
 board-free-requires : tie.Need-board-free-requires
 board-free-requires c κs = search needs
 
--- src/lib.rt:406:9
 returns-2 : tie.Need-returns-2
 returns-2 c =
     let s = c .before .before .before .before .before .before .before .before in
-    deliver-unfree _ _ _ _ (s .pre .0) _ (s .pre .1) (s .args .c) _ (s .args .buffer) _ _ (not-false _ (c .before .before .if1 .left)) (not-true _ (c .if2 .taken)) (c .before .before .before .test .ensures)
+    deliver-unfree _ _ _ _ (s .pre .0) _ (s .pre .1) (s .args .c) _ (s .args .receiver) _ _ (not-false _ (c .before .before .if1 .left)) (not-true _ (c .if2 .taken)) (c .before .before .before .test .ensures)
     (c .before .board-free .ensures)
 
--- src/lib.rt:408:19
 add-receive : tie.Need-add-receive
 add-receive c = search needs
 
--- src/lib.rt:409:23
 shared-slice-read-wide : tie.Need-shared-slice-read-wide
 shared-slice-read-wide c = search needs
 
--- src/lib.rt:409:9
 wide-requires : tie.Need-wide-requires
 wide-requires c κs = search needs
 
--- src/lib.rt:411:5
 deliver-rule-requires : tie.Need-deliver-rule-requires
 deliver-rule-requires c κs =
     let s = c .before .before .before .before .before .before .before .before .before .before in
     let target = s .pre .0 .boardsBelow (2 * s .args .m + 1) (omega arith) in
     search needs
 
--- src/lib.rt:387:1
 returns-3 : tie.Need-returns-3
 returns-3 c =
     let s = c .before .before .before .before .before .before .before .before .before .before .before in
-    deliver-ruled _ _ _ _ (s .pre .0) _ (s .pre .1) (s .args .c) _ (s .args .buffer) _ _ _ _ (c .deliver-rule .ensures) (not-false _ (c .before .before .before .before .before .if1 .left))
+    deliver-ruled _ _ _ _ (s .pre .0) _ (s .pre .1) (s .args .c) _ (s .args .receiver) _ _ _ _ (c .deliver-rule .ensures) (not-false _ (c .before .before .before .before .before .if1 .left))
     (not-false _ (c .before .before .before .if2 .left)) (c .before .before .before .before .before .before .test .ensures)
     (c .before .before .before .before .board-free .ensures) (c .before .wide .ensures)
 

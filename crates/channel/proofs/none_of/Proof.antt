@@ -1,3 +1,5 @@
+-- `channel::none_of` meets its contract. The loop keeps that the words passed have no event in common.
+-- Assumes nothing.
 use mathlib.Core.Path.{_≡_, refl}
 use mathlib.Core.Bool.{true}
 use Prim.Native.Nat.{_+_, _*_, _-_, _≤_}
@@ -8,8 +10,6 @@ use Rattle.channel.specs.Tests.{noneIn}
 use Rattle.channel.proofs.Rows.{none-of-more, none-of-found, none-of-end}
 use Rattle.channel.proofs.none_of.Statement.{statement}
 use Rattle.channel.proofs.none_of.Tie as tie
-use Rattle.channel.proofs.none_of.Reads as reads
-use Rattle.channel.proofs.none_of.Lts as lts
 
 abbrev Inv-loop : tie.InvT-loop
 Inv-loop masks mask given board i₀ i = (noneIn (wordBits * i) width masks mask given ≡ true) × (i ≤ width)
@@ -17,36 +17,28 @@ Inv-loop masks mask given board i₀ i = (noneIn (wordBits * i) width masks mask
 abbrev μ-loop : tie.MeasureT-loop
 μ-loop masks mask given board i₀ i = width - i
 
--- src/lib.rt:236:17
 mul-board : tie.Need-mul-board Inv-loop μ-loop
 mul-board c = search needs
 
--- src/lib.rt:237:5
 loop-holds : tie.Need-loop-holds Inv-loop μ-loop
 unfolding noneIn every
 loop-holds c = (refl, search needs)
 
--- src/lib.rt:238:18
 add-by : tie.Need-add-by Inv-loop μ-loop
 add-by c = search needs
 
--- src/lib.rt:239:12
 mul-if1 : tie.Need-mul-if1 Inv-loop μ-loop
 mul-if1 c = search needs
 
--- src/lib.rt:239:12
 shared-slice-read-if1 : tie.Need-shared-slice-read-if1 Inv-loop μ-loop
 shared-slice-read-if1 c = search needs
 
--- src/lib.rt:239:24
 mul-if1-2 : tie.Need-mul-if1-2 Inv-loop μ-loop
 mul-if1-2 c = search needs
 
--- src/lib.rt:239:24
 shared-slice-read-if1-2 : tie.Need-shared-slice-read-if1-2 Inv-loop μ-loop
 shared-slice-read-if1-2 c = search needs
 
--- src/lib.rt:240:13
 returns : tie.Need-returns Inv-loop μ-loop
 returns c =
     let s = c .before .before .before .before in
@@ -54,19 +46,15 @@ returns c =
     none-of-found width (a .masks .now) (a .mask) (a .given .now) (s .loop .i) (c .if1 .taken)
     (c .before .before .shared-slice-known .given (a .mask * width + s .loop .i) .fits) (c .before .before .before .loop-test .taken)
 
--- src/lib.rt:237:9
 add-i : tie.Need-add-i Inv-loop μ-loop
 add-i c = search needs
 
--- src/lib.rt:237:5
 loop-less : tie.Need-loop-less Inv-loop μ-loop
 loop-less c = search needs
 
--- src/lib.rt:237:5
 loop-again : tie.Need-loop-again Inv-loop μ-loop
 loop-again c = (search none-of-more, search needs)
 
--- src/lib.rt:231:1
 returns-2 : tie.Need-returns-2 Inv-loop μ-loop
 returns-2 c = search none-of-end
 

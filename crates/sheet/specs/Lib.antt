@@ -1,0 +1,4 @@
+pub mod Bridge
+pub mod Scan
+pub mod Fields
+pub mod Stand

@@ -1,0 +1,154 @@
+// The rows, one by one: form (refusal 5) ahead of place (refusal 6); then the sheets that are absent (refusal 7).
+use crate::Verdict;
+use crate::fields;
+use crate::fields::{Cuts, Number, Split};
+use crate::heading::Columns;
+use crate::limits::{ABSENT, EVENTS_MOST, PLACE, ROW, ROWS_MOST, SHEETS};
+use crate::place;
+use crate::place::Placed;
+
+// A row's kind and numbers, and where the next one begins.
+pub enum Reading {
+    Row(u8, u8, u8, usize),
+    Malformed,
+}
+
+// Where the next row begins and the messages of the open block; or the refusal's number.
+pub enum Step {
+    Next(usize, usize),
+    Refused(u8),
+}
+
+// The row at `at`.
+pub fn row_at(text: &[u8], at: usize, columns: Columns) -> Reading {
+    let s = fields::cut(text, at);
+    match s {
+        Split::Other => Reading::Malformed,
+        Split::Three(cuts) => row_of(text, cuts, columns),
+    }
+}
+
+// The row of three fields: a letter and two numbers, as the heading orders them.
+pub fn row_of(text: &[u8], cuts: Cuts, columns: Columns) -> Reading {
+    let letter = fields::field(cuts, columns.kind);
+    let from = letter.from;
+    if letter.to - from != 1 {
+        return Reading::Malformed;
+    }
+    let kind = text[from];
+    let Number::Is(one) = fields::number_in(text, fields::field(cuts, columns.one)) else {
+        return Reading::Malformed;
+    };
+    let Number::Is(two) = fields::number_in(text, fields::field(cuts, columns.two)) else {
+        return Reading::Malformed;
+    };
+    if is_formed(kind, one, two) {
+        return Reading::Row(kind, one, two, cuts.end + 1);
+    }
+    Reading::Malformed
+}
+
+// The letter is one of the five, and an unused field is 0.
+pub fn is_formed(kind: u8, one: u8, two: u8) -> bool {
+    if kind == b'M' {
+        return true;
+    }
+    if kind == b'P' {
+        return true;
+    }
+    if two != 0 {
+        return false;
+    }
+    if kind == b'S' {
+        return true;
+    }
+    if kind == b'C' {
+        return true;
+    }
+    if kind == b'B' {
+        return one == 0;
+    }
+    false
+}
+
+// Reads row `row` at `at`, and stores it.
+pub fn take_row(
+    text: &[u8],
+    at: usize,
+    columns: Columns,
+    row: usize,
+    messages: usize,
+    kind: &mut [u8; ROWS_MOST],
+    one: &mut [u8; ROWS_MOST],
+    two: &mut [u8; ROWS_MOST],
+    start: &mut [u16; SHEETS],
+    boards: &mut [u8; EVENTS_MOST],
+) -> Step {
+    if ROWS_MOST <= row {
+        return Step::Refused(ROW);
+    }
+    let Reading::Row(k, a, b, next) = row_at(text, at, columns) else {
+        return Step::Refused(ROW);
+    };
+    let Placed::Messages(after) = place::place(row, k, a, b, messages, start, boards) else {
+        return Step::Refused(PLACE);
+    };
+    kind[row] = k;
+    one[row] = a;
+    two[row] = b;
+    Step::Next(next, after)
+}
+
+// All rows from `at` on.
+pub fn rows(
+    text: &[u8],
+    first: usize,
+    columns: Columns,
+    kind: &mut [u8; ROWS_MOST],
+    one: &mut [u8; ROWS_MOST],
+    two: &mut [u8; ROWS_MOST],
+    start: &mut [u16; SHEETS],
+) -> Verdict {
+    let mut boards = [0u8; EVENTS_MOST];
+    let mut at = first;
+    let mut row = 0;
+    let mut messages = 0;
+    while at < text.len() {
+        let s = take_row(text, at, columns, row, messages, kind, one, two, start, &mut boards);
+        match s {
+            Step::Refused(number) => {
+                return Verdict::Refused(number, row + 2);
+            }
+            Step::Next(next, after) => {
+                at = next;
+                messages = after;
+                row += 1;
+            }
+        }
+    }
+    Verdict::Rows(row)
+}
+
+// Row i calls a sheet that is not there.
+pub fn is_stray(kind: &[u8; ROWS_MOST], one: &[u8; ROWS_MOST], start: &[u16; SHEETS], i: usize) -> bool {
+    if kind[i] == b'C' {
+        !place::is_open(start, one[i])
+    } else {
+        false
+    }
+}
+
+// Sheet 0 is there, and so is every sheet that is called.
+pub fn complete(count: usize, kind: &[u8; ROWS_MOST], one: &[u8; ROWS_MOST], start: &[u16; SHEETS]) -> Verdict {
+    if !place::is_open(start, 0) {
+        return Verdict::Refused(ABSENT, 0);
+    }
+    let mut i = 0;
+    while i < count {
+        if is_stray(kind, one, start, i) {
+            return Verdict::Refused(ABSENT, i + 2);
+        }
+        i += 1;
+    }
+    Verdict::Rows(count)
+}

@@ -1,2 +1,5 @@
 pub mod Scan
 pub mod Spans
+pub mod Lines
+pub mod Names
+pub mod Forms

@@ -7,9 +7,10 @@ use mathlib.Core.Option.{Option, none, some}
 use lib.Dec.{eqb}
 use lib.ListN.{length, drop, getD}
 use lib.Seq.{slice}
-use Rattle.model.specs.Text.{Line, headingOf}
-use Rattle.model.specs.Text as model
-use Rattle.model.specs.Rows.{Row, rowOf}
+use Rattle.model.specs.Text.{Line, headingOf, columnsOf, areColumns, numberOf}
+use Rattle.model.specs.Text as text
+use Rattle.model.specs.Rows.{fromFields, rowOf}
+use Rattle.model.specs.Rows as rows
 use Rattle.sheet.specs.Bridge.{rowFrom}
 use Rattle.sheet.specs.Scan.{firstLine, behindLine, firstField, behindField, Parts, three, other, partsOf}
 use Rattle.sheet.specs.declared.fields.Span.{Span}
@@ -18,6 +19,11 @@ use Rattle.sheet.specs.declared.fields.Split.{Split}
 use Rattle.sheet.specs.declared.fields.Split.the-variants.{Three, Other}
 use Rattle.sheet.specs.declared.fields.Number.{Number}
 use Rattle.sheet.specs.declared.fields.Number.the-variants.{Is, Bad}
+use Rattle.sheet.specs.declared.heading.Columns.{Columns}
+use Rattle.sheet.specs.declared.heading.Heading.{Heading}
+use Rattle.sheet.specs.declared.heading.Heading.the-variants.{Named, Unnamed}
+use Rattle.sheet.specs.declared.rows.Reading.{Reading}
+use Rattle.sheet.specs.declared.rows.Reading.the-variants.{Row, Malformed}
 
 -- a field ends at r
 pub record FieldEnd (text : List ℕ) (at r : ℕ) : Type 0 where
@@ -69,3 +75,68 @@ pub record SplitAs (text : List ℕ) (at : ℕ) (r : Split) : Type 0 where
 abbrev pub numberFrom : Number → Option ℕ
 numberFrom (Is n) = some n
 numberFrom Bad = none
+
+-- the next line begins behind the one that begins at a position
+pub record Onward (text : List ℕ) (at next : ℕ) : Type 0 where
+  pub further : at < next
+  pub inside : next ≤ length text
+  pub behind : drop next text ≡ behindLine (drop at text)
+
+-- the columns are those of three fields
+pub record Below (c : Columns) : Type 0 where
+  pub kind : c .kind < 3
+  pub one : c .one < 3
+  pub two : c .two < 3
+
+abbrev pub columnsFrom : Columns → text.Columns
+columnsFrom c = record { kind = c .kind; one = c .one; two = c .two }
+
+abbrev pub headingFrom : Heading → Option text.Columns
+headingFrom (Named c next) = some (columnsFrom c)
+headingFrom Unnamed = none
+
+-- the columns that the three fields between the cuts name; the next line begins behind the last cut
+abbrev pub NamedIn : Cuts → Heading → Type 0
+NamedIn cuts (Named c next) = (next ≡ cuts .end + 1) × Below c
+NamedIn cuts Unnamed = Unit {0}
+
+unfoldable pub columnsNamed : List (List ℕ) → Option text.Columns
+columnsNamed fs = cond (areColumns (columnsOf fs)) (some (columnsOf fs)) none
+
+pub record HeadingIn (text : List ℕ) (cuts : Cuts) (r : Heading) : Type 0 where
+  pub heading : headingFrom r ≡ columnsNamed (fieldsIn text cuts)
+  pub named : NamedIn cuts r
+
+-- the heading of a text
+abbrev pub NamedFrom : List ℕ → Heading → Type 0
+NamedFrom text (Named c next) = Onward text 0 next × Below c
+NamedFrom text Unnamed = Unit {0}
+
+pub record HeadingAs (text : List ℕ) (r : Heading) : Type 0 where
+  pub heading : headingFrom r ≡ headingOf (firstLine text)
+  pub named : NamedFrom text r
+
+abbrev pub readingFrom : Reading → Option rows.Row
+readingFrom (Row kind one two next) = some (rowFrom kind one two)
+readingFrom Malformed = none
+
+-- the row of the three fields between the cuts
+abbrev pub ReadIn : Cuts → Reading → Type 0
+ReadIn cuts (Row kind one two next) = next ≡ cuts .end + 1
+ReadIn cuts Malformed = Unit {0}
+
+unfoldable pub rowNamed : text.Columns → List (List ℕ) → Option rows.Row
+rowNamed c fs = fromFields (getD fs (c .kind) []) (numberOf (getD fs (c .one) [])) (numberOf (getD fs (c .two) []))
+
+pub record RowIn (c : text.Columns) (text : List ℕ) (cuts : Cuts) (r : Reading) : Type 0 where
+  pub row : readingFrom r ≡ rowNamed c (fieldsIn text cuts)
+  pub next : ReadIn cuts r
+
+-- the row that begins at a position
+abbrev pub ReadFrom : List ℕ → ℕ → Reading → Type 0
+ReadFrom text at (Row kind one two next) = Onward text at next
+ReadFrom text at Malformed = Unit {0}
+
+pub record RowAs (c : text.Columns) (text : List ℕ) (at : ℕ) (r : Reading) : Type 0 where
+  pub row : readingFrom r ≡ rowOf c (firstLine (drop at text))
+  pub next : ReadFrom text at r

@@ -30,8 +30,8 @@ pub fn read(
     }
     let h = heading::heading_of(text);
     match h {
-        Heading::Bad => Verdict::Refused(HEADING, 1),
-        Heading::Columns(columns, next) => {
+        Heading::Unnamed => Verdict::Refused(HEADING, 1),
+        Heading::Named(columns, next) => {
             *start = [0u16; SHEETS];
             let v = rows::rows(text, next, columns, kind, one, two, start);
             match v {

@@ -7,6 +7,15 @@ use crate::limits::{ABSENT, EVENTS_MOST, PLACE, ROW, ROWS_MOST, SHEETS};
 use crate::place;
 use crate::place::Placed;
 
+ghost use mathlib.Core.Path.{_≡_};
+ghost use mathlib.Core.Bool.{cond};
+ghost use mathlib.Core.Option.{none, some};
+ghost use Prim.Native.Nat.{_≤_};
+ghost use lib.ListN.{length};
+ghost use Rattle.model.specs.Rows.{formed};
+ghost use Rattle.sheet.specs.Bridge.{rowFrom};
+ghost use Rattle.sheet.specs.Fields.{Cut, Below, columnsFrom, RowAs, RowIn};
+
 // A row's kind and numbers, and where the next one begins.
 pub enum Reading {
     Row(u8, u8, u8, usize),
@@ -20,7 +29,10 @@ pub enum Step {
 }
 
 // The row at `at`.
-pub fn row_at(text: &[u8], at: usize, columns: Columns) -> Reading {
+pub fn row_at(text: &[u8], at: usize, columns: Columns) -> Reading
+    requires { ⌜ (at ≤ length (now text)) × Below columns ⌝ }
+    ensures { λ r. ⌜ RowAs (columnsFrom columns) (now (text .entry)) at r ⌝ }
+{
     let s = fields::cut(text, at);
     match s {
         Split::Other => Reading::Malformed,
@@ -29,7 +41,10 @@ pub fn row_at(text: &[u8], at: usize, columns: Columns) -> Reading {
 }
 
 // The row of three fields: a letter and two numbers, as the heading orders them.
-pub fn row_of(text: &[u8], cuts: Cuts, columns: Columns) -> Reading {
+pub fn row_of(text: &[u8], cuts: Cuts, columns: Columns) -> Reading
+    requires { ⌜ Cut (now text) cuts × Below columns ⌝ }
+    ensures { λ r. ⌜ RowIn (columnsFrom columns) (now (text .entry)) cuts r ⌝ }
+{
     let letter = fields::field(cuts, columns.kind);
     let from = letter.from;
     if letter.to - from != 1 {
@@ -49,7 +64,9 @@ pub fn row_of(text: &[u8], cuts: Cuts, columns: Columns) -> Reading {
 }
 
 // The letter is one of the five, and an unused field is 0.
-pub fn is_formed(kind: u8, one: u8, two: u8) -> bool {
+pub fn is_formed(kind: u8, one: u8, two: u8) -> bool
+    ensures { λ r. ⌜ cond r (some (rowFrom kind one two)) none ≡ formed kind one two ⌝ }
+{
     if kind == b'M' {
         return true;
     }

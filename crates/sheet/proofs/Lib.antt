@@ -3,3 +3,4 @@ pub mod Spans
 pub mod Lines
 pub mod Names
 pub mod Forms
+pub mod Standing

@@ -98,7 +98,7 @@ module _ (text : List ℕ) (cuts : Cuts) (c : Columns) (h : Cut text cuts) (belo
   row-no-letter l e n =
       let inside : InText text l = subst (λ (x : Span). InText text x) (sym e) (span-inside text cuts (c .kind) h) in
       let f : length (getD (fieldsIn text cuts) (c .kind) []) ≡ l .to - l .from =
-        ap (λ (x : List ℕ). length x) (bytes-in (c .kind) l (below .kind) e) ∙ length-slice (l .from) (l .to) text (inside .inside) in
+      ap (λ (x : List ℕ). length x) (bytes-in (c .kind) l (below .kind) e) ∙ length-slice (l .from) (l .to) text (inside .inside) in
       record { row = sym (no-letter _ _ _ (λ g. n (sym f ∙ g))); next = tt }
 
   number-of : (place : ℕ) (s : Span) (n : Number) → place < 3 → s ≡ spanOf cuts place → numberFrom n ≡ numberOf (bytesOf text s)
@@ -149,10 +149,12 @@ row-split text at c s cuts r h e k = record { row = same-row; next = next-from r
   where
     split : SplitAs text at (Three cuts)
     split = subst (λ (x : Split). SplitAs text at x) e h
+
     same-row : readingFrom r ≡ rowOf (columnsFrom c) (firstLine (drop at text))
     same-row =
         k .row
         ∙ sym (row-three (drop at text) (slice (cuts .at) (cuts .first) text) (slice (cuts .first + 1) (cuts .second) text) (slice (cuts .second + 1) (cuts .end) text) (drop (cuts .end + 1) text) (split .parts) (columnsFrom c))
+
     next-from : (r′ : Reading) → RowIn (columnsFrom c) text cuts r′ → ReadFrom text at r′
     next-from (Row k₀ a b next) k′ = subst (λ (n : ℕ). Onward text at n) (sym (k′ .next)) (onward text at cuts split)
     next-from Malformed k′ = tt

@@ -4,3 +4,6 @@ pub mod Lines
 pub mod Names
 pub mod Forms
 pub mod Standing
+pub mod Storing
+pub mod Simulation
+pub mod Whole

@@ -36,9 +36,9 @@ lines-cons b (c ∷ s) = go (eqb b lineEnd) (lines-cons c s)
 data Rest (s : List ℕ) : Type 0 where
   atEnd : behindField s ≡ [] → (firstLine s) .ended ≡ false → fieldsOf ((firstLine s) .bytes) ≡ firstField s ∷ [] → Rest s
   atLine : (t : List ℕ) → behindField s ≡ lineEnd ∷ t → (firstLine s) .ended ≡ true → fieldsOf ((firstLine s) .bytes) ≡ firstField s ∷ []
-    → behindLine s ≡ t → Rest s
+      → behindLine s ≡ t → Rest s
   atSpace : (t : List ℕ) → behindField s ≡ space ∷ t → (firstLine s) .ended ≡ (firstLine t) .ended
-    → fieldsOf ((firstLine s) .bytes) ≡ firstField s ∷ fieldsOf ((firstLine t) .bytes) → behindLine s ≡ behindLine t → Rest s
+      → fieldsOf ((firstLine s) .bytes) ≡ firstField s ∷ fieldsOf ((firstLine t) .bytes) → behindLine s ≡ behindLine t → Rest s
 
 module _ (b : ℕ) (s : List ℕ) (e : eqb b space ≡ false) (f : eqb b lineEnd ≡ false) where
   bf : behindField (b ∷ s) ≡ behindField s
@@ -100,6 +100,7 @@ some-field (b ∷ l) = go (eqb b space) (fieldsOf l)
     ahead : (fs : List (List ℕ)) → 1 ≤ length (aheadOfField b fs)
     ahead [] = omega arith
     ahead (f ∷ fs) = omega arith
+
     go : (k : Bool) (fs : List (List ℕ)) → 1 ≤ length (cond k ([] ∷ fs) (aheadOfField b fs))
     go true fs = omega arith
     go false fs = ahead fs
@@ -133,6 +134,7 @@ parts-line s = one (rest-of s)
     three-of t u p p′ q r l (atSpace w a b c d) =
         parted-of s other (rw (p, p′, a))
         (numbered s _ (r ∙ ap (λ (x : List (List ℕ)). firstField s ∷ firstField t ∷ x) c) (λ e. omega (arith, some-field ((firstLine w) .bytes))))
+
     two : (t : List ℕ) → behindField s ≡ space ∷ t → (firstLine s) .ended ≡ (firstLine t) .ended
         → fieldsOf ((firstLine s) .bytes) ≡ firstField s ∷ fieldsOf ((firstLine t) .bytes) → behindLine s ≡ behindLine t
         → Rest t → Parted s (partsOf s)
@@ -141,6 +143,7 @@ parts-line s = one (rest-of s)
         parted-of s other (rw (p, a)) (numbered s _ (r ∙ ap (λ (x : List (List ℕ)). firstField s ∷ x) c) (λ e. omega arith))
     two t p q r l (atSpace u a b c d) =
         three-of t u p a (q ∙ b) (r ∙ ap (λ (x : List (List ℕ)). firstField s ∷ x) c) (l ∙ d) (rest-of u)
+
     one : Rest s → Parted s (partsOf s)
     one (atEnd a b c) = parted-of s other (rw a) (unended s b)
     one (atLine t a b c d) = parted-of s other (rw a) (numbered s _ c (λ e. omega arith))

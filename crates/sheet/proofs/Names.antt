@@ -95,10 +95,12 @@ heading-split text s c r h e k = record { heading = same-heading; named = named-
   where
     split : SplitAs text 0 (Three c)
     split = subst (λ (x : Split). SplitAs text 0 x) e h
+
     same-heading : headingFrom r ≡ headingOf (firstLine text)
     same-heading =
         k .heading
         ∙ sym (heading-three text (slice (c .at) (c .first) text) (slice (c .first + 1) (c .second) text) (slice (c .second + 1) (c .end) text) (drop (c .end + 1) text) (split .parts))
+
     named-from : (r′ : Heading) → HeadingIn text c r′ → NamedFrom text r′
     named-from (Named d next) k′ =
         (subst (λ (n : ℕ). Onward text 0 n) (sym (k′ .named .0)) (onward text 0 c split), k′ .named .1)

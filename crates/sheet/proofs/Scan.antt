@@ -50,8 +50,8 @@ scan-more text at i h k l s =
       from = omega arith;
       to = omega arith;
       field = s .field ∙ ap (λ (l : List ℕ). slice at i text ++ l) f
-        ∙ sym (append-assoc (slice at i text) (getD text i 0 ∷ []) (firstField (drop (i + 1) text)))
-        ∙ ap (λ (l : List ℕ). l ++ firstField (drop (i + 1) text)) (sym (slice-grows text at i (s .from) l));
+          ∙ sym (append-assoc (slice at i text) (getD text i 0 ∷ []) (firstField (drop (i + 1) text)))
+          ∙ ap (λ (l : List ℕ). l ++ firstField (drop (i + 1) text)) (sym (slice-grows text at i (s .from) l));
       behind = s .behind ∙ g;
     }
 
@@ -106,7 +106,7 @@ numeral-large : (n : ℕ) (ds : List ℕ) → numberMost < n → numeral n ds �
 unfolding numeral
 numeral-large n ds h =
     let k : (digitsOnly ds && leb (decimal n ds) numberMost) ≡ false =
-      and-false (digitsOnly ds) (leb (decimal n ds) numberMost) (lt-leb (decimal n ds) numberMost (omega (arith, decimal-grows n ds))) in
+    and-false (digitsOnly ds) (leb (decimal n ds) numberMost) (lt-leb (decimal n ds) numberMost (omega (arith, decimal-grows n ds))) in
     rw k
 
 numeral-digit : (n d : ℕ) (ds : List ℕ) → 48 ≤ d → d ≤ 57 → numeral n (d ∷ ds) ≡ numeral (n * 10 + (d - 48)) ds
@@ -189,7 +189,7 @@ name-at text name from to i m l =
     let k : from + i < to = omega (arith, m .long, m .ordered) in
     let n : suc (from + i) ≡ from + (i + 1) = omega arith in
     let b : slice (from + i) to text ≡ getD text (from + i) 0 ∷ slice (from + (i + 1)) to text =
-      slice-cons (from + i) to text 0 k (m .inside) ∙ ap (λ (j : ℕ). getD text (from + i) 0 ∷ slice j to text) n in
+    slice-cons (from + i) to text 0 k (m .inside) ∙ ap (λ (j : ℕ). getD text (from + i) 0 ∷ slice j to text) n in
     m .same ∙ rw (a, b)
 
 pub name-more : (text name : List ℕ) (from to i : ℕ) → Matched text name from to i → i < length name → getD name i 0 ≡ getD text (from + i) 0 → Matched text name from to (i + 1)
@@ -251,7 +251,7 @@ unfolding wellBegun
 number-one text from to n h o k =
     let e : suc from ≡ to = omega arith in
     let s : slice from to text ≡ getD text from 0 ∷ [] =
-      slice-cons from to text 0 (omega arith) k ∙ ap (λ (l : List ℕ). getD text from 0 ∷ l) (rw e (slice-empty to text)) in
+    slice-cons from to text 0 (omega arith) k ∙ ap (λ (l : List ℕ). getD text from 0 ∷ l) (rw e (slice-empty to text)) in
     begun (slice from to text) (rw s)
 
 pub number-begun : (text : List ℕ) (from to : ℕ) → (from ≡ to → ⊥) → (getD text from 0 ≡ 48 → ⊥) → from ≤ to → to ≤ length text

@@ -104,7 +104,7 @@ unfolding partsOf
 cut-three text at a b e r r′ r″ f p h g p′ h′ l p″ h″ =
     record {
       parts = sym (go text at a f space _ (sym p ∙ not-false r h) ∙ go text (a + 1) b g space _ (sym p′ ∙ not-false r′ h′)
-        ∙ stop text (b + 1) e l lineEnd _ (sym p″ ∙ not-true r″ h″));
+          ∙ stop text (b + 1) e l lineEnd _ (sym p″ ∙ not-true r″ h″));
       cut = tt;
     }
 
@@ -116,11 +116,14 @@ unfolding partsOf
 cut-whole text at a b e r r′ r″ f p h g p′ h′ l p″ h″ =
     record {
       parts = sym (go text at a f space _ (sym p ∙ not-false r h) ∙ go text (a + 1) b g space _ (sym p′ ∙ not-false r′ h′)
-        ∙ go text (b + 1) e l lineEnd _ (sym p″ ∙ not-false r″ h″) ∙ rw (← f .field, ← g .field, ← l .field));
-      cut = (refl, record {
-        one = f .from;
-        two = omega (arith, g .from);
-        three = omega (arith, l .from);
-        inside = begun-cases text lineEnd e (sym p″ ∙ not-false r″ h″) .0;
-      });
+          ∙ go text (b + 1) e l lineEnd _ (sym p″ ∙ not-false r″ h″) ∙ rw (← f .field, ← g .field, ← l .field));
+      cut = (
+        refl,
+        record {
+          one = f .from;
+          two = omega (arith, g .from);
+          three = omega (arith, l .from);
+          inside = begun-cases text lineEnd e (sym p″ ∙ not-false r″ h″) .0;
+        },
+      );
     }

@@ -80,9 +80,9 @@ module _ (bs : List ℕ) (m : ℕ) (few : m ≤ messagesMost) (long : length bs 
 -- a row that is no S row
 not-sheet : (k a b : ℕ) → (k ≡ code "S" → ⊥) → isSheet (rowFrom k a b) ≡ false
 unfolding rowFrom isSheet
-not-sheet k a b h = rw (ne-eqb k (code "S") h) (go (eqb k (code "M")) (eqb k (code "P")) (eqb k (code "B")))
+not-sheet k a b h = rw (ne-eqb k (code "S") h) (go (eqb k (code "M")) (eqb k (code "P")) (eqb k (code "C")))
   where
-    go : (x y z : Bool) → isSheet (cond x (message a b) (cond y (order a b) (cond z block (call a)))) ≡ false
+    go : (x y z : Bool) → isSheet (cond x (message a b) (cond y (order a b) (cond z (call a) block))) ≡ false
     go true y z = refl
     go false true z = refl
     go false false true = refl
@@ -101,13 +101,13 @@ row-order : (k a b : ℕ) → k ≡ code "P" → rowFrom k a b ≡ order a b
 unfolding rowFrom
 row-order k a b e = rw e
 
-row-block : (k a b : ℕ) → k ≡ code "B" → rowFrom k a b ≡ block
+row-call : (k a b : ℕ) → k ≡ code "C" → rowFrom k a b ≡ call a
 unfolding rowFrom
-row-block k a b e = rw e
+row-call k a b e = rw e
 
-row-call : (k a b : ℕ) → (k ≡ code "S" → ⊥) → (k ≡ code "M" → ⊥) → (k ≡ code "P" → ⊥) → (k ≡ code "B" → ⊥) → rowFrom k a b ≡ call a
+row-block : (k a b : ℕ) → (k ≡ code "S" → ⊥) → (k ≡ code "M" → ⊥) → (k ≡ code "P" → ⊥) → (k ≡ code "C" → ⊥) → rowFrom k a b ≡ block
 unfolding rowFrom
-row-call k a b e f g h = rw (ne-eqb k (code "S") e, ne-eqb k (code "M") f, ne-eqb k (code "P") g, ne-eqb k (code "B") h)
+row-block k a b e f g h = rw (ne-eqb k (code "S") e, ne-eqb k (code "M") f, ne-eqb k (code "P") g, ne-eqb k (code "C") h)
 
 -- a message that fits is no message 129
 room : (bs : List ℕ) (m a b : ℕ) → m ≤ messagesMost → length bs ≡ 2 * messagesMost → messageFits (take (2 * m) bs) a b ≡ true → m < messagesMost
@@ -128,11 +128,12 @@ take-two bs m a b h l =
     ∙ ap (λ (x : List ℕ). x ++ (b ∷ [])) (ap (λ (i : ℕ). take i (set bs (2 * m) a)) k ∙ take-suc-set bs (2 * m) a (omega arith))
     ∙ append-assoc (take (2 * m) bs) (a ∷ []) (b ∷ [])
 
-module _ (row k a b m : ℕ) (starts bs : List ℕ) where
+module _ (row k a b m : ℕ) (starts bs : List ℕ) (few : m ≤ messagesMost) (long : length starts ≡ sheets) (long′ : length bs ≡ 2 * messagesMost) where
   place-by : (r : Row) (starts′ bs′ : List ℕ) (p : Placed) → rowFrom k a b ≡ r
-      → placedAs p starts′ bs′ ≡ stoodAt row (standOf starts bs m) r → FewMessages p
+      → placedAs p starts′ bs′ ≡ stoodAt row (standOf starts bs m) r → FewMessages p → length starts′ ≡ sheets → length bs′ ≡ 2 * messagesMost
       → PlaceAs row (standOf starts bs m) (rowFrom k a b) starts′ bs′ p
-  place-by r starts′ bs′ p e h few = record { stand = h ∙ ap (stoodAt row (standOf starts bs m)) (sym e); few = few }
+  place-by r starts′ bs′ p e h f l l′ =
+      record { stand = h ∙ ap (stoodAt row (standOf starts bs m)) (sym e); few = f; allStarts = l; allBoards = l′ }
 
   pub place-sheet : (p : Placed) (fits : Bool) (starts′ : List ℕ) → k ≡ code "S" → fits ≡ mayOpen starts a
       → starts′ ≡ cond fits (set starts a (row + 1)) starts → p ≡ placedFor fits 0
@@ -142,12 +143,14 @@ module _ (row k a b m : ℕ) (starts bs : List ℕ) where
       rw (g, h) (go fits f)
     where
       go : (t : Bool) → t ≡ mayOpen starts a → PlaceAs row (standOf starts bs m) (rowFrom k a b) (cond t (set starts a (row + 1)) starts) bs (placedFor t 0)
-      go true c = place-by (sheet a) (set starts a (row + 1)) bs (Messages 0) (row-sheet k a b e) (rw (← c)) (omega arith)
-      go false c = place-by (sheet a) starts bs Nowhere (row-sheet k a b e) (rw (← c)) tt
+      go true c =
+          place-by (sheet a) (set starts a (row + 1)) bs (Messages 0) (row-sheet k a b e) (rw (← c)) (omega arith)
+          (length-set starts a (row + 1) ∙ long) long′
+      go false c = place-by (sheet a) starts bs Nowhere (row-sheet k a b e) (rw (← c)) tt long long′
 
   pub place-outside : row ≡ 0 → (k ≡ code "S" → ⊥) → PlaceAs row (standOf starts bs m) (rowFrom k a b) starts bs Nowhere
   unfolding stoodAt
-  place-outside e f = record { stand = rw (not-sheet k a b f, e); few = tt }
+  place-outside e f = record { stand = rw (not-sheet k a b f, e); few = tt; allStarts = long; allBoards = long′ }
 
   module _ (below : (row ≡ 0 → ⊥)) where
     later : ltb 0 row ≡ true
@@ -155,37 +158,37 @@ module _ (row k a b m : ℕ) (starts bs : List ℕ) where
 
     pub place-message : (p : Placed) (fits : Bool) (bs′ : List ℕ) → k ≡ code "M" → fits ≡ messageFits (take (2 * m) bs) a b
         → bs′ ≡ cond fits (set (set bs (2 * m) a) (2 * m + 1) b) bs → p ≡ placedFor fits (m + 1)
-        → m ≤ messagesMost → length bs ≡ 2 * messagesMost
         → PlaceAs row (standOf starts bs m) (rowFrom k a b) starts bs′ p
     unfolding stoodAt movedTo isSheet
-    place-message p fits bs′ e f g h few long = rw (g, h) (go fits f)
+    place-message p fits bs′ e f g h = rw (g, h) (go fits f)
       where
         go : (t : Bool) → t ≡ messageFits (take (2 * m) bs) a b
             → PlaceAs row (standOf starts bs m) (rowFrom k a b) starts (cond t (set (set bs (2 * m) a) (2 * m + 1) b) bs) (placedFor t (m + 1))
         go true c =
-            let l : m < messagesMost = room bs m a b few long (sym c) in
+            let l : m < messagesMost = room bs m a b few long′ (sym c) in
             place-by (message a b) starts (set (set bs (2 * m) a) (2 * m + 1) b) (Messages (m + 1)) (row-message k a b e)
-            (rw (later, ← c, take-two bs m a b l long)) (omega arith)
-        go false c = place-by (message a b) starts bs Nowhere (row-message k a b e) (rw (later, ← c)) tt
+            (rw (later, ← c, take-two bs m a b l long′)) (omega arith) long
+            (length-set (set bs (2 * m) a) (2 * m + 1) b ∙ length-set bs (2 * m) a ∙ long′)
+        go false c = place-by (message a b) starts bs Nowhere (row-message k a b e) (rw (later, ← c)) tt long long′
 
-    pub place-order : (p : Placed) (fits : Bool) → k ≡ code "P" → fits ≡ orderFits (take (2 * m) bs) a b → p ≡ placedFor fits m → m ≤ messagesMost
+    pub place-order : (p : Placed) (fits : Bool) → k ≡ code "P" → fits ≡ orderFits (take (2 * m) bs) a b → p ≡ placedFor fits m
         → PlaceAs row (standOf starts bs m) (rowFrom k a b) starts bs p
     unfolding stoodAt movedTo isSheet
-    place-order p fits e f h few = rw h (go fits f)
+    place-order p fits e f h = rw h (go fits f)
       where
         go : (t : Bool) → t ≡ orderFits (take (2 * m) bs) a b → PlaceAs row (standOf starts bs m) (rowFrom k a b) starts bs (placedFor t m)
-        go true c = place-by (order a b) starts bs (Messages m) (row-order k a b e) (rw (later, ← c)) few
-        go false c = place-by (order a b) starts bs Nowhere (row-order k a b e) (rw (later, ← c)) tt
+        go true c = place-by (order a b) starts bs (Messages m) (row-order k a b e) (rw (later, ← c)) few long long′
+        go false c = place-by (order a b) starts bs Nowhere (row-order k a b e) (rw (later, ← c)) tt long long′
 
-    pub place-block : k ≡ code "B" → PlaceAs row (standOf starts bs m) (rowFrom k a b) starts bs (Messages 0)
+    pub place-call : (p : Placed) → k ≡ code "C" → p ≡ placedFor (ltb a sheets) 0 → PlaceAs row (standOf starts bs m) (rowFrom k a b) starts bs p
     unfolding stoodAt movedTo isSheet
-    place-block e = place-by block starts bs (Messages 0) (row-block k a b e) (rw later) (omega arith)
-
-    pub place-call : (p : Placed) → (k ≡ code "S" → ⊥) → (k ≡ code "M" → ⊥) → (k ≡ code "P" → ⊥) → (k ≡ code "B" → ⊥) → p ≡ placedFor (ltb a sheets) 0
-        → PlaceAs row (standOf starts bs m) (rowFrom k a b) starts bs p
-    unfolding stoodAt movedTo isSheet
-    place-call p e f g h q = rw q (go (ltb a sheets) refl)
+    place-call p e q = rw q (go (ltb a sheets) refl)
       where
         go : (t : Bool) → ltb a sheets ≡ t → PlaceAs row (standOf starts bs m) (rowFrom k a b) starts bs (placedFor t 0)
-        go true c = place-by (call a) starts bs (Messages 0) (row-call k a b e f g h) (rw (later, c)) (omega arith)
-        go false c = place-by (call a) starts bs Nowhere (row-call k a b e f g h) (rw (later, c)) tt
+        go true c = place-by (call a) starts bs (Messages 0) (row-call k a b e) (rw (later, c)) (omega arith) long long′
+        go false c = place-by (call a) starts bs Nowhere (row-call k a b e) (rw (later, c)) tt long long′
+
+    pub place-block : (k ≡ code "S" → ⊥) → (k ≡ code "M" → ⊥) → (k ≡ code "P" → ⊥) → (k ≡ code "C" → ⊥)
+        → PlaceAs row (standOf starts bs m) (rowFrom k a b) starts bs (Messages 0)
+    unfolding stoodAt movedTo isSheet
+    place-block e f g h = place-by block starts bs (Messages 0) (row-block k a b e f g h) (rw later) (omega arith) long long′

@@ -17,13 +17,13 @@ use Rattle.model.specs.Order.{cells}
 use Rattle.sheet.specs.declared.Verdict.{Verdict}
 use Rattle.sheet.specs.declared.Verdict.the-variants.{Rows, Refused}
 
--- the row of a kind, given by its letter, and two numbers; with no other letter it is a C row
+-- the row of a kind, given by its letter, and two numbers; with no other letter it is a B row
 unfoldable pub rowFrom : ℕ → ℕ → ℕ → Row
 rowFrom kind one two =
     cond (eqb kind (code "S")) (sheet one)
     (cond (eqb kind (code "M")) (message one two)
     (cond (eqb kind (code "P")) (order one two)
-    (cond (eqb kind (code "B")) block (call one))))
+    (cond (eqb kind (code "C")) (call one) block)))
 
 -- so many rows of the three columns, from row i on
 unfoldable pub rowsAt : List ℕ → List ℕ → List ℕ → ℕ → ℕ → List Row

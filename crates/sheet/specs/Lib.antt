@@ -2,3 +2,4 @@ pub mod Bridge
 pub mod Scan
 pub mod Fields
 pub mod Stand
+pub mod Store

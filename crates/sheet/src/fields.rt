@@ -1,6 +1,5 @@
 // A line's three fields, where they stand in the text, and the numbers that they hold.
 use crate::limits::NUMBER_MOST;
-
 ghost use mathlib.Core.Path.{_≡_};
 ghost use Prim.Native.Nat.{_≤_, _<_};
 ghost use lib.ListN.{length, drop};
@@ -12,6 +11,7 @@ ghost use Rattle.sheet.specs.Fields.{FieldEnd, InText, bytesOf, Cut, spa
 
 // Byte 10 ends a line, and byte 32 stands between two fields.
 pub const LINE_END: u8 = 10;
+
 pub const SPACE: u8 = 32;
 
 // A field: the bytes from `from` up to `to`.
@@ -74,14 +74,23 @@ pub fn cut(text: &[u8], at: usize) -> Split
     if !is_byte(text, end, LINE_END) {
         return Split::Other;
     }
-    Split::Three(Cuts { at, first, second, end })
+    Split::Three(Cuts {
+        at,
+        first,
+        second,
+        end,
+    })
 }
 
 // The byte at `at` is there, and is `b`.
 pub fn is_byte(text: &[u8], at: usize, b: u8) -> bool
     ensures { λ r. ⌜ r ≡ beginsWith b (drop at (now (text .entry))) ⌝ }
 {
-    if at < text.len() { text[at] == b } else { false }
+    if at < text.len() {
+        text[at] == b
+    } else {
+        false
+    }
 }
 
 // The field with the number `place`, from 0, of the three.
@@ -90,12 +99,21 @@ pub fn field(cuts: Cuts, place: usize) -> Span
     ensures { λ r. ⌜ r ≡ spanOf cuts place ⌝ }
 {
     if place == 0 {
-        return Span { from: cuts.at, to: cuts.first };
+        return Span {
+            from: cuts.at,
+            to: cuts.first,
+        };
     }
     if place == 1 {
-        return Span { from: cuts.first + 1, to: cuts.second };
+        return Span {
+            from: cuts.first + 1,
+            to: cuts.second,
+        };
     }
-    Span { from: cuts.second + 1, to: cuts.end }
+    Span {
+        from: cuts.second + 1,
+        to: cuts.end,
+    }
 }
 
 // The number that a field holds: decimal, without leading zeros.

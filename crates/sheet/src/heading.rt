@@ -1,7 +1,7 @@
 // The heading: which field of each row is its kind, its one and its two.
 use crate::fields;
-use crate::fields::{Cuts, Split};
-
+use crate::fields::Cuts;
+use crate::fields::Split;
 ghost use mathlib.Core.Path.{_≡_};
 ghost use Rattle.model.specs.Text.{placeOf};
 ghost use Rattle.sheet.specs.Fields.{Cut, fieldsIn, HeadingAs, HeadingIn};

@@ -6,7 +6,12 @@ mod place;
 mod rows;
 
 use crate::heading::Heading;
-use crate::limits::{HEADING, LENGTH, ROWS_MOST, SHEETS, TEXT_MOST};
+use crate::limits::HEADING;
+use crate::limits::LENGTH;
+use crate::limits::ROWS_MOST;
+use crate::limits::SHEETS;
+use crate::limits::TEXT_MOST;
+ghost use Rattle.sheet.specs.Bridge.{ReadAs};
 
 // So many rows; or the refusal's number and line.
 pub enum Verdict {
@@ -21,7 +26,9 @@ pub fn read(
     one: &mut [u8; ROWS_MOST],
     two: &mut [u8; ROWS_MOST],
     start: &mut [u16; SHEETS],
-) -> Verdict {
+) -> Verdict
+    ensures { λ r. ⌜ ReadAs (now (text .entry)) (now (kind .exit)) (now (one .exit)) (now (two .exit)) (now (start .exit)) r ⌝ }
+{
     if text.len() == 0 {
         return Verdict::Refused(LENGTH, 0);
     }
@@ -31,13 +38,6 @@ pub fn read(
     let h = heading::heading_of(text);
     match h {
         Heading::Unnamed => Verdict::Refused(HEADING, 1),
-        Heading::Named(columns, next) => {
-            *start = [0u16; SHEETS];
-            let v = rows::rows(text, next, columns, kind, one, two, start);
-            match v {
-                Verdict::Refused(number, line) => Verdict::Refused(number, line),
-                Verdict::Rows(count) => rows::complete(count, kind, one, start),
-            }
-        }
+        Heading::Named(columns, first) => rows::body(text, first, columns, kind, one, two, start),
     }
 }

@@ -1,6 +1,8 @@
 // Where a row may stand (refusal 6). The table of starts says which sheets are open, the boards those of the open block's events.
-use crate::limits::{BOARDS, EVENTS_MOST, MESSAGES_MOST, SHEETS};
-
+use crate::limits::BOARDS;
+use crate::limits::EVENTS_MOST;
+use crate::limits::MESSAGES_MOST;
+use crate::limits::SHEETS;
 ghost use mathlib.Core.Path.{_≡_};
 ghost use mathlib.Core.Bool.{cond};
 ghost use Prim.Native.Nat.{_+_, _*_, _≤_, _<_};
@@ -120,9 +122,9 @@ pub fn place(
     if kind == b'P' {
         return placed_if(may_order(messages, boards, one, two), messages);
     }
-    if kind == b'B' {
-        return Placed::Messages(0);
+    if kind == b'C' {
+        let n = one as usize;
+        return placed_if(n < SHEETS, 0);
     }
-    let n = one as usize;
-    placed_if(n < SHEETS, 0)
+    Placed::Messages(0)
 }

@@ -1,20 +1,28 @@
 // The rows, one by one: form (refusal 5) ahead of place (refusal 6); then the sheets that are absent (refusal 7).
 use crate::Verdict;
 use crate::fields;
-use crate::fields::{Cuts, Number, Split};
+use crate::fields::Cuts;
+use crate::fields::Number;
+use crate::fields::Split;
 use crate::heading::Columns;
-use crate::limits::{ABSENT, EVENTS_MOST, PLACE, ROW, ROWS_MOST, SHEETS};
+use crate::limits::ABSENT;
+use crate::limits::EVENTS_MOST;
+use crate::limits::PLACE;
+use crate::limits::ROW;
+use crate::limits::ROWS_MOST;
+use crate::limits::SHEETS;
 use crate::place;
 use crate::place::Placed;
-
 ghost use mathlib.Core.Path.{_≡_};
 ghost use mathlib.Core.Bool.{cond};
 ghost use mathlib.Core.Option.{none, some};
-ghost use Prim.Native.Nat.{_≤_};
-ghost use lib.ListN.{length};
+ghost use Prim.Native.Nat.{_*_, _≤_, _<_};
+ghost use lib.ListN.{length, getD};
+ghost use Rattle.model.specs.Limits.{sheets, rowsMost, messagesMost};
 ghost use Rattle.model.specs.Rows.{formed};
 ghost use Rattle.sheet.specs.Bridge.{rowFrom};
 ghost use Rattle.sheet.specs.Fields.{Cut, Below, columnsFrom, RowAs, RowIn};
+ghost use Rattle.sheet.specs.Store.{storeOf, Sized, StepAs, RowsAs, isStray, completeIn, BodyAs};
 
 // A row's kind and numbers, and where the next one begins.
 pub enum Reading {
@@ -100,7 +108,10 @@ pub fn take_row(
     two: &mut [u8; ROWS_MOST],
     start: &mut [u16; SHEETS],
     boards: &mut [u8; EVENTS_MOST],
-) -> Step {
+) -> Step
+    requires { ⌜ (at ≤ length (now text)) × Below columns × (messages ≤ messagesMost) × Sized (storeOf (now kind) (now one) (now two) (now start)) × (length (now boards) ≡ 2 * messagesMost) ⌝ }
+    ensures { λ r. ⌜ StepAs (columnsFrom columns) (now (text .entry)) at row messages (storeOf (now (kind .entry)) (now (one .entry)) (now (two .entry)) (now (start .entry))) (storeOf (now (kind .exit)) (now (one .exit)) (now (two .exit)) (now (start .exit))) (now (boards .entry)) (now (boards .exit)) r ⌝ }
+{
     if ROWS_MOST <= row {
         return Step::Refused(ROW);
     }
@@ -116,7 +127,7 @@ pub fn take_row(
     Step::Next(next, after)
 }
 
-// All rows from `at` on.
+// All rows from `first` on.
 pub fn rows(
     text: &[u8],
     first: usize,
@@ -125,13 +136,27 @@ pub fn rows(
     one: &mut [u8; ROWS_MOST],
     two: &mut [u8; ROWS_MOST],
     start: &mut [u16; SHEETS],
-) -> Verdict {
+) -> Verdict
+    requires { ⌜ (first ≤ length (now text)) × Below columns × Sized (storeOf (now kind) (now one) (now two) (now start)) ⌝ }
+    ensures { λ r. ⌜ RowsAs (columnsFrom columns) (now (text .entry)) first (storeOf (now (kind .entry)) (now (one .entry)) (now (two .entry)) (now (start .entry))) (storeOf (now (kind .exit)) (now (one .exit)) (now (two .exit)) (now (start .exit))) r ⌝ }
+{
     let mut boards = [0u8; EVENTS_MOST];
     let mut at = first;
     let mut row = 0;
     let mut messages = 0;
     while at < text.len() {
-        let s = take_row(text, at, columns, row, messages, kind, one, two, start, &mut boards);
+        let s = take_row(
+            text,
+            at,
+            columns,
+            row,
+            messages,
+            kind,
+            one,
+            two,
+            start,
+            &mut boards,
+        );
         match s {
             Step::Refused(number) => {
                 return Verdict::Refused(number, row + 2);
@@ -147,7 +172,15 @@ pub fn rows(
 }
 
 // Row i calls a sheet that is not there.
-pub fn is_stray(kind: &[u8; ROWS_MOST], one: &[u8; ROWS_MOST], start: &[u16; SHEETS], i: usize) -> bool {
+pub fn is_stray(
+    kind: &[u8; ROWS_MOST],
+    one: &[u8; ROWS_MOST],
+    start: &[u16; SHEETS],
+    i: usize,
+) -> bool
+    requires { ⌜ (i < rowsMost) × (length (now start) ≡ sheets) ⌝ }
+    ensures { λ r. ⌜ r ≡ isStray (getD (now (kind .entry)) i 0) (getD (now (one .entry)) i 0) (now (start .entry)) ⌝ }
+{
     if kind[i] == b'C' {
         !place::is_open(start, one[i])
     } else {
@@ -156,7 +189,15 @@ pub fn is_stray(kind: &[u8; ROWS_MOST], one: &[u8; ROWS_MOST], start: &[u16; SHE
 }
 
 // Sheet 0 is there, and so is every sheet that is called.
-pub fn complete(count: usize, kind: &[u8; ROWS_MOST], one: &[u8; ROWS_MOST], start: &[u16; SHEETS]) -> Verdict {
+pub fn complete(
+    count: usize,
+    kind: &[u8; ROWS_MOST],
+    one: &[u8; ROWS_MOST],
+    start: &[u16; SHEETS],
+) -> Verdict
+    requires { ⌜ (count ≤ rowsMost) × (length (now start) ≡ sheets) ⌝ }
+    ensures { λ r. ⌜ r ≡ completeIn (now (kind .entry)) (now (one .entry)) (now (start .entry)) count ⌝ }
+{
     if !place::is_open(start, 0) {
         return Verdict::Refused(ABSENT, 0);
     }
@@ -168,4 +209,28 @@ pub fn complete(count: usize, kind: &[u8; ROWS_MOST], one: &[u8; ROWS_MOST], sta
         i += 1;
     }
     Verdict::Rows(count)
+}
+
+// The rows behind the heading, which ends ahead of `first`.
+pub fn body(
+    text: &[u8],
+    first: usize,
+    columns: Columns,
+    kind: &mut [u8; ROWS_MOST],
+    one: &mut [u8; ROWS_MOST],
+    two: &mut [u8; ROWS_MOST],
+    start: &mut [u16; SHEETS],
+) -> Verdict
+    requires { ⌜ (first ≤ length (now text)) × Below columns ⌝ }
+    ensures { λ r. ⌜ BodyAs (columnsFrom columns) (now (text .entry)) first (storeOf (now (kind .exit)) (now (one .exit)) (now (two .exit)) (now (start .exit))) r ⌝ }
+{
+    *kind = [0u8; ROWS_MOST];
+    *one = [0u8; ROWS_MOST];
+    *two = [0u8; ROWS_MOST];
+    *start = [0u16; SHEETS];
+    let v = rows(text, first, columns, kind, one, two, start);
+    match v {
+        Verdict::Refused(number, line) => Verdict::Refused(number, line),
+        Verdict::Rows(count) => complete(count, kind, one, start),
+    }
 }

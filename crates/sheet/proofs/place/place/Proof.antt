@@ -11,7 +11,7 @@ placed-if-requires : tie.Need-placed-if-requires
 placed-if-requires c κs = search needs
 
 returns : tie.Need-returns
-returns c = search place-sheet
+returns c = search (place-sheet, needs)
 
 returns-2 : tie.Need-returns-2
 returns-2 c = search place-outside
@@ -37,14 +37,14 @@ placed-if-requires-3 c κs = search needs
 returns-4 : tie.Need-returns-4
 returns-4 c = search (place-order, needs)
 
-returns-5 : tie.Need-returns-5
-returns-5 c = search place-block
-
 placed-if-requires-4 : tie.Need-placed-if-requires-4
 placed-if-requires-4 c κs = search needs
 
+returns-5 : tie.Need-returns-5
+returns-5 c = search place-call
+
 returns-6 : tie.Need-returns-6
-returns-6 c = search place-call
+returns-6 c = search place-block
 
 pub place-spec : {M : Type 1} → statement M
 place-spec =
@@ -61,6 +61,6 @@ place-spec =
     may-order-requires
     placed-if-requires-3
     returns-4
-    returns-5
     placed-if-requires-4
+    returns-5
     returns-6)

@@ -1,12 +1,12 @@
 -- A row's letter and numbers, as the code tests them, are the model's row. Assumes nothing.
-use Prim.Native.Nat.{ℕ, zero, suc, _+_, _-_, _≤_, _<_}
+use Prim.Native.Nat.{ℕ, suc, _+_, _-_, _<_}
 use Prim.Native.Char.{code}
 use native.Mathlib.Omega.{arith}
 use mathlib.Core.Path.{_≡_, refl, sym, _∙_, ap, subst}
-use mathlib.Core.Bool.{Bool, true, false, not, cond, _&&_}
+use mathlib.Core.Bool.{Bool, true, false, cond, _&&_}
 use mathlib.Core.List.{List, [], _∷_}
 use mathlib.Core.Option.{Option, none, some}
-use borrow.Author.Tests.{eq-eqb, ne-eqb}
+use borrow.Author.Tests.{ne-eqb}
 use lib.Dec.{eqb}
 use lib.ListN.{length, drop, getD}
 use lib.Seq.{slice, slice-cons, slice-empty, length-slice}
@@ -15,7 +15,7 @@ use Rattle.model.specs.Rows.{formed, fromFields, rowOf}
 use Rattle.model.specs.Rows as rows
 use Rattle.sheet.specs.Bridge.{rowFrom}
 use Rattle.sheet.specs.Scan.{firstLine}
-use Rattle.sheet.specs.Fields.{InText, bytesOf, Cut, fieldsIn, spanOf, SplitAs, Onward, Below, columnsFrom, numberFrom, readingFrom, rowNamed, RowIn, ReadIn, RowAs, ReadFrom}
+use Rattle.sheet.specs.Fields.{InText, bytesOf, Cut, fieldsIn, spanOf, SplitAs, Onward, Below, columnsFrom, numberFrom, readingFrom, rowNamed, RowIn, RowAs, ReadFrom}
 use Rattle.sheet.specs.declared.fields.Span.{Span}
 use Rattle.sheet.specs.declared.fields.Cuts.{Cuts}
 use Rattle.sheet.specs.declared.fields.Split.{Split}

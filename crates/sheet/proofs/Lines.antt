@@ -1,17 +1,17 @@
 -- The twins of specs/Scan are the model's lines and fields. Assumes nothing.
-use Prim.Native.Nat.{ℕ, zero, suc, _≤_, _<_}
+use Prim.Native.Nat.{ℕ, _≤_}
 use native.Mathlib.Omega.{arith}
 use mathlib.Core.Path.{_≡_, refl, sym, _∙_, ap, subst}
-use mathlib.Core.Bool.{Bool, true, false, cond, _&&_, _||_}
+use mathlib.Core.Bool.{Bool, true, false, cond, _&&_}
 use mathlib.Core.List.{List, [], _∷_}
-use mathlib.Core.Option.{Option, none, some}
+use mathlib.Core.Option.{none}
 use borrow.Author.Tests.{eqb-true, ne-eqb}
 use lib.Dec.{eqb}
-use lib.ListN.{length, getD}
-use Rattle.model.specs.Text.{Line, lineEnd, space, linesOf, aheadOfLine, fieldsOf, aheadOfField, headingOf}
+use lib.ListN.{length}
+use Rattle.model.specs.Text.{lineEnd, space, linesOf, aheadOfLine, fieldsOf, aheadOfField, headingOf}
 use Rattle.model.specs.Text as text
-use Rattle.model.specs.Rows.{Row, rowOf}
-use Rattle.sheet.specs.Scan.{firstLine, behindLine, firstField, behindField, isMark, behindByte, Parts, three, other, partsOf}
+use Rattle.model.specs.Rows.{rowOf}
+use Rattle.sheet.specs.Scan.{firstLine, behindLine, firstField, behindField, behindByte, Parts, three, other, partsOf}
 use Rattle.sheet.specs.Fields.{columnsNamed, rowNamed}
 
 -- a text that is not empty is its first line and the lines behind it

@@ -1,18 +1,16 @@
 -- What the heading's code finds is what the heading says. Assumes nothing.
-use Prim.Native.Nat.{ℕ, zero, suc, _+_, _-_, _≤_, _<_}
+use Prim.Native.Nat.{ℕ, _+_, _-_, _≤_, _<_}
 use native.Mathlib.Omega.{arith}
-use mathlib.Core.Path.{_≡_, refl, sym, _∙_, ap, subst}
-use mathlib.Core.Bool.{Bool, true, false, not, cond}
-use mathlib.Core.List.{List, [], _∷_}
-use mathlib.Core.Option.{Option, none, some}
+use mathlib.Core.Path.{_≡_, refl, sym, _∙_, subst}
+use mathlib.Core.Bool.{Bool, true, false}
+use mathlib.Core.List.{List}
 use borrow.Author.Tests.{lt-ltb, le-ltb}
-use lib.Dec.{eqb, ltb}
-use lib.ListN.{length, drop, getD}
+use lib.ListN.{length, drop}
 use lib.Seq.{slice}
 use Rattle.model.specs.Bounded.{same}
 use Rattle.model.specs.Text.{ascii, placeOf, columnsOf, areColumns, headingOf}
-use Rattle.sheet.specs.Scan.{firstLine, behindLine, partsOf}
-use Rattle.sheet.specs.Fields.{InText, bytesOf, Cut, fieldsIn, spanOf, SplitAs, partsIn, CutFrom, Onward, Below, columnsNamed, HeadingIn, HeadingAs, headingFrom, NamedIn, NamedFrom}
+use Rattle.sheet.specs.Scan.{firstLine}
+use Rattle.sheet.specs.Fields.{InText, bytesOf, Cut, fieldsIn, spanOf, SplitAs, Onward, columnsNamed, HeadingIn, HeadingAs, headingFrom, NamedFrom}
 use Rattle.sheet.specs.declared.fields.Span.{Span}
 use Rattle.sheet.specs.declared.fields.Cuts.{Cuts}
 use Rattle.sheet.specs.declared.fields.Split.{Split}

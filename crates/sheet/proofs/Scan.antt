@@ -1,21 +1,21 @@
 -- Laws of the scan: one step of each twin at a position of the text. Assumes nothing.
-use Prim.Native.Nat.{ℕ, zero, suc, _+_, _-_, _*_, _≤_, _<_}
+use Prim.Native.Nat.{ℕ, suc, _+_, _-_, _*_, _≤_, _<_}
 use native.Mathlib.Numerals.{add-one}
 use native.Mathlib.Omega.{arith}
 use mathlib.Core.Path.{_≡_, refl, sym, _∙_, ap}
 use native.Mathlib.Nat.{add-zero}
 use mathlib.Core.Logic.{_⊎_, inl, inr, ⊎-elim}
-use mathlib.Core.Bool.{Bool, true, false, cond, _&&_, _||_}
+use mathlib.Core.Bool.{Bool, true, false, _&&_}
 use mathlib.Core.List.{List, [], _∷_, _++_, append-assoc}
-use mathlib.Core.Option.{Option, none, some}
-use borrow.Author.Tests.{lt-ltb, le-ltb, le-leb, lt-leb, eq-eqb, ne-eqb, leb-true, leb-false}
+use mathlib.Core.Option.{none, some}
+use borrow.Author.Tests.{le-leb, lt-leb, eq-eqb, ne-eqb, leb-true, leb-false}
 use lib.Dec.{eqb, leb}
-use lib.ListN.{length, take, drop, getD, drop-of-length-le, length-drop, length-take}
+use lib.ListN.{length, take, drop, getD, drop-of-length-le, length-take}
 use lib.Seq.{slice, drop-cons, take-suc, slice-empty, slice-cons, length-slice, drop-append-le}
 use Rattle.model.specs.Limits.{numberMost}
 use Rattle.model.specs.Text.{lineEnd, space, digitsOnly, decimal, wellBegun, numberOf}
 use Rattle.model.specs.Bounded.{same}
-use Rattle.sheet.specs.Scan.{firstField, behindField, isMark, beginsWith, behindByte, numeral}
+use Rattle.sheet.specs.Scan.{firstField, behindField, isMark, beginsWith, numeral}
 use Rattle.sheet.specs.Fields.{FieldEnd}
 
 -- a slice grows by a byte at its end

@@ -1,18 +1,17 @@
 -- Laws of the spans: what the cuts of a line say of its fields. Assumes nothing.
-use Prim.Native.Nat.{ℕ, zero, suc, _+_, _-_, _≤_, _<_}
+use Prim.Native.Nat.{ℕ, zero, suc, _+_, _≤_, _<_}
 use native.Mathlib.Numerals.{add-one}
 use native.Mathlib.Omega.{arith}
 use mathlib.Core.Path.{_≡_, refl, sym, _∙_, ap, subst}
-use mathlib.Core.Logic.{_⊎_, inl, inr, ⊎-elim}
-use mathlib.Core.Bool.{Bool, true, false, not, cond}
+use mathlib.Core.Bool.{Bool, true, false, not}
 use mathlib.Core.List.{List, [], _∷_}
 use borrow.Author.Tests.{eq-eqb, ne-eqb, ltb-true, ltb-false, eqb-true, not-true, not-false}
 use lib.Dec.{eqb, ltb}
 use lib.ListN.{length, drop, getD, drop-of-length-le}
-use lib.Seq.{slice, drop-cons}
+use lib.Seq.{drop-cons}
 use Rattle.model.proofs.Bounded.{not-both}
 use Rattle.model.specs.Text.{lineEnd, space}
-use Rattle.sheet.specs.Scan.{firstField, behindField, beginsWith, behindByte, Parts, three, other, partsOf}
+use Rattle.sheet.specs.Scan.{behindField, beginsWith, behindByte, Parts, three, other, partsOf}
 use Rattle.sheet.specs.Fields.{FieldEnd, InText, bytesOf, Cut, fieldsIn, spanOf, SplitAs}
 use Rattle.sheet.specs.declared.fields.Span.{Span}
 use Rattle.sheet.specs.declared.fields.Cuts.{Cuts}

@@ -5,31 +5,29 @@ use native.Mathlib.Nat.{add-zero, zero-add, sub-zero}
 use native.Mathlib.Numerals.{add-one}
 use native.Mathlib.Omega.{arith}
 use mathlib.Core.Path.{_≡_, refl, sym, _∙_, ap, subst}
-use mathlib.Core.Bool.{Bool, true, false, not, cond, _&&_}
+use mathlib.Core.Bool.{Bool, true, false, not, cond}
 use mathlib.Core.List.{List, [], _∷_, _++_}
-use mathlib.Core.Option.{Option, none, some}
-use borrow.Author.Tests.{lt-ltb, le-ltb, eq-eqb, ne-eqb, not-true, not-false}
-use lib.Dec.{eqb, ltb}
-use lib.ListN.{length, getD, drop, take, set, replicate, length-set, length-replicate, drop-of-length-le}
+use mathlib.Core.Option.{none, some}
+use borrow.Author.Tests.{lt-ltb, le-ltb, ne-eqb, not-true, not-false}
+use lib.ListN.{length, getD, drop, set, replicate, length-set, length-replicate, drop-of-length-le}
 use lib.Seq.{drop-cons, getD-set-same, getD-set-other}
-use Rattle.model.specs.Limits.{sheets, rowsMost, messagesMost}
+use Rattle.model.specs.Limits.{rowsMost, messagesMost}
 use Rattle.model.specs.Refusal.{Out, ok, refusal, rowRefusal, placeRefusal, absentRefusal}
 use Rattle.model.specs.Text.{Line, linesOf}
 use Rattle.model.specs.Text as text
 use Rattle.model.specs.Rows.{Row, rowOf}
 use Rattle.model.specs.Place.{lineOf}
-use Rattle.sheet.specs.Bridge.{rowFrom, rowsAt, rowsOf}
+use Rattle.sheet.specs.Bridge.{rowFrom, rowsAt}
 use Rattle.sheet.specs.Scan.{firstLine, behindLine}
-use Rattle.sheet.specs.Fields.{Onward, columnsFrom, RowAs, readingFrom}
+use Rattle.sheet.specs.Fields.{Onward, RowAs, readingFrom}
 use Rattle.sheet.specs.Stand.{Stand, isOpen, standOf, stoodAt, placedAs, PlaceAs, judgedBy, Kept, aheadOf, readFrom}
-use Rattle.sheet.specs.Store.{Store, storeOf, Sized, rowsIn, stepAs, Stepped, StepAs, keptOf, RowsAs, isStray, strayIn, verdictOn, completeIn}
+use Rattle.sheet.specs.Store.{Store, storeOf, Sized, rowsIn, StepAs, RowsAs, isStray, strayIn, verdictOn, completeIn}
 use Rattle.sheet.specs.declared.place.Placed.{Placed}
 use Rattle.sheet.specs.declared.place.Placed.the-variants.{Messages, Nowhere}
 use Rattle.sheet.specs.declared.rows.Reading.{Reading}
 use Rattle.sheet.specs.declared.rows.Reading.the-variants as reading
 use Rattle.sheet.specs.declared.rows.Step.{Step}
 use Rattle.sheet.specs.declared.rows.Step.the-variants.{Next, Refused}
-use Rattle.sheet.specs.declared.Verdict.{Verdict}
 use Rattle.sheet.specs.declared.Verdict.the-variants as verdict
 use Rattle.sheet.proofs.Lines.{lines-cons}
 

@@ -1,25 +1,25 @@
 -- The whole reading: the rows behind the heading, complete, and the text. Assumes nothing.
-use Prim.Native.Nat.{ℕ, zero, suc, _+_, _≤_, _<_}
+use Prim.Native.Nat.{ℕ, zero, suc, _≤_, _<_}
 use Prim.Native.Char.{code}
 use native.Mathlib.Omega.{arith}
 use mathlib.Core.Path.{_≡_, refl, sym, _∙_, ap, subst}
-use mathlib.Core.Bool.{Bool, true, false, not, cond, _&&_}
-use mathlib.Core.List.{List, [], _∷_}
+use mathlib.Core.Bool.{Bool, true, false, not, cond}
+use mathlib.Core.List.{List, _∷_}
 use mathlib.Core.Option.{Option, none, some}
-use borrow.Author.Tests.{lt-ltb, le-ltb, le-leb, lt-leb, eqb-true}
-use lib.Dec.{eqb, ltb, leb}
+use borrow.Author.Tests.{lt-ltb, le-leb, lt-leb, eqb-true}
+use lib.Dec.{eqb}
 use lib.ListN.{length, getD, drop, replicate}
 use Rattle.model.specs.Limits.{textMost, rowsMost, sheets}
 use Rattle.model.specs.Refusal.{Out, ok, refusal, andThen, lengthRefusal, headingRefusal, absentRefusal}
 use Rattle.model.specs.Text.{linesOf, headingOf}
 use Rattle.model.specs.Text as text
 use Rattle.model.specs.Rows.{Row}
-use Rattle.model.specs.Place.{lineOf, outside, rowsFrom, complete, bodyOf, readOf}
+use Rattle.model.specs.Place.{lineOf, bodyOf, readOf}
 use Rattle.sheet.specs.Bridge.{rowFrom, rowsAt, rowsOf, outcomeOf, startsOf, ReadAs}
 use Rattle.sheet.specs.Scan.{firstLine, behindLine}
 use Rattle.sheet.specs.Fields.{columnsFrom, headingFrom, HeadingAs, Onward, Below}
 use Rattle.sheet.specs.Stand.{isOpen, Kept, readFrom, fresh, strayFrom, completed}
-use Rattle.sheet.specs.Store.{Store, storeOf, Sized, rowsIn, keptOf, RowsAs, isStray, strayIn, verdictOn, completeIn, BodyAs}
+use Rattle.sheet.specs.Store.{storeOf, Sized, keptOf, RowsAs, isStray, strayIn, verdictOn, completeIn, BodyAs}
 use Rattle.sheet.specs.declared.heading.Columns.{Columns}
 use Rattle.sheet.specs.declared.heading.Heading.{Heading}
 use Rattle.sheet.specs.declared.heading.Heading.the-variants.{Named, Unnamed}

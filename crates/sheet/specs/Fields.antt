@@ -1,13 +1,13 @@
 -- The reader's spans, numbers, columns and rows, as the model's lists. Assumes nothing.
-use Prim.Native.Nat.{ℕ, zero, suc, _+_, _≤_, _<_}
+use Prim.Native.Nat.{ℕ, _+_, _≤_, _<_}
 use mathlib.Core.Path.{_≡_}
-use mathlib.Core.Bool.{Bool, true, false, cond}
+use mathlib.Core.Bool.{cond}
 use mathlib.Core.List.{List, [], _∷_}
 use mathlib.Core.Option.{Option, none, some}
 use lib.Dec.{eqb}
 use lib.ListN.{length, drop, getD}
 use lib.Seq.{slice}
-use Rattle.model.specs.Text.{Line, headingOf, columnsOf, areColumns, numberOf}
+use Rattle.model.specs.Text.{headingOf, columnsOf, areColumns, numberOf}
 use Rattle.model.specs.Text as text
 use Rattle.model.specs.Rows.{fromFields, rowOf}
 use Rattle.model.specs.Rows as rows

@@ -7,7 +7,7 @@ ghost use lib.Seq.{slice};
 ghost use Rattle.model.specs.Bounded.{same};
 ghost use Rattle.model.specs.Text.{numberOf};
 ghost use Rattle.sheet.specs.Scan.{beginsWith, numeral};
-ghost use Rattle.sheet.specs.Fields.{FieldEnd, InText, bytesOf, Cut, spanOf, SplitAs, numberFrom};
+ghost use Rattle.sheet.specs.Fields.{FieldEnd, InText, bytesOf, spanOf, SplitAs, numberFrom};
 
 // Byte 10 ends a line, and byte 32 stands between two fields.
 pub const LINE_END: u8 = 10;

@@ -1,5 +1,4 @@
 -- `place::placed_if` meets its contract. Assumes nothing.
-use borrow.Author.Needs.{needs}
 use Rattle.sheet.proofs.place.placed_if.Statement.{statement}
 use Rattle.sheet.proofs.place.placed_if.Tie as tie
 

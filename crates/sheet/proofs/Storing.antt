@@ -26,6 +26,7 @@ use Rattle.sheet.specs.declared.place.Placed.{Placed}
 use Rattle.sheet.specs.declared.place.Placed.the-variants.{Messages, Nowhere}
 use Rattle.sheet.specs.declared.rows.Reading.{Reading}
 use Rattle.sheet.specs.declared.rows.Reading.the-variants as reading
+use Rattle.sheet.specs.declared.rows.Position.{Position}
 use Rattle.sheet.specs.declared.rows.Step.{Step}
 use Rattle.sheet.specs.declared.rows.Step.the-variants.{Next, Refused}
 use Rattle.sheet.specs.declared.Verdict.the-variants as verdict
@@ -72,57 +73,62 @@ module _ (c : text.Columns) (i : ℕ) (s : Stand) (l : Line) where
   unfolding judgedBy
   judged-placed r q h e f = rw (lt-ltb i rowsMost h, e, f, judgedBy)
 
-module _ (c : text.Columns) (text : List ℕ) (at row messages : ℕ) (kind one two start boards : List ℕ) where
-  line : Line
-  line = firstLine (drop at text)
-
-  pub step-full : rowsMost ≤ row
-      → StepAs c text at row messages (storeOf kind one two start) (storeOf kind one two start) boards boards (Refused rowRefusal)
+module _ (c : text.Columns) (text : List ℕ) (here : Position) (kind one two start boards : List ℕ) where
+  pub step-full : rowsMost ≤ here .row
+      → StepAs c text here (storeOf kind one two start) (storeOf kind one two start) boards boards (Refused rowRefusal)
   step-full h =
-      record { step = sym (judged-full c row (standOf start boards messages) (firstLine (drop at text)) h); rows = refl; on = tt }
-
-  pub step-malformed : (r : Reading) → RowAs c text at r → r ≡ reading.Malformed → row < rowsMost
-      → StepAs c text at row messages (storeOf kind one two start) (storeOf kind one two start) boards boards (Refused rowRefusal)
-  step-malformed r p e h =
       record {
-        step = sym (judged-malformed c row (standOf start boards messages) (firstLine (drop at text)) h (sym (p .row) ∙ ap readingFrom e));
+        step = sym (judged-full c (here .row) (standOf start boards (here .messages)) (firstLine (drop (here .at) text)) h);
         rows = refl;
         on = tt;
       }
 
-  module _ (r : Reading) (k a b next : ℕ) (p : RowAs c text at r) (e : r ≡ reading.Row k a b next) (h : row < rowsMost)
-      (q : Placed) (start′ boards′ : List ℕ) (f : PlaceAs row (standOf start boards messages) (rowFrom k a b) start′ boards′ q) where
-    row-is : rowOf c (firstLine (drop at text)) ≡ some (rowFrom k a b)
+  pub step-malformed : (r : Reading) → RowAs c text (here .at) r → r ≡ reading.Malformed → here .row < rowsMost
+      → StepAs c text here (storeOf kind one two start) (storeOf kind one two start) boards boards (Refused rowRefusal)
+  step-malformed r p e h =
+      record {
+        step = sym (judged-malformed c (here .row) (standOf start boards (here .messages)) (firstLine (drop (here .at) text)) h (sym (p .row) ∙ ap readingFrom e));
+        rows = refl;
+        on = tt;
+      }
+
+  module _ (r : Reading) (k a b next : ℕ) (p : RowAs c text (here .at) r) (e : r ≡ reading.Row k a b next) (h : here .row < rowsMost)
+      (q : Placed) (start′ boards′ : List ℕ)
+      (f : PlaceAs (here .row) (standOf start boards (here .messages)) (rowFrom k a b) start′ boards′ q) where
+    row-is : rowOf c (firstLine (drop (here .at) text)) ≡ some (rowFrom k a b)
     row-is = sym (p .row) ∙ ap readingFrom e
 
-    row-next : Onward text at next
+    row-next : Onward text (here .at) next
     row-next =
-        let p′ : RowAs c text at (reading.Row k a b next) = subst (λ (x : Reading). RowAs c text at x) e p in
+        let p′ : RowAs c text (here .at) (reading.Row k a b next) = subst (λ (x : Reading). RowAs c text (here .at) x) e p in
         p′ .next
 
     pub step-nowhere : q ≡ Nowhere
-        → StepAs c text at row messages (storeOf kind one two start) (storeOf kind one two start′) boards boards′ (Refused placeRefusal)
+        → StepAs c text here (storeOf kind one two start) (storeOf kind one two start′) boards boards′ (Refused placeRefusal)
     step-nowhere g =
         record {
-          step = sym (judged-nowhere c row (standOf start boards messages) (firstLine (drop at text)) (rowFrom k a b) h row-is
+          step = sym (judged-nowhere c (here .row) (standOf start boards (here .messages)) (firstLine (drop (here .at) text)) (rowFrom k a b) h row-is
               (sym (f .stand) ∙ ap (λ (x : Placed). placedAs x start′ boards′) g));
           rows = refl;
           on = tt;
         }
 
     pub step-stored : (after : ℕ) → q ≡ Messages after → Sized (storeOf kind one two start)
-        → StepAs c text at row messages (storeOf kind one two start)
-        (storeOf (set kind row k) (set one row a) (set two row b) start′) boards boards′ (Next next after)
+        → StepAs c text here (storeOf kind one two start)
+        (storeOf (set kind (here .row) k) (set one (here .row) a) (set two (here .row) b) start′) boards boards′
+        (Next (record { at = next; row = here .row + 1; messages = after }))
     step-stored after g z =
-        let f′ : PlaceAs row (standOf start boards messages) (rowFrom k a b) start′ boards′ (Messages after) =
-        subst (λ (x : Placed). PlaceAs row (standOf start boards messages) (rowFrom k a b) start′ boards′ x) g f in
+        let row : ℕ = here .row in
+        let f′ : PlaceAs row (standOf start boards (here .messages)) (rowFrom k a b) start′ boards′ (Messages after) =
+        subst (λ (x : Placed). PlaceAs row (standOf start boards (here .messages)) (rowFrom k a b) start′ boards′ x) g f in
         record {
-          step = sym (judged-placed c row (standOf start boards messages) (firstLine (drop at text)) (rowFrom k a b) (standOf start′ boards′ after) h row-is
+          step = sym (judged-placed c row (standOf start boards (here .messages)) (firstLine (drop (here .at) text)) (rowFrom k a b) (standOf start′ boards′ after) h row-is
               (sym (f′ .stand))
               ∙ rw (getD-set-same kind row k 0 (omega (arith, z .kind)), getD-set-same one row a 0 (omega (arith, z .one)), getD-set-same two row b 0 (omega (arith, z .two))));
           rows = rows-set kind one two row k a b 0 row (omega arith);
           on = record {
             onward = row-next;
+            row = refl;
             room = h;
             few = f′ .few;
             sized = record {
@@ -156,17 +162,17 @@ ahead-all [] starts = refl
 ahead-all (r ∷ rs) starts = ap (aheadOf r) (ahead-all rs starts)
 
 -- the loop over the rows: those read, and where the reader stands
-pub record Looping (c : text.Columns) (text : List ℕ) (first at row messages : ℕ) (s₀ s : Store) (boards : List ℕ) : Type 0 where
-  pub inside : at ≤ length text
-  pub few : messages ≤ messagesMost
-  pub count : row ≤ rowsMost
+pub record Looping (c : text.Columns) (text : List ℕ) (first : ℕ) (here : Position) (s₀ s : Store) (boards : List ℕ) : Type 0 where
+  pub inside : here .at ≤ length text
+  pub few : here .messages ≤ messagesMost
+  pub count : here .row ≤ rowsMost
   pub sized : Sized s
   pub allBoards : length boards ≡ 2 * messagesMost
   pub read : readFrom c 0 (record { starts = s₀ .start; events = [] }) (linesOf (drop first text))
-      ≡ aheadAll (rowsIn s row) (readFrom c row (standOf (s .start) boards messages) (linesOf (drop at text)))
+      ≡ aheadAll (rowsIn s (here .row)) (readFrom c (here .row) (standOf (s .start) boards (here .messages)) (linesOf (drop (here .at) text)))
 
 pub loop-begin : (c : text.Columns) (text : List ℕ) (first : ℕ) (s : Store) → first ≤ length text → Sized s
-    → Looping c text first first 0 0 s s (replicate (2 * messagesMost) 0)
+    → Looping c text first (record { at = first; row = 0; messages = 0 }) s s (replicate (2 * messagesMost) 0)
 unfolding aheadAll rowsAt
 loop-begin c text first s h z =
     record { inside = h; few = omega arith; count = omega arith; sized = z; allBoards = length-replicate {A = ℕ} (2 * messagesMost) 0; read = refl }
@@ -186,59 +192,60 @@ read-refused : (c : text.Columns) (i : ℕ) (s : Stand) (l : Line) (ls : List Li
 unfolding readFrom
 read-refused c i s l ls number line′ e = rw (← e, readFrom)
 
-module _ (c : text.Columns) (text : List ℕ) (first at row messages : ℕ) (s₀ s s′ : Store) (boards boards′ : List ℕ) (r : Step)
-    (p : StepAs c text at row messages s s′ boards boards′ r) (v : Looping c text first at row messages s₀ s boards) (h : at < length text) where
-  pub loop-refused : (number : ℕ) → r ≡ Refused number → RowsAs c text first s₀ s′ (verdict.Refused number (row + 2))
+module _ (c : text.Columns) (text : List ℕ) (first : ℕ) (here : Position) (s₀ s s′ : Store) (boards boards′ : List ℕ) (r : Step)
+    (p : StepAs c text here s s′ boards boards′ r) (v : Looping c text first here s₀ s boards) (h : here .at < length text) where
+  pub loop-refused : (number : ℕ) → r ≡ Refused number → RowsAs c text first s₀ s′ (verdict.Refused number (here .row + 2))
   loop-refused number e =
-      let p′ : StepAs c text at row messages s s′ boards boards′ (Refused number) =
-      subst (λ (x : Step). StepAs c text at row messages s s′ boards boards′ x) e p in
+      let p′ : StepAs c text here s s′ boards boards′ (Refused number) = subst (λ (x : Step). StepAs c text here s s′ boards boards′ x) e p in
       record {
         kept = sym (v .read
-            ∙ ap (λ (ls : List Line). aheadAll (rowsIn s row) (readFrom c row (standOf (s .start) boards messages) ls)) (lines-at text at h)
-            ∙ ap (aheadAll (rowsIn s row)) (read-refused c row _ _ _ number (lineOf row) (p′ .step))
-            ∙ ahead-refused (rowsIn s row) number (lineOf row));
+            ∙ ap (λ (ls : List Line). aheadAll (rowsIn s (here .row)) (readFrom c (here .row) (standOf (s .start) boards (here .messages)) ls)) (lines-at text (here .at) h)
+            ∙ ap (aheadAll (rowsIn s (here .row))) (read-refused c (here .row) _ _ _ number (lineOf (here .row)) (p′ .step))
+            ∙ ahead-refused (rowsIn s (here .row)) number (lineOf (here .row)));
         on = tt;
       }
 
-  module _ (next after : ℕ) (e : r ≡ Next next after) where
-    stepped : StepAs c text at row messages s s′ boards boards′ (Next next after)
-    stepped = subst (λ (x : Step). StepAs c text at row messages s s′ boards boards′ x) e p
+  module _ (next : Position) (e : r ≡ Next next) where
+    stepped : StepAs c text here s s′ boards boards′ (Next next)
+    stepped = subst (λ (x : Step). StepAs c text here s s′ boards boards′ x) e p
 
-    pub loop-further : length text - next < length text - at
+    pub loop-further : length text - next .at < length text - here .at
     loop-further = omega (arith, stepped .on .onward .further, stepped .on .onward .inside)
 
-    pub loop-more : Looping c text first next (row + 1) after s₀ s′ boards′
+    pub loop-more : Looping c text first next s₀ s′ boards′
     loop-more =
         let on = stepped .on in
-        let here : List Row = rowsIn s row in
+        let row : ℕ = here .row in
+        let past : List Row = rowsIn s row in
         let new : Row = rowFrom (getD (s′ .kind) row 0) (getD (s′ .one) row 0) (getD (s′ .two) row 0) in
-        let rest : Out Kept = readFrom c (suc row) (standOf (s′ .start) boards′ after) (linesOf (drop next text)) in
-        let one : aheadAll here (readFrom c row (standOf (s .start) boards messages) (linesOf (drop at text))) ≡ aheadAll here (aheadOf new rest) =
-        ap (aheadAll here)
-        (ap (readFrom c row (standOf (s .start) boards messages)) (lines-at text at h)
-        ∙ read-ok c row _ _ _ new (standOf (s′ .start) boards′ after) (stepped .step)
-        ∙ ap (λ (l : List ℕ). aheadOf new (readFrom c (suc row) (standOf (s′ .start) boards′ after) (linesOf l))) (sym (on .onward .behind))) in
-        let all : rowsIn s′ (suc row) ≡ here ++ (new ∷ []) =
+        let q : Stand = standOf (s′ .start) boards′ (next .messages) in
+        let rest : Out Kept = readFrom c (suc row) q (linesOf (drop (next .at) text)) in
+        let one : aheadAll past (readFrom c row (standOf (s .start) boards (here .messages)) (linesOf (drop (here .at) text))) ≡ aheadAll past (aheadOf new rest) =
+        ap (aheadAll past)
+        (ap (readFrom c row (standOf (s .start) boards (here .messages))) (lines-at text (here .at) h)
+        ∙ read-ok c row _ _ _ new q (stepped .step)
+        ∙ ap (λ (l : List ℕ). aheadOf new (readFrom c (suc row) q (linesOf l))) (sym (on .onward .behind))) in
+        let all : rowsIn s′ (suc row) ≡ past ++ (new ∷ []) =
         rows-snoc (s′ .kind) (s′ .one) (s′ .two) 0 row
         ∙ rw (zero-add row) (ap (λ (l : List Row). l ++ (new ∷ [])) (stepped .rows)) in
         record {
           inside = on .onward .inside;
           few = on .few;
-          count = omega (arith, on .room);
+          count = omega (arith, on .room, on .row);
           sized = on .sized;
           allBoards = on .allBoards;
-          read = rw add-one (v .read ∙ one ∙ sym (ahead-snoc here new rest) ∙ ap (λ (l : List Row). aheadAll l rest) (sym all));
+          read = rw (on .row ∙ add-one row) (v .read ∙ one ∙ sym (ahead-snoc past new rest) ∙ ap (λ (l : List Row). aheadAll l rest) (sym all));
         }
 
-pub loop-done : (c : text.Columns) (text : List ℕ) (first at row messages : ℕ) (s₀ s : Store) (boards : List ℕ)
-    → Looping c text first at row messages s₀ s boards → length text ≤ at → RowsAs c text first s₀ s (verdict.Rows row)
+pub loop-done : (c : text.Columns) (text : List ℕ) (first : ℕ) (here : Position) (s₀ s : Store) (boards : List ℕ)
+    → Looping c text first here s₀ s boards → length text ≤ here .at → RowsAs c text first s₀ s (verdict.Rows (here .row))
 unfolding readFrom linesOf
-loop-done c text first at row messages s₀ s boards v h =
-    let d : drop at text ≡ [] = drop-of-length-le text h in
+loop-done c text first here s₀ s boards v h =
+    let d : drop (here .at) text ≡ [] = drop-of-length-le text h in
     record {
       kept = sym (v .read
-          ∙ ap (λ (l : List ℕ). aheadAll (rowsIn s row) (readFrom c row (standOf (s .start) boards messages) (linesOf l))) d
-          ∙ ahead-all (rowsIn s row) (s .start));
+          ∙ ap (λ (l : List ℕ). aheadAll (rowsIn s (here .row)) (readFrom c (here .row) (standOf (s .start) boards (here .messages)) (linesOf l))) d
+          ∙ ahead-all (rowsIn s (here .row)) (s .start));
       on = (v .count, v .sized);
     }
 

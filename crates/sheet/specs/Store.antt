@@ -1,6 +1,6 @@
 -- The reader's columns, table and boards together, and what each of its functions does with them, as the twins say it.
 -- Assumes nothing.
-use Prim.Native.Nat.{ℕ, zero, suc, _*_, _≤_, _<_}
+use Prim.Native.Nat.{ℕ, zero, suc, _+_, _*_, _≤_, _<_}
 use Prim.Native.Char.{code}
 use mathlib.Core.Path.{_≡_}
 use mathlib.Core.Bool.{Bool, not, cond, _&&_}
@@ -17,6 +17,7 @@ use Rattle.sheet.specs.Bridge.{rowFrom, rowsOf, outcomeOf, startsOf}
 use Rattle.sheet.specs.Scan.{firstLine}
 use Rattle.sheet.specs.Fields.{Onward}
 use Rattle.sheet.specs.Stand.{Stand, isOpen, standOf, judgedBy, Kept, readFrom, fresh, completed}
+use Rattle.sheet.specs.declared.rows.Position.{Position}
 use Rattle.sheet.specs.declared.rows.Step.{Step}
 use Rattle.sheet.specs.declared.rows.Step.the-variants.{Next, Refused}
 use Rattle.sheet.specs.declared.Verdict.{Verdict}
@@ -44,26 +45,27 @@ rowsIn s count = rowsOf (s .kind) (s .one) (s .two) count
 
 -- one row read and stored, or refused
 abbrev pub stepAs : Step → ℕ → Store → List ℕ → Out (Row × Stand)
-stepAs (Next next after) row s boards =
-    ok (rowFrom (getD (s .kind) row 0) (getD (s .one) row 0) (getD (s .two) row 0), standOf (s .start) boards after)
+stepAs (Next next) row s boards =
+    ok (rowFrom (getD (s .kind) row 0) (getD (s .one) row 0) (getD (s .two) row 0), standOf (s .start) boards (next .messages))
 stepAs (Refused number) row s boards = refusal number (lineOf row)
 
 -- where a row was stored, the next one begins behind it, and all is as long as it was
-pub record Stepped (text : List ℕ) (at row next after : ℕ) (s : Store) (boards : List ℕ) : Type 0 where
-  pub onward : Onward text at next
-  pub room : row < rowsMost
-  pub few : after ≤ messagesMost
+pub record Stepped (text : List ℕ) (here next : Position) (s : Store) (boards : List ℕ) : Type 0 where
+  pub onward : Onward text (here .at) (next .at)
+  pub row : next .row ≡ here .row + 1
+  pub room : here .row < rowsMost
+  pub few : next .messages ≤ messagesMost
   pub sized : Sized s
   pub allBoards : length boards ≡ 2 * messagesMost
 
-abbrev pub StepOn : List ℕ → ℕ → ℕ → Store → List ℕ → Step → Type 0
-StepOn text at row s boards (Next next after) = Stepped text at row next after s boards
-StepOn text at row s boards (Refused number) = Unit {0}
+abbrev pub StepOn : List ℕ → Position → Store → List ℕ → Step → Type 0
+StepOn text here s boards (Next next) = Stepped text here next s boards
+StepOn text here s boards (Refused number) = Unit {0}
 
-pub record StepAs (c : Columns) (text : List ℕ) (at row messages : ℕ) (s s′ : Store) (boards boards′ : List ℕ) (r : Step) : Type 0 where
-  pub step : stepAs r row s′ boards′ ≡ judgedBy c row (standOf (s .start) boards messages) (firstLine (drop at text))
-  pub rows : rowsIn s′ row ≡ rowsIn s row
-  pub on : StepOn text at row s′ boards′ r
+pub record StepAs (c : Columns) (text : List ℕ) (here : Position) (s s′ : Store) (boards boards′ : List ℕ) (r : Step) : Type 0 where
+  pub step : stepAs r (here .row) s′ boards′ ≡ judgedBy c (here .row) (standOf (s .start) boards (here .messages)) (firstLine (drop (here .at) text))
+  pub rows : rowsIn s′ (here .row) ≡ rowsIn s (here .row)
+  pub on : StepOn text here s′ boards′ r
 
 -- all rows read and stored, or one refused
 abbrev pub keptOf : Verdict → Store → Out Kept

@@ -30,9 +30,16 @@ pub enum Reading {
     Malformed,
 }
 
-// Where the next row begins and the messages of the open block; or the refusal's number.
+// Where the reader is: the row's place in the text and its number, and the messages of the open block.
+pub struct Position {
+    pub at: usize,
+    pub row: usize,
+    pub messages: usize,
+}
+
+// The position behind a row; or the refusal's number.
 pub enum Step {
-    Next(usize, usize),
+    Next(Position),
     Refused(u8),
 }
 
@@ -96,35 +103,38 @@ pub fn is_formed(kind: u8, one: u8, two: u8) -> bool
     false
 }
 
-// Reads row `row` at `at`, and stores it.
+// Reads the row that the reader is at, and stores it.
 pub fn take_row(
     text: &[u8],
-    at: usize,
+    here: Position,
     columns: Columns,
-    row: usize,
-    messages: usize,
     kind: &mut [u8; ROWS_MOST],
     one: &mut [u8; ROWS_MOST],
     two: &mut [u8; ROWS_MOST],
     start: &mut [u16; SHEETS],
     boards: &mut [u8; EVENTS_MOST],
 ) -> Step
-    requires { ⌜ (at ≤ length (now text)) × Below columns × (messages ≤ messagesMost) × Sized (storeOf (now kind) (now one) (now two) (now start)) × (length (now boards) ≡ 2 * messagesMost) ⌝ }
-    ensures { λ r. ⌜ StepAs (columnsFrom columns) (now (text .entry)) at row messages (storeOf (now (kind .entry)) (now (one .entry)) (now (two .entry)) (now (start .entry))) (storeOf (now (kind .exit)) (now (one .exit)) (now (two .exit)) (now (start .exit))) (now (boards .entry)) (now (boards .exit)) r ⌝ }
+    requires { ⌜ (here .at ≤ length (now text)) × Below columns × (here .messages ≤ messagesMost) × Sized (storeOf (now kind) (now one) (now two) (now start)) × (length (now boards) ≡ 2 * messagesMost) ⌝ }
+    ensures { λ r. ⌜ StepAs (columnsFrom columns) (now (text .entry)) here (storeOf (now (kind .entry)) (now (one .entry)) (now (two .entry)) (now (start .entry))) (storeOf (now (kind .exit)) (now (one .exit)) (now (two .exit)) (now (start .exit))) (now (boards .entry)) (now (boards .exit)) r ⌝ }
 {
+    let row = here.row;
     if ROWS_MOST <= row {
         return Step::Refused(ROW);
     }
-    let Reading::Row(k, a, b, next) = row_at(text, at, columns) else {
+    let Reading::Row(k, a, b, at) = row_at(text, here.at, columns) else {
         return Step::Refused(ROW);
     };
-    let Placed::Messages(after) = place::place(row, k, a, b, messages, start, boards) else {
+    let Placed::Messages(messages) = place::place(row, k, a, b, here.messages, start, boards) else {
         return Step::Refused(PLACE);
     };
     kind[row] = k;
     one[row] = a;
     two[row] = b;
-    Step::Next(next, after)
+    Step::Next(Position {
+        at,
+        row: row + 1,
+        messages,
+    })
 }
 
 // All rows from `first` on.
@@ -141,34 +151,23 @@ pub fn rows(
     ensures { λ r. ⌜ RowsAs (columnsFrom columns) (now (text .entry)) first (storeOf (now (kind .entry)) (now (one .entry)) (now (two .entry)) (now (start .entry))) (storeOf (now (kind .exit)) (now (one .exit)) (now (two .exit)) (now (start .exit))) r ⌝ }
 {
     let mut boards = [0u8; EVENTS_MOST];
-    let mut at = first;
-    let mut row = 0;
-    let mut messages = 0;
-    while at < text.len() {
-        let s = take_row(
-            text,
-            at,
-            columns,
-            row,
-            messages,
-            kind,
-            one,
-            two,
-            start,
-            &mut boards,
-        );
+    let mut here = Position {
+        at: first,
+        row: 0,
+        messages: 0,
+    };
+    while here.at < text.len() {
+        let s = take_row(text, here, columns, kind, one, two, start, &mut boards);
         match s {
             Step::Refused(number) => {
-                return Verdict::Refused(number, row + 2);
+                return Verdict::Refused(number, here.row + 2);
             }
-            Step::Next(next, after) => {
-                at = next;
-                messages = after;
-                row += 1;
+            Step::Next(next) => {
+                here = next;
             }
         }
     }
-    Verdict::Rows(row)
+    Verdict::Rows(here.row)
 }
 
 // Row i calls a sheet that is not there.

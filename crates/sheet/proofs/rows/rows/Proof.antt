@@ -9,11 +9,11 @@ use Rattle.sheet.proofs.rows.rows.Statement.{statement}
 use Rattle.sheet.proofs.rows.rows.Tie as tie
 
 abbrev Inv-loop : tie.InvT-loop
-Inv-loop text first columns kind₀ one₀ two₀ start₀ boards₀ at₀ row₀ messages₀ kind one two start boards at row messages =
-    Looping (columnsFrom columns) text first at row messages (storeOf kind₀ one₀ two₀ start₀) (storeOf kind one two start) boards
+Inv-loop text first columns kind₀ one₀ two₀ start₀ boards₀ here₀ kind one two start boards here =
+    Looping (columnsFrom columns) text first here (storeOf kind₀ one₀ two₀ start₀) (storeOf kind one two start) boards
 
 abbrev μ-loop : tie.MeasureT-loop
-μ-loop text first columns kind₀ one₀ two₀ start₀ boards₀ at₀ row₀ messages₀ kind one two start boards at row messages = length text - at
+μ-loop text first columns kind₀ one₀ two₀ start₀ boards₀ here₀ kind one two start boards here = length text - here .at
 
 loop-holds : tie.Need-loop-holds Inv-loop μ-loop
 loop-holds c = search loop-begin
@@ -24,17 +24,14 @@ take-row-requires c κs = search needs
 enum-known-s : tie.Need-enum-known-s Inv-loop μ-loop
 enum-known-s c = search needs
 
-add-t23 : tie.Need-add-t23 Inv-loop μ-loop
-add-t23 c = search needs
+add-t20 : tie.Need-add-t20 Inv-loop μ-loop
+add-t20 c = search needs
 
 returns : tie.Need-returns Inv-loop μ-loop
 returns c = search loop-refused
 
 enum-known-s-2 : tie.Need-enum-known-s-2 Inv-loop μ-loop
 enum-known-s-2 c = search needs
-
-add-row : tie.Need-add-row Inv-loop μ-loop
-add-row c = search needs
 
 loop-less : tie.Need-loop-less Inv-loop μ-loop
 loop-less c = search loop-further
@@ -54,10 +51,9 @@ rows-spec =
     loop-holds
     take-row-requires
     enum-known-s
-    add-t23
+    add-t20
     returns
     enum-known-s-2
-    add-row
     loop-less
     loop-again
     returns-2)

@@ -5,7 +5,7 @@ use Rattle.sheet.proofs.rows.take_row.Statement.{statement}
 use Rattle.sheet.proofs.rows.take_row.Tie as tie
 
 returns : tie.Need-returns
-returns c = search step-full
+returns c = search (step-full, needs)
 
 row-at-requires : tie.Need-row-at-requires
 row-at-requires c κs = search needs
@@ -17,19 +17,19 @@ enum-told : tie.Need-enum-told
 enum-told c = search needs
 
 returns-2 : tie.Need-returns-2
-returns-2 c = search step-malformed
+returns-2 c = search (step-malformed, needs)
 
 place-requires : tie.Need-place-requires
 place-requires c κs = search needs
 
-enum-known-after : tie.Need-enum-known-after
-enum-known-after c = search needs
+enum-known-messages : tie.Need-enum-known-messages
+enum-known-messages c = search needs
 
 enum-told-2 : tie.Need-enum-told-2
 enum-told-2 c = search needs
 
 returns-3 : tie.Need-returns-3
-returns-3 c = search step-nowhere
+returns-3 c = search (step-nowhere, needs)
 
 element-write-kind : tie.Need-element-write-kind
 element-write-kind c = search needs
@@ -40,8 +40,11 @@ element-write-one c = search needs
 element-write-two : tie.Need-element-write-two
 element-write-two c = search needs
 
+add-t26 : tie.Need-add-t26
+add-t26 c = search needs
+
 returns-4 : tie.Need-returns-4
-returns-4 c = search step-stored
+returns-4 c = search (step-stored, needs)
 
 pub take-row-spec : {M : Type 1} → statement M
 take-row-spec =
@@ -53,10 +56,11 @@ take-row-spec =
     enum-told
     returns-2
     place-requires
-    enum-known-after
+    enum-known-messages
     enum-told-2
     returns-3
     element-write-kind
     element-write-one
     element-write-two
+    add-t26
     returns-4)

@@ -1,3 +1,4 @@
+pub mod Bridge
 pub mod Scan
 pub mod Spans
 pub mod Lines

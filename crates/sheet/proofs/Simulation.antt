@@ -1,5 +1,5 @@
 -- The twin's reading, with its table of starts, is the model's, with its list of opened sheets. Assumes nothing.
-use Prim.Native.Nat.{ℕ, zero, suc, _+_, _<_}
+use Prim.Native.Nat.{ℕ, suc, _+_, _<_}
 use native.Mathlib.Nat.{zero-add}
 use native.Mathlib.Omega.{arith}
 use mathlib.Core.Path.{_≡_, refl, sym, _∙_, ap, subst}
@@ -17,9 +17,9 @@ use Rattle.model.specs.Text.{Line, Columns}
 use Rattle.model.specs.Rows.{Row, sheet, message, order, block, call, rowOf}
 use Rattle.model.specs.Place.{Place, outside, messageFits, orderFits, moved, isSheet, placed, lineOf, judged, rowsFrom, opens, strayCall, complete}
 use Rattle.model.specs.Expansion.{startOf}
-use Rattle.model.specs.Order.{cells}
 use Rattle.model.proofs.Bounded.{and-left, and-right, not-both}
 use Rattle.sheet.specs.Bridge.{startIn, startsOf}
+use Rattle.sheet.proofs.Bridge.{cells-length, start-at}
 use Rattle.sheet.specs.Stand.{Stand, isOpen, mayOpen, movedTo, stoodAt, judgedBy, Kept, aheadOf, readFrom, fresh, strayFrom, completed}
 
 or-true : (b : Bool) → (b || true) ≡ true
@@ -326,17 +326,6 @@ starts-at : (rs : List Row) (n : ℕ) → startAfter 0 (replicate sheets 0) rs n
 unfolding startAfter startIn
 starts-at rs n = rw (fresh-open n, zero-add (startOf n rs))
 
-cells-length : (n : ℕ) (f : ℕ → ℕ) → length (cells n f) ≡ n
-unfolding cells
-cells-length zero f = refl
-cells-length (suc n) f = ap suc (cells-length n (λ k. f (suc k)))
-
-pub cells-at : (n : ℕ) (f : ℕ → ℕ) (i : ℕ) → i < n → getD (cells n f) i 0 ≡ f i
-unfolding cells
-cells-at zero f i h = absurd (omega arith)
-cells-at (suc n) f zero h = refl
-cells-at (suc n) f (suc i) h = cells-at n (λ k. f (suc k)) i (omega arith)
-
 module _ (k : Kept) (f : Finals 0 (replicate sheets 0) (ok k)) where
   long : length (k .starts) ≡ sheets
   unfolding Finals
@@ -349,7 +338,7 @@ module _ (k : Kept) (f : Finals 0 (replicate sheets 0) (ok k)) where
   starts-of : k .starts ≡ startsOf (k .rows)
   starts-of =
       ext-getD 0 (k .starts) (startsOf (k .rows)) (long ∙ sym (cells-length sheets (startIn (k .rows))))
-      (λ i h. start-is i ∙ sym (cells-at sheets (startIn (k .rows)) i (rw long at h)))
+      (λ i h. start-is i ∙ sym (start-at (k .rows) i (rw long at h)))
 
   some-start : (rs : List Row) (n : ℕ) → among n (opens rs) ≡ true → startOf n rs ≡ 0 → ⊥
   unfolding among opens startOf

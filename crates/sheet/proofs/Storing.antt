@@ -17,11 +17,11 @@ use Rattle.model.specs.Text.{Line, linesOf}
 use Rattle.model.specs.Text as text
 use Rattle.model.specs.Rows.{Row, rowOf}
 use Rattle.model.specs.Place.{lineOf}
-use Rattle.sheet.specs.Bridge.{rowFrom, rowsAt}
+use Rattle.sheet.specs.Bridge.{rowFrom, rowsAt, Store, storeOf, Sized}
 use Rattle.sheet.specs.Scan.{firstLine, behindLine}
 use Rattle.sheet.specs.Fields.{Onward, RowAs, readingFrom}
 use Rattle.sheet.specs.Stand.{Stand, isOpen, standOf, stoodAt, placedAs, PlaceAs, judgedBy, Kept, aheadOf, readFrom}
-use Rattle.sheet.specs.Store.{Store, storeOf, Sized, rowsIn, StepAs, RowsAs, isStray, strayIn, verdictOn, completeIn}
+use Rattle.sheet.specs.Store.{rowsIn, StepAs, RowsAs, isStray, strayIn, verdictOn, completeIn}
 use Rattle.sheet.specs.declared.place.Placed.{Placed}
 use Rattle.sheet.specs.declared.place.Placed.the-variants.{Messages, Nowhere}
 use Rattle.sheet.specs.declared.rows.Reading.{Reading}

@@ -15,11 +15,11 @@ use Rattle.model.specs.Text.{linesOf, headingOf}
 use Rattle.model.specs.Text as text
 use Rattle.model.specs.Rows.{Row}
 use Rattle.model.specs.Place.{lineOf, bodyOf, readOf}
-use Rattle.sheet.specs.Bridge.{rowFrom, rowsAt, rowsOf, outcomeOf, startsOf, ReadAs}
+use Rattle.sheet.specs.Bridge.{rowFrom, rowsAt, rowsOf, outcomeOf, startsOf, storeOf, Sized, KeptOn, ReadAs}
 use Rattle.sheet.specs.Scan.{firstLine, behindLine}
 use Rattle.sheet.specs.Fields.{columnsFrom, headingFrom, HeadingAs, Onward, Below}
 use Rattle.sheet.specs.Stand.{isOpen, Kept, readFrom, fresh, strayFrom, completed}
-use Rattle.sheet.specs.Store.{storeOf, Sized, keptOf, RowsAs, isStray, strayIn, verdictOn, completeIn, BodyAs}
+use Rattle.sheet.specs.Store.{keptOf, RowsAs, isStray, strayIn, verdictOn, completeIn, BodyAs}
 use Rattle.sheet.specs.declared.heading.Columns.{Columns}
 use Rattle.sheet.specs.declared.heading.Heading.{Heading}
 use Rattle.sheet.specs.declared.heading.Heading.the-variants.{Named, Unnamed}
@@ -65,6 +65,16 @@ complete-in kind one two starts count = rw (stray-in kind one two starts count 0
     go true (some line) = refl
     go false o = refl
 
+complete-kept : (kind one two start : List ℕ) (count : ℕ) → (count ≤ rowsMost) × Sized (storeOf kind one two start)
+    → KeptOn (storeOf kind one two start) (completeIn kind one start count)
+unfolding completeIn verdictOn
+complete-kept kind one two start count h = go (isOpen start 0) (strayIn kind one start 0 count)
+  where
+    go : (t : Bool) (o : Option ℕ) → KeptOn (storeOf kind one two start) (cond t (verdictOn o count) (Refused absentRefusal 0))
+    go true none = h
+    go true (some line) = tt
+    go false o = tt
+
 completed-rows : (k : Kept) (rs : List Row) → completed k ≡ ok rs → k .rows ≡ rs
 unfolding completed
 completed-rows k rs = go (isOpen (k .starts) 0) (strayFrom (k .starts) 0 (k .rows))
@@ -87,11 +97,17 @@ module _ (c : text.Columns) (text : List ℕ) (first : ℕ) (kind₀ one₀ two�
       let q : refusal number line ≡ readFrom c 0 fresh (linesOf (drop first text)) =
       ap (λ (x : Verdict). keptOf x (storeOf kind one two start)) (sym e) ∙ p .kept in
       let o : andThen (readFrom c 0 fresh (linesOf (drop first text))) completed ≡ refusal number line = rw (← q) in
-      record { outcome = sym o; starts = λ rs h. no-rows _ number line rs o h }
+      record { outcome = sym o; starts = λ rs h. no-rows _ number line rs o h; kept = tt }
 
   module _ (count : ℕ) (e : v ≡ Rows count) where
     body-kept : readFrom c 0 fresh (linesOf (drop first text)) ≡ ok (record { rows = rowsOf kind one two count; starts = start })
     body-kept = sym (p .kept) ∙ ap (λ (x : Verdict). keptOf x (storeOf kind one two start)) e
+
+    body-on : (count ≤ rowsMost) × Sized (storeOf kind one two start)
+    body-on =
+        let p′ : RowsAs c text first (storeOf kind₀ one₀ two₀ (replicate sheets 0)) (storeOf kind one two start) (Rows count) =
+        subst (λ (x : Verdict). RowsAs c text first (storeOf kind₀ one₀ two₀ (replicate sheets 0)) (storeOf kind one two start) x) e p in
+        p′ .on
 
     pub body-complete : (r : Verdict) → r ≡ completeIn kind one start count → BodyAs c text first (storeOf kind one two start) r
     unfolding andThen
@@ -101,13 +117,8 @@ module _ (c : text.Columns) (text : List ℕ) (first : ℕ) (kind₀ one₀ two�
         record {
           outcome = ap (λ (x : Verdict). outcomeOf x kind one two) h ∙ complete-in kind one two start count ∙ sym o;
           starts = λ rs g. starts-same c (linesOf (drop first text)) k body-kept ∙ ap startsOf (completed-rows k rs (sym o ∙ g));
+          kept = subst (λ (x : Verdict). KeptOn (storeOf kind one two start) x) (sym h) (complete-kept kind one two start count body-on);
         }
-
-    body-on : (count ≤ rowsMost) × Sized (storeOf kind one two start)
-    body-on =
-        let p′ : RowsAs c text first (storeOf kind₀ one₀ two₀ (replicate sheets 0)) (storeOf kind one two start) (Rows count) =
-        subst (λ (x : Verdict). RowsAs c text first (storeOf kind₀ one₀ two₀ (replicate sheets 0)) (storeOf kind one two start) x) e p in
-        p′ .on
 
     pub body-count : count ≤ rowsMost
     body-count = body-on .0
@@ -118,7 +129,7 @@ module _ (c : text.Columns) (text : List ℕ) (first : ℕ) (kind₀ one₀ two�
 -- the text: its length, its heading, and the rows behind
 module _ (text kind one two start : List ℕ) where
   refused-as : (number line : ℕ) → readOf text ≡ refusal number line → ReadAs text kind one two start (Refused number line)
-  refused-as number line e = record { outcome = sym e; starts = λ rs h. no-rows (readOf text) number line rs e h }
+  refused-as number line e = record { outcome = sym e; starts = λ rs h. no-rows (readOf text) number line rs e h; kept = tt }
 
   pub read-empty : length text ≡ 0 → ReadAs text kind one two start (Refused lengthRefusal 0)
   unfolding readOf
@@ -149,7 +160,7 @@ module _ (text kind one two start : List ℕ) where
         let r : readOf text ≡ andThen (readFrom (columnsFrom c) 0 fresh (linesOf (drop first text))) completed =
         read-body ∙ rw (q, bodyOf) (read-same (columnsFrom c) (linesOf (behindLine text))
         ∙ ap (λ (l : List ℕ). andThen (readFrom (columnsFrom c) 0 fresh (linesOf l)) completed) (sym (p′ .named .0 .behind))) in
-        record { outcome = b .outcome ∙ sym r; starts = λ rs g. b .starts rs (sym r ∙ g) }
+        record { outcome = b .outcome ∙ sym r; starts = λ rs g. b .starts rs (sym r ∙ g); kept = b .kept }
 
 rows-begin : (text : List ℕ) (h : Heading) (c : Columns) (first : ℕ) → HeadingAs text h → h ≡ Named c first → Onward text 0 first × Below c
 rows-begin text h c first p e =

@@ -1,13 +1,13 @@
 -- From the reader's data to the model: three columns are rows, a table says where each sheet starts, a verdict is an outcome.
 -- Assumes nothing.
-use Prim.Native.Nat.{ℕ, zero, suc}
+use Prim.Native.Nat.{ℕ, zero, suc, _≤_}
 use Prim.Native.Char.{code}
 use mathlib.Core.Path.{_≡_}
 use mathlib.Core.Bool.{cond}
 use mathlib.Core.List.{List, [], _∷_}
 use lib.Dec.{eqb}
-use lib.ListN.{getD}
-use Rattle.model.specs.Limits.{sheets}
+use lib.ListN.{length, getD}
+use Rattle.model.specs.Limits.{sheets, rowsMost}
 use Rattle.model.specs.Bounded.{among}
 use Rattle.model.specs.Refusal.{Out, ok, refusal}
 use Rattle.model.specs.Rows.{Row, sheet, message, order, block, call}
@@ -45,7 +45,29 @@ abbrev pub outcomeOf : Verdict → List ℕ → List ℕ → List ℕ → Out (L
 outcomeOf (Rows count) kind one two = ok (rowsOf kind one two count)
 outcomeOf (Refused number line) kind one two = refusal number line
 
+-- the columns and the table of starts together, and each with its length
+pub record Store : Type 0 where
+  pub kind : List ℕ
+  pub one : List ℕ
+  pub two : List ℕ
+  pub start : List ℕ
+
+abbrev pub storeOf : List ℕ → List ℕ → List ℕ → List ℕ → Store
+storeOf kind one two start = record { kind = kind; one = one; two = two; start = start }
+
+pub record Sized (s : Store) : Type 0 where
+  pub kind : length (s .kind) ≡ rowsMost
+  pub one : length (s .one) ≡ rowsMost
+  pub two : length (s .two) ≡ rowsMost
+  pub start : length (s .start) ≡ sheets
+
+-- where there are rows, there are at most 512, and all has kept its length
+abbrev pub KeptOn : Store → Verdict → Type 0
+KeptOn s (Rows count) = (count ≤ rowsMost) × Sized s
+KeptOn s (Refused number line) = Unit {0}
+
 -- The verdict is the paper's, and where there are rows the table has the start of each sheet.
 pub record ReadAs (text kind one two start : List ℕ) (v : Verdict) : Type 0 where
   pub outcome : outcomeOf v kind one two ≡ readOf text
   pub starts : (rs : List Row) → readOf text ≡ ok rs → start ≡ startsOf rs
+  pub kept : KeptOn (storeOf kind one two start) v

@@ -24,7 +24,7 @@ pub record Stand : Type 0 where
 unfoldable pub isOpen : List ℕ → ℕ → Bool
 isOpen starts n = not (eqb (getD starts n 0) 0)
 
--- row i may open sheet n
+-- sheet n may be opened
 unfoldable pub mayOpen : List ℕ → ℕ → Bool
 mayOpen starts n = ltb n sheets && not (isOpen starts n)
 

@@ -1,4 +1,4 @@
--- The reader's columns, table and boards together, and what each of its functions does with them, as the twins say it.
+-- What each function of the reader does with the columns, the table and the boards, as the twins say it.
 -- Assumes nothing.
 use Prim.Native.Nat.{ℕ, zero, suc, _+_, _*_, _≤_, _<_}
 use Prim.Native.Char.{code}
@@ -8,12 +8,12 @@ use mathlib.Core.List.{List, []}
 use mathlib.Core.Option.{Option, none, some}
 use lib.Dec.{eqb}
 use lib.ListN.{length, getD, drop}
-use Rattle.model.specs.Limits.{sheets, rowsMost, messagesMost}
+use Rattle.model.specs.Limits.{rowsMost, messagesMost}
 use Rattle.model.specs.Refusal.{Out, ok, refusal, andThen, absentRefusal}
 use Rattle.model.specs.Text.{Columns, linesOf}
 use Rattle.model.specs.Rows.{Row}
 use Rattle.model.specs.Place.{lineOf}
-use Rattle.sheet.specs.Bridge.{rowFrom, rowsOf, outcomeOf, startsOf}
+use Rattle.sheet.specs.Bridge.{rowFrom, rowsOf, outcomeOf, startsOf, Store, Sized, KeptOn}
 use Rattle.sheet.specs.Scan.{firstLine}
 use Rattle.sheet.specs.Fields.{Onward}
 use Rattle.sheet.specs.Stand.{Stand, isOpen, standOf, judgedBy, Kept, readFrom, fresh, completed}
@@ -22,23 +22,6 @@ use Rattle.sheet.specs.declared.rows.Step.{Step}
 use Rattle.sheet.specs.declared.rows.Step.the-variants.{Next, Refused}
 use Rattle.sheet.specs.declared.Verdict.{Verdict}
 use Rattle.sheet.specs.declared.Verdict.the-variants as verdict
-
--- the columns, and the table of starts
-pub record Store : Type 0 where
-  pub kind : List ℕ
-  pub one : List ℕ
-  pub two : List ℕ
-  pub start : List ℕ
-
-abbrev pub storeOf : List ℕ → List ℕ → List ℕ → List ℕ → Store
-storeOf kind one two start = record { kind = kind; one = one; two = two; start = start }
-
--- each has its length
-pub record Sized (s : Store) : Type 0 where
-  pub kind : length (s .kind) ≡ rowsMost
-  pub one : length (s .one) ≡ rowsMost
-  pub two : length (s .two) ≡ rowsMost
-  pub start : length (s .start) ≡ sheets
 
 abbrev pub rowsIn : Store → ℕ → List Row
 rowsIn s count = rowsOf (s .kind) (s .one) (s .two) count
@@ -72,10 +55,6 @@ abbrev pub keptOf : Verdict → Store → Out Kept
 keptOf (verdict.Rows count) s = ok (record { rows = rowsIn s count; starts = s .start })
 keptOf (verdict.Refused number line) s = refusal number line
 
-abbrev pub KeptOn : Store → Verdict → Type 0
-KeptOn s (verdict.Rows count) = (count ≤ rowsMost) × Sized s
-KeptOn s (verdict.Refused number line) = Unit {0}
-
 pub record RowsAs (c : Columns) (text : List ℕ) (first : ℕ) (s s′ : Store) (v : Verdict) : Type 0 where
   pub kept : keptOf v s′ ≡ readFrom c 0 (record { starts = s .start; events = [] }) (linesOf (drop first text))
   pub on : KeptOn s′ v
@@ -102,3 +81,4 @@ completeIn kind one starts count =
 pub record BodyAs (c : Columns) (text : List ℕ) (first : ℕ) (s : Store) (v : Verdict) : Type 0 where
   pub outcome : outcomeOf v (s .kind) (s .one) (s .two) ≡ andThen (readFrom c 0 fresh (linesOf (drop first text))) completed
   pub starts : (rs : List Row) → andThen (readFrom c 0 fresh (linesOf (drop first text))) completed ≡ ok rs → s .start ≡ startsOf rs
+  pub kept : KeptOn s v

@@ -20,9 +20,9 @@ ghost use Prim.Native.Nat.{_*_, _≤_, _<_};
 ghost use lib.ListN.{length, getD};
 ghost use Rattle.model.specs.Limits.{sheets, rowsMost, messagesMost};
 ghost use Rattle.model.specs.Rows.{formed};
-ghost use Rattle.sheet.specs.Bridge.{rowFrom};
+ghost use Rattle.sheet.specs.Bridge.{rowFrom, storeOf, Sized};
 ghost use Rattle.sheet.specs.Fields.{Cut, Below, columnsFrom, RowAs, RowIn};
-ghost use Rattle.sheet.specs.Store.{storeOf, Sized, StepAs, RowsAs, isStray, completeIn, BodyAs};
+ghost use Rattle.sheet.specs.Store.{StepAs, RowsAs, isStray, completeIn, BodyAs};
 
 // A row's kind and numbers, and where the next one begins.
 pub enum Reading {

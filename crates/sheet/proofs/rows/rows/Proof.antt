@@ -3,7 +3,7 @@ use borrow.Author.Needs.{needs}
 use Prim.Native.Nat.{_-_}
 use lib.ListN.{length}
 use Rattle.sheet.specs.Fields.{columnsFrom}
-use Rattle.sheet.specs.Store.{storeOf}
+use Rattle.sheet.specs.Bridge.{storeOf}
 use Rattle.sheet.proofs.Storing.{Looping, loop-begin, loop-refused, loop-further, loop-more, loop-done}
 use Rattle.sheet.proofs.rows.rows.Statement.{statement}
 use Rattle.sheet.proofs.rows.rows.Tie as tie

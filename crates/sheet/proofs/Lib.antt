@@ -1,4 +1,5 @@
 pub mod Bridge
+pub mod Accepted
 pub mod Scan
 pub mod Spans
 pub mod Lines

@@ -1,17 +1,19 @@
 -- `place::add_message` meets its contract. Assumes nothing.
 use Rattle.sheet.proofs.Standing.{no-source, no-target, no-room, message-fits}
+use mathlib.Core.Path.{refl}
+use native.Mathlib.Omega.{arith}
 use borrow.Author.Needs.{needs}
 use Rattle.sheet.proofs.place.add_message.Statement.{statement}
 use Rattle.sheet.proofs.place.add_message.Tie as tie
 
 returns : tie.Need-returns
-returns c = search (no-source, needs)
+returns c = (no-source _ _ (c .before .pre .0) (c .before .pre .1) _ _ (omega arith), refl)
 
 returns-2 : tie.Need-returns-2
-returns-2 c = search (no-target, needs)
+returns-2 c = (no-target _ _ (c .before .before .pre .0) (c .before .before .pre .1) _ _ (omega arith) (omega arith), refl)
 
 returns-3 : tie.Need-returns-3
-returns-3 c = search (no-room, needs)
+returns-3 c = (no-room _ _ (c .before .before .before .pre .0) (c .before .before .before .pre .1) _ _ (omega arith) (omega arith) (omega arith), refl)
 
 mul-send : tie.Need-mul-send
 mul-send c = search needs

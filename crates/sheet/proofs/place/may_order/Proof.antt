@@ -1,5 +1,6 @@
 -- `place::may_order` meets its contract. Assumes nothing.
 use Rattle.sheet.proofs.Standing.{no-first, no-second, no-two-events, order-fits}
+use native.Mathlib.Omega.{arith}
 use borrow.Author.Needs.{needs}
 use Rattle.sheet.proofs.place.may_order.Statement.{statement}
 use Rattle.sheet.proofs.place.may_order.Tie as tie
@@ -8,13 +9,13 @@ mul-events : tie.Need-mul-events
 mul-events c = search needs
 
 returns : tie.Need-returns
-returns c = search (no-first, needs)
+returns c = no-first _ _ (c .before .pre .0) (c .before .pre .1) _ _ (omega arith)
 
 returns-2 : tie.Need-returns-2
-returns-2 c = search (no-second, needs)
+returns-2 c = no-second _ _ (c .before .before .pre .0) (c .before .before .pre .1) _ _ (omega arith) (omega arith)
 
 returns-3 : tie.Need-returns-3
-returns-3 c = search (no-two-events, needs)
+returns-3 c = no-two-events _ _ (c .before .before .before .pre .0) (c .before .before .before .pre .1) _ _ (omega arith) (omega arith) (omega arith)
 
 element-copy-out-result : tie.Need-element-copy-out-result
 element-copy-out-result c = search needs

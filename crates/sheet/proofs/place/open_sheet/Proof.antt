@@ -1,11 +1,13 @@
 -- `place::open_sheet` meets its contract. Assumes nothing.
 use Rattle.sheet.proofs.Standing.{may-not-beyond, may-not-again, may-open}
+use mathlib.Core.Path.{refl}
+use native.Mathlib.Omega.{arith}
 use borrow.Author.Needs.{needs}
 use Rattle.sheet.proofs.place.open_sheet.Statement.{statement}
 use Rattle.sheet.proofs.place.open_sheet.Tie as tie
 
 returns : tie.Need-returns
-returns c = search (may-not-beyond, needs)
+returns c = (may-not-beyond _ _ (search needs) (omega arith), refl)
 
 mul-if2 : tie.Need-mul-if2
 mul-if2 c = search needs
@@ -14,7 +16,7 @@ element-copy-out-if2 : tie.Need-element-copy-out-if2
 element-copy-out-if2 c = search needs
 
 returns-2 : tie.Need-returns-2
-returns-2 c = search (may-not-again, needs)
+returns-2 c = (may-not-again _ _ (search needs) (omega arith) (λ e. omega arith), refl)
 
 add-start : tie.Need-add-start
 add-start c = search needs

@@ -1,11 +1,12 @@
 -- `rows::take_row` meets its contract. Assumes nothing.
 use Rattle.sheet.proofs.Storing.{step-full, step-malformed, step-nowhere, step-stored}
+use native.Mathlib.Omega.{arith}
 use borrow.Author.Needs.{needs}
 use Rattle.sheet.proofs.rows.take_row.Statement.{statement}
 use Rattle.sheet.proofs.rows.take_row.Tie as tie
 
 returns : tie.Need-returns
-returns c = search (step-full, needs)
+returns c = step-full _ _ _ _ _ _ _ _ (omega arith)
 
 row-at-requires : tie.Need-row-at-requires
 row-at-requires c κs = search needs
@@ -17,7 +18,7 @@ enum-told : tie.Need-enum-told
 enum-told c = search needs
 
 returns-2 : tie.Need-returns-2
-returns-2 c = search (step-malformed, needs)
+returns-2 c = search step-malformed
 
 place-requires : tie.Need-place-requires
 place-requires c κs = search needs
@@ -29,7 +30,7 @@ enum-told-2 : tie.Need-enum-told-2
 enum-told-2 c = search needs
 
 returns-3 : tie.Need-returns-3
-returns-3 c = search (step-nowhere, needs)
+returns-3 c = search step-nowhere
 
 element-write-kind : tie.Need-element-write-kind
 element-write-kind c = search needs
@@ -44,7 +45,7 @@ add-t26 : tie.Need-add-t26
 add-t26 c = search needs
 
 returns-4 : tie.Need-returns-4
-returns-4 c = search (step-stored, needs)
+returns-4 c = search step-stored
 
 pub take-row-spec : {M : Type 1} → statement M
 take-row-spec =

@@ -1,0 +1,7 @@
+mod Passed
+mod Added
+mod Sim
+mod SimMessage
+mod SimOrder
+mod Twin
+mod Scenarios

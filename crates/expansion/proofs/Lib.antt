@@ -5,3 +5,4 @@ mod SimMessage
 mod SimOrder
 mod Twin
 mod Scenarios
+mod Turns

@@ -6,3 +6,4 @@ mod SimOrder
 mod Twin
 mod Scenarios
 mod Turns
+mod Parts

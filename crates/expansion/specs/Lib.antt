@@ -1,3 +1,4 @@
 pub mod Bridge
 pub mod Store
 pub mod Room
+pub mod Outcome

@@ -2,12 +2,14 @@
 use relation::WIDTH;
 
 ghost use mathlib.Core.Path.{_≡_};
-ghost use Prim.Native.Nat.{_*_, _<_};
+ghost use Prim.Native.Nat.{_-_, _*_, _<_};
 ghost use lib.ListN.{length};
 ghost use Rattle.model.specs.Limits.{boards as boardsMost, messagesMost};
 ghost use Rattle.relation.specs.Width.{width};
 ghost use Rattle.expansion.specs.Store.{zeros, seated, added, passed};
+ghost use Rattle.expansion.specs.Bridge.{rowFrom};
 ghost use Rattle.expansion.specs.Room.{storeOf, Room};
+ghost use Rattle.expansion.specs.Outcome.{stateOf, Opens, Leaves, Stands, rowMet, callEntered};
 
 // How far a walk is: calls made, the number of the open block's first message, and messages met.
 pub struct Walk {
@@ -30,6 +32,18 @@ impl Walk {
             count: 0,
         }
     }
+}
+
+// So many messages are in boards and words; or the refusal's number and line.
+pub enum Expanded {
+    Messages(usize),
+    Refused(u8, usize),
+}
+
+// What a part of the walk leaves: the walk, or the refusal's number and line.
+enum Walked {
+    Going(Walk),
+    Stopped(u8, usize),
 }
 
 // Every event is on board 0, and none is met.
@@ -72,4 +86,74 @@ fn close_block(boards: &[u8], words: &[u64], past: &mut [u64], first: usize, cou
         relation::join_from(past, board, words, e);
         relation::mark(past, board, e);
     }
+}
+
+// The next block is open: the one before it is closed, and begins where it ended.
+fn open_block(boards: &[u8], words: &[u64], past: &mut [u64], walk: Walk) -> Walk
+    requires { ⌜ Room (walk .first) (walk .count) (storeOf (now boards) (now words) (now past)) ⌝ }
+    ensures { λ r. ⌜ Opens r (storeOf (now (boards .entry)) (now (words .entry)) (now (past .exit))) (stateOf walk (storeOf (now (boards .entry)) (now (words .entry)) (now (past .entry)))) ⌝ }
+{
+    let count = walk.count;
+    close_block(boards, words, past, walk.first, count);
+    Walk {
+        calls: walk.calls,
+        first: count,
+        count,
+    }
+}
+
+// A row of a block: a message, a P row, or the next block. Refusal 10 at message 129.
+fn row_met(
+    letter: u8,
+    one: usize,
+    two: usize,
+    line: usize,
+    boards: &mut [u8],
+    words: &mut [u64],
+    past: &mut [u64],
+    walk: Walk,
+) -> Walked
+    requires { ⌜ Room (walk .first) (walk .count) (storeOf (now boards) (now words) (now past)) ⌝ }
+    requires { ⌜ Stands (2 * (walk .count - walk .first)) (rowFrom letter one two) ⌝ }
+    ensures { λ r. ⌜ Leaves r (storeOf (now (boards .exit)) (now (words .exit)) (now (past .exit))) (rowMet (rowFrom letter one two) line (stateOf walk (storeOf (now (boards .entry)) (now (words .entry)) (now (past .entry))))) ⌝ }
+{
+    let first = walk.first;
+    let count = walk.count;
+    if letter == b'M' {
+        if Walk::MESSAGES_MOST <= count {
+            return Walked::Stopped(model::MESSAGES, line);
+        }
+        add_message(boards, words, past, count, one, two);
+        return Walked::Going(Walk {
+            calls: walk.calls,
+            first,
+            count: count + 1,
+        });
+    }
+    if letter == b'P' {
+        let base = 2 * first;
+        relation::insert(words, base + one, base + two, base, 2 * count);
+        return Walked::Going(walk);
+    }
+    Walked::Going(open_block(boards, words, past, walk))
+}
+
+// A call with so many levels left: refusal 8 at level 8, else 9 at call 1,025, else the called sheet's first block is open.
+fn open_call(boards: &[u8], words: &[u64], past: &mut [u64], left: usize, line: usize, walk: Walk) -> Walked
+    requires { ⌜ Room (walk .first) (walk .count) (storeOf (now boards) (now words) (now past)) ⌝ }
+    ensures { λ r. ⌜ Leaves r (storeOf (now (boards .entry)) (now (words .entry)) (now (past .exit))) (callEntered left line (stateOf walk (storeOf (now (boards .entry)) (now (words .entry)) (now (past .entry))))) ⌝ }
+{
+    if left == 0 {
+        return Walked::Stopped(model::DEPTH, line);
+    }
+    let calls = walk.calls;
+    if Walk::CALLS_MOST <= calls {
+        return Walked::Stopped(model::CALLS, line);
+    }
+    let called = Walk {
+        calls: calls + 1,
+        first: walk.first,
+        count: walk.count,
+    };
+    Walked::Going(open_block(boards, words, past, called))
 }

@@ -7,3 +7,4 @@ mod Twin
 mod Scenarios
 mod Turns
 mod Parts
+mod Reading

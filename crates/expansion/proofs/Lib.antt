@@ -8,3 +8,4 @@ mod Scenarios
 mod Turns
 mod Parts
 mod Reading
+mod Walking

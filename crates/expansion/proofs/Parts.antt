@@ -100,6 +100,14 @@ module _ (a b line : ℕ) (s : Progress Store) where
 
 -- the letter says which row it is
 module _ (letter one two : ℕ) where
+  pub row-is-sheet : letter ≡ 83 → rowFrom letter one two ≡ sheet one
+  unfolding rowFrom
+  row-is-sheet e = rw e
+
+  pub row-is-call : letter ≡ 67 → rowFrom letter one two ≡ call one
+  unfolding rowFrom
+  row-is-call e = rw e
+
   row-is-message : letter ≡ 77 → rowFrom letter one two ≡ message one two
   unfolding rowFrom
   row-is-message e = rw e

@@ -20,7 +20,7 @@ use Rattle.model.specs.Place.{rowsFrom as rowsRead}
 use Rattle.model.specs.Expansion.{startOf}
 use Rattle.model.specs.Order.{cells}
 use Rattle.model.proofs.Refusal.{not-refused, and-then-ok, passed, cond-ok}
-use Rattle.model.proofs.Closure.{cells-at}
+use Rattle.model.proofs.Closure.{cells-length, cells-at}
 use Rattle.model.proofs.Standing.{Fits, read-fits}
 use Rattle.model.proofs.Walked.{OnOneBoard, message-parts, order-parts}
 use Rattle.expansion.specs.Bridge.{rowFrom, rowsAt, rowsOf, rowsFrom, startIn, startsOf, AreRead, RowsRead}
@@ -224,6 +224,9 @@ module _ (kind one two : List ℕ) (count : ℕ) (start : List ℕ) (lent : Rows
   pub start-at : (n : ℕ) → n < sheets → among n (opens file) ≡ true → getD start n 0 ≡ startOf n file
   unfolding startIn
   start-at n h a = ap (λ (l : List ℕ). getD l n 0) (lent .starts) ∙ cells-at sheets (startIn file) n 0 h ∙ rw a
+
+  pub start-long : length start ≡ sheets
+  start-long = ap length (lent .starts) ∙ cells-length sheets (startIn file)
 
   pub start-zero : getD start 0 0 ≡ startOf 0 file
   start-zero = start-at 0 (omega arith) (read-whole file (lent .read) .begins)

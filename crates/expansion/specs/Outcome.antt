@@ -8,10 +8,10 @@ use lib.Dec.{eqb, ltb}
 use lib.ListN.{getD}
 use Rattle.model.specs.Limits.{boards, messagesMost, sheets, callsMost}
 use Rattle.model.specs.Bounded.{among}
-use Rattle.model.specs.Refusal.{Out, ok, refusal, depthRefusal, callsRefusal, messagesRefusal}
+use Rattle.model.specs.Refusal.{Out, ok, refusal, andThen, depthRefusal, callsRefusal, messagesRefusal}
 use Rattle.model.specs.Rows.{Row, sheet, message, order, block, call}
-use Rattle.model.specs.Place.{opens}
-use Rattle.model.specs.Expansion.{Progress, blockOpened, callMade, messageMet, orderMet}
+use Rattle.model.specs.Place.{lineOf, opens}
+use Rattle.model.specs.Expansion.{Progress, blockOpened, callMade, messageMet, orderMet, walkRows, callAt}
 use Rattle.model.specs.Order.{Scenario}
 use Rattle.relation.specs.Scenario.{scenarioIn}
 use Rattle.expansion.specs.Store.{Store, storeOps}
@@ -64,6 +64,15 @@ unfoldable pub callEntered : ℕ → ℕ → Progress Store → Out (Progress St
 callEntered left line s =
     cond (eqb left 0) (refusal depthRefusal line)
     (cond (ltb (s .walk .calls) callsMost) (ok (blockOpened storeOps (callMade storeOps s))) (refusal callsRefusal line))
+
+-- the rows from row i on, walked with so many levels left; and the call at row i, with the block opened behind it
+abbrev pub rowsWalked : List ℕ → List ℕ → List ℕ → ℕ → ℕ → ℕ → Progress Store → Out (Progress Store)
+rowsWalked kind one two count left i s =
+    walkRows storeOps (callAt storeOps left (rowsOf kind one two count)) (rowsFrom kind one two count i) (lineOf i) s
+
+abbrev pub callWalked : List ℕ → List ℕ → List ℕ → ℕ → ℕ → ℕ → Progress Store → Out (Progress Store)
+callWalked kind one two count left i s =
+    andThen (callAt storeOps left (rowsOf kind one two count) (getD one i 0) (lineOf i) s) (λ s′. ok (blockOpened storeOps s′))
 
 -- a row of a block that has n events: its boards are boards, and its events are there
 abbrev pub Stands : ℕ → Row → Type 0

@@ -7,9 +7,9 @@ ghost use lib.ListN.{length};
 ghost use Rattle.model.specs.Limits.{boards as boardsMost, messagesMost};
 ghost use Rattle.relation.specs.Width.{width};
 ghost use Rattle.expansion.specs.Store.{zeros, seated, added, passed};
-ghost use Rattle.expansion.specs.Bridge.{rowFrom};
+ghost use Rattle.expansion.specs.Bridge.{rowFrom, RowsRead};
 ghost use Rattle.expansion.specs.Room.{storeOf, Room};
-ghost use Rattle.expansion.specs.Outcome.{stateOf, Opens, Leaves, Stands, rowMet, callEntered};
+ghost use Rattle.expansion.specs.Outcome.{stateOf, Opens, Leaves, Ready, Calls, Stands, rowMet, callEntered, rowsWalked, callWalked};
 
 // How far a walk is: calls made, the number of the open block's first message, and messages met.
 pub struct Walk {
@@ -45,6 +45,9 @@ enum Walked {
     Going(Walk),
     Stopped(u8, usize),
 }
+
+// The heading is line 1.
+const FIRST_LINE: usize = 2;
 
 // Every event is on board 0, and none is met.
 fn clear_boards(boards: &mut [u8])
@@ -156,4 +159,74 @@ fn open_call(boards: &[u8], words: &[u64], past: &mut [u64], left: usize, line: 
         count: walk.count,
     };
     Walked::Going(open_block(boards, words, past, called))
+}
+
+// The call at a row: its sheet is walked in full, one level down, and the next block opens behind it.
+fn walk_call(
+    kind: &[u8],
+    one: &[u8],
+    two: &[u8],
+    count: usize,
+    start: &[u16],
+    boards: &mut [u8],
+    words: &mut [u64],
+    past: &mut [u64],
+    left: usize,
+    row: usize,
+    walk: Walk,
+) -> Walked
+    requires { ⌜ RowsRead (now kind) (now one) (now two) count (now start) ⌝ }
+    requires { ⌜ Calls (now kind) (now one) (now two) count row (walk .first) (walk .count) (storeOf (now boards) (now words) (now past)) ⌝ }
+    ensures { λ r. ⌜ Leaves r (storeOf (now (boards .exit)) (now (words .exit)) (now (past .exit))) (callWalked (now (kind .entry)) (now (one .entry)) (now (two .entry)) count left row (stateOf walk (storeOf (now (boards .entry)) (now (words .entry)) (now (past .entry))))) ⌝ }
+{
+    let sheet = one[row] as usize;
+    let begin = start[sheet] as usize;
+    match open_call(boards, words, past, left, row + FIRST_LINE, walk) {
+        Walked::Stopped(number, line) => Walked::Stopped(number, line),
+        Walked::Going(opened) => {
+            match walk_rows(kind, one, two, count, start, boards, words, past, left - 1, begin, opened) {
+                Walked::Stopped(number, line) => Walked::Stopped(number, line),
+                Walked::Going(back) => Walked::Going(open_block(boards, words, past, back)),
+            }
+        }
+    }
+}
+
+// The rows of one sheet from a row on, in file order up to the next S row.
+fn walk_rows(
+    kind: &[u8],
+    one: &[u8],
+    two: &[u8],
+    count: usize,
+    start: &[u16],
+    boards: &mut [u8],
+    words: &mut [u64],
+    past: &mut [u64],
+    left: usize,
+    row: usize,
+    walk: Walk,
+) -> Walked
+    requires { ⌜ RowsRead (now kind) (now one) (now two) count (now start) ⌝ }
+    requires { ⌜ Ready (now kind) (now one) (now two) count row (walk .first) (walk .count) (storeOf (now boards) (now words) (now past)) ⌝ }
+    ensures { λ r. ⌜ Leaves r (storeOf (now (boards .exit)) (now (words .exit)) (now (past .exit))) (rowsWalked (now (kind .entry)) (now (one .entry)) (now (two .entry)) count left row (stateOf walk (storeOf (now (boards .entry)) (now (words .entry)) (now (past .entry))))) ⌝ }
+{
+    let mut at = row;
+    let mut here = walk;
+    while at < count {
+        let letter = kind[at];
+        if letter == b'S' {
+            return Walked::Going(here);
+        }
+        let met = if letter == b'C' {
+            walk_call(kind, one, two, count, start, boards, words, past, left, at, here)
+        } else {
+            row_met(letter, one[at] as usize, two[at] as usize, at + FIRST_LINE, boards, words, past, here)
+        };
+        match met {
+            Walked::Stopped(number, line) => return Walked::Stopped(number, line),
+            Walked::Going(next) => here = next,
+        }
+        at += 1;
+    }
+    Walked::Going(here)
 }

@@ -9,3 +9,4 @@ mod Turns
 mod Parts
 mod Reading
 mod Walking
+mod Whole

@@ -61,7 +61,7 @@ pub zeros-length : (n : ℕ) → length (zeros n) ≡ n
 unfolding zeros
 zeros-length n = length-replicate n 0
 
-zeros-at : (n k : ℕ) → getD (zeros n) k 0 ≡ 0
+pub zeros-at : (n k : ℕ) → getD (zeros n) k 0 ≡ 0
 unfolding zeros
 zeros-at n k =
     ⊎-elim

@@ -28,6 +28,10 @@ abbrev pub outcomeOf : Expanded → List ℕ → List ℕ → Out Scenario
 outcomeOf (Messages count) events words = ok (scenarioIn count events words)
 outcomeOf (Refused number line) events words = refusal number line
 
+-- a walk that has met nothing yet
+abbrev pub begun : Walk
+begun = record { calls = 0; first = 0; count = 0 }
+
 -- a walk, and what it has collected
 abbrev pub stateOf : Walk → Store → Progress Store
 stateOf w t = record { walk = record { calls = w .calls; first = w .first; count = w .count }; kept = t }

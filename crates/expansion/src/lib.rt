@@ -5,11 +5,12 @@ ghost use mathlib.Core.Path.{_≡_};
 ghost use Prim.Native.Nat.{_-_, _*_, _<_};
 ghost use lib.ListN.{length};
 ghost use Rattle.model.specs.Limits.{boards as boardsMost, messagesMost};
+ghost use Rattle.model.specs.Answer.{expandedOf};
 ghost use Rattle.relation.specs.Width.{width};
 ghost use Rattle.expansion.specs.Store.{zeros, seated, added, passed};
-ghost use Rattle.expansion.specs.Bridge.{rowFrom, RowsRead};
+ghost use Rattle.expansion.specs.Bridge.{rowFrom, rowsOf, RowsRead};
 ghost use Rattle.expansion.specs.Room.{storeOf, Room};
-ghost use Rattle.expansion.specs.Outcome.{stateOf, Opens, Leaves, Ready, Calls, Stands, rowMet, callEntered, rowsWalked, callWalked};
+ghost use Rattle.expansion.specs.Outcome.{outcomeOf, begun, stateOf, Opens, Leaves, Ready, Calls, Stands, rowMet, callEntered, rowsWalked, callWalked};
 
 // How far a walk is: calls made, the number of the open block's first message, and messages met.
 pub struct Walk {
@@ -24,7 +25,7 @@ impl Walk {
 
     // Nothing is met yet.
     pub fn fresh() -> Walk
-        ensures { λ r. ⌜ (r .calls ≡ 0) × (r .first ≡ 0) × (r .count ≡ 0) ⌝ }
+        ensures { λ r. ⌜ r ≡ begun ⌝ }
     {
         Walk {
             calls: 0,
@@ -45,6 +46,9 @@ enum Walked {
     Going(Walk),
     Stopped(u8, usize),
 }
+
+// The words of the past: a row a board.
+const PAST: usize = model::BOARDS * WIDTH;
 
 // The heading is line 1.
 const FIRST_LINE: usize = 2;
@@ -229,4 +233,36 @@ fn walk_rows(
         at += 1;
     }
     Walked::Going(here)
+}
+
+// The walk of sheet 0 and of all that it calls: the scenario in boards and words, or refusal 8 to 11.
+pub fn expand(
+    kind: &[u8],
+    one: &[u8],
+    two: &[u8],
+    count: usize,
+    start: &[u16],
+    boards: &mut [u8],
+    words: &mut [u64],
+) -> Expanded
+    requires { ⌜ RowsRead (now kind) (now one) (now two) count (now start) ⌝ }
+    requires { ⌜ length (now boards) ≡ 2 * messagesMost ⌝ }
+    requires { ⌜ length (now words) ≡ 2 * messagesMost * width ⌝ }
+    ensures { λ r. ⌜ outcomeOf r (now (boards .exit)) (now (words .exit)) ≡ expandedOf (rowsOf (now (kind .entry)) (now (one .entry)) (now (two .entry)) count) ⌝ }
+{
+    clear_boards(boards);
+    relation::clear(words, model::EVENTS_MOST * WIDTH);
+    let mut past = [0u64; PAST];
+    let row = start[0] as usize;
+    match walk_rows(kind, one, two, count, start, boards, words, &mut past, model::LEVELS, row, Walk::fresh()) {
+        Walked::Stopped(number, line) => Expanded::Refused(number, line),
+        Walked::Going(walk) => {
+            let met = walk.count;
+            if relation::circle(words, 2 * met) {
+                Expanded::Refused(model::CIRCLE, 0)
+            } else {
+                Expanded::Messages(met)
+            }
+        }
+    }
 }

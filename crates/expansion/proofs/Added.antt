@@ -1,16 +1,16 @@
 -- What `added` means: the send's row is its board's past; the receive's is its board's past, the send's row and the send; and every
 -- other row is as it was. Assumes nothing.
-use Prim.Native.Nat.{ℕ, zero, suc, _+_, _*_, _<_, _≤_}
+use Prim.Native.Nat.{ℕ, _+_, _*_, _<_, _≤_}
 use native.Mathlib.Nat.{mul-le-mul-right}
 use native.Mathlib.Omega.{arith}
-use mathlib.Core.Path.{_≡_, refl, sym, _∙_, ap, ap₂}
-use mathlib.Core.Bool.{Bool, true, false, _&&_, _||_, or-false}
+use mathlib.Core.Path.{_≡_, refl, _∙_, ap}
+use mathlib.Core.Bool.{Bool, false, _&&_, _||_, or-false}
 use mathlib.Core.List.{List}
 use lib.Dec.{eqb}
-use lib.ListN.{length, getD}
+use lib.ListN.{length}
 use borrow.Author.Tests.{eq-eqb, ne-eqb}
 use Rattle.relation.specs.Width.{wordBits}
-use Rattle.relation.specs.Rows.{holds, marked, joined, joinedFrom}
+use Rattle.relation.specs.Rows.{holds, joined, joinedFrom}
 use Rattle.relation.proofs.Marked.{length-marked, holds-marked}
 use Rattle.relation.proofs.Joined.{length-joined-from, length-joined, holds-joined-from, holds-joined}
 use Rattle.expansion.specs.Store.{begun, added}

@@ -6,22 +6,23 @@ use native.Mathlib.Omega.{arith}
 use mathlib.Core.Path.{_≡_, refl, sym, _∙_, ap, subst}
 use mathlib.Core.Bool.{Bool, true, false, cond}
 use mathlib.Core.List.{List, [], _∷_}
-use lib.Dec.{eqb, ltb}
+use lib.Dec.{eqb}
 use lib.ListN.{length, getD, set, length-set}
+use mir.Syntax.{w64}
+use mir.Val.{Fits}
 use borrow.Author.Tests.{eq-eqb, ne-eqb, lt-ltb, le-ltb}
 use Rattle.model.specs.Limits.{boards, messagesMost, callsMost}
 use Rattle.model.specs.Refusal.{Out, ok, refusal, depthRefusal, callsRefusal, messagesRefusal}
-use Rattle.model.specs.Rows.{Row, sheet, message, order, block, call}
+use Rattle.model.specs.Rows.{sheet, message, order, block, call}
 use Rattle.model.specs.Expansion.{Progress, blockOpened, callMade, messageMet, orderMet}
-use Rattle.relation.specs.Width.{width, wordBits}
+use Rattle.relation.specs.Width.{width}
 use Rattle.relation.specs.Rows.{inserted}
 use Rattle.relation.proofs.Inserted.{length-inserted}
 use Rattle.expansion.specs.Store.{Store, seated, added, passed, storeOps}
 use Rattle.expansion.specs.Bridge.{rowFrom}
 use Rattle.expansion.specs.Room.{storeOf, Room}
-use Rattle.expansion.specs.Outcome.{stateOf, walkedOf, RoomLeft, Leaves, Opens, rowMet, callEntered, Stands}
+use Rattle.expansion.specs.Parts.{stateOf, Leaves, Opens, rowMet, callEntered, Stands}
 use Rattle.expansion.specs.declared.Walk.{Walk}
-use Rattle.expansion.specs.declared.Walked.{Walked}
 use Rattle.expansion.specs.declared.Walked.the-variants.{Going, Stopped}
 use Rattle.expansion.proofs.Passed.{length-passed}
 use Rattle.expansion.proofs.Added.{length-added}
@@ -124,6 +125,14 @@ module _ (letter one two : ℕ) where
   order-asks first count h e a =
       let p : (one < 2 * (count - first)) × (two < 2 * (count - first)) = subst (Stands (2 * (count - first))) (row-is-order e) a in
       (omega (arith, p .0), omega (arith, p .1))
+
+  -- so the events of a P row are numbers that fit
+  module _ (first count : ℕ) (t : Store) (e : letter ≡ 80) (a : Stands (2 * (count - first)) (rowFrom letter one two)) (r : Room first count t) where
+    pub first-fits : Fits w64 (2 * first + one)
+    first-fits = record { fits = omega (arith, order-asks first count (r .firstMost) e a .0, r .countMost) }
+
+    pub second-fits : Fits w64 (2 * first + two)
+    second-fits = record { fits = omega (arith, order-asks first count (r .firstMost) e a .1, r .countMost) }
 
   module _ (w : Walk) (line : ℕ) where
     pub row-refused : (t t′ : Store) → letter ≡ 77 → messagesMost ≤ w .count

@@ -3,7 +3,7 @@
 use Prim.Native.Nat.{ℕ, zero, suc, _+_, _-_, _<_, _≤_}
 use native.Mathlib.Numerals.{add-one}
 use native.Mathlib.Omega.{arith}
-use mathlib.Core.Path.{_≡_, refl, sym, _∙_, ap, ap₂, subst}
+use mathlib.Core.Path.{_≡_, refl, _∙_, ap, ap₂, subst}
 use mathlib.Core.Bool.{Bool, true, false, not, cond, _&&_, _||_}
 use mathlib.Core.List.{List, [], _∷_}
 use mathlib.Core.Option.{Option, none, some}
@@ -12,19 +12,19 @@ use lib.ListN.{length, getD, drop, length-append}
 use borrow.Author.Tests.{ltb-true}
 use Rattle.model.specs.Limits.{textMost, rowsMost, sheets}
 use Rattle.model.specs.Bounded.{among}
-use Rattle.model.specs.Refusal.{Out, ok, refusal, andThen, headingRefusal, rowRefusal, placeRefusal, absentRefusal}
+use Rattle.model.specs.Refusal.{ok, refusal, andThen, headingRefusal, rowRefusal, placeRefusal, absentRefusal}
 use Rattle.model.specs.Text.{Line, Columns, linesOf, headingOf}
 use Rattle.model.specs.Rows.{Row, sheet, message, order, block, call, rowOf}
-use Rattle.model.specs.Place.{Place, outside, withMessage, messageFits, orderFits, moved, isSheet, placed, lineOf, judged, opens, strayCall, complete, bodyOf, readOf}
+use Rattle.model.specs.Place.{Place, outside, withMessage, moved, isSheet, placed, lineOf, judged, opens, strayCall, complete, bodyOf, readOf}
 use Rattle.model.specs.Place.{rowsFrom as rowsRead}
 use Rattle.model.specs.Expansion.{startOf}
-use Rattle.model.specs.Order.{cells}
 use Rattle.model.proofs.Refusal.{not-refused, and-then-ok, passed, cond-ok}
 use Rattle.model.proofs.Closure.{cells-length, cells-at}
 use Rattle.model.proofs.Standing.{Fits, read-fits}
 use Rattle.model.proofs.Walked.{OnOneBoard, message-parts, order-parts}
-use Rattle.expansion.specs.Bridge.{rowFrom, rowsAt, rowsOf, rowsFrom, startIn, startsOf, AreRead, RowsRead}
-use Rattle.expansion.specs.Outcome.{Stands, Present, openBehind, AllStand}
+use Rattle.expansion.specs.Bridge.{rowFrom, rowsAt, rowsOf, startIn}
+use Rattle.expansion.specs.Lent.{rowsFrom, AreRead, RowsRead}
+use Rattle.expansion.specs.Parts.{Present, AllStand}
 
 -- The rows from row i on.
 module _ (kind one two : List ℕ) where
@@ -151,9 +151,11 @@ all-present opened i (call n ∷ rs) k e = go (among n opened) refl e (all-prese
 all-stand : (opened events : List ℕ) (rs : List Row) → Fits events rs → AllPresent opened rs → AllStand opened (length events) rs
 all-stand opened events [] f p = tt
 all-stand opened events (sheet n ∷ rs) f p = (tt, tt, all-stand opened [] rs f (p .1))
-all-stand opened events (message a b ∷ rs) f p =
-    (message-parts events a b (f .0), tt,
-    subst (λ (n : ℕ). AllStand opened n rs) (length-append events (a ∷ b ∷ [])) (all-stand opened (withMessage events a b) rs (f .1) (p .1)))
+all-stand opened events (message a b ∷ rs) f p = (
+  message-parts events a b (f .0),
+  tt,
+  subst (λ (n : ℕ). AllStand opened n rs) (length-append events (a ∷ b ∷ [])) (all-stand opened (withMessage events a b) rs (f .1) (p .1)),
+)
 all-stand opened events (order x y ∷ rs) f p =
     let o : OnOneBoard events x y = order-parts events x y (f .0) in
     ((o .firstThere, o .secondThere), tt, all-stand opened events rs (f .1) (p .1))

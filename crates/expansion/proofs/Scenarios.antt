@@ -8,27 +8,25 @@ use mathlib.Core.List.{List, []}
 use lib.Dec.{eqb, ltb}
 use lib.ListN.{getD}
 use borrow.Author.Tests.{lt-ltb, ltb-true, eq-eqb}
-use Rattle.model.specs.Limits.{messagesMost}
 use Rattle.model.specs.Refusal.{Out, ok, refusal, andThen, circleRefusal}
 use Rattle.model.specs.Rows.{Row}
 use Rattle.model.specs.Expansion.{Walk, Progress, expand}
-use Rattle.model.specs.Order.{Event, sendOf, receiveOf, number, event, messageOf, isEvent, isOwn, isEarlier, Scenario, Met, nothingMet, metOps, listed, exchangeOf, scenarioOf, boardOf, hasCircle}
+use Rattle.model.specs.Order.{Event, sendOf, receiveOf, number, event, messageOf, isEvent, isOwn, isEarlier, Scenario, Met, exchangeOf, scenarioOf, hasCircle}
 use Rattle.model.specs.Answer.{withoutCircle, expandedOf}
 use Rattle.model.proofs.Bounded.{and-left, and-right, and-both, any-from, any-some}
 use Rattle.model.proofs.Events.{event-number, number-event, below-number, below-event}
-use Rattle.model.proofs.Order.{boardIn, own-parts, EarlierBlock, earlier-parts, before-inside, before-row, before-own, before-earlier, before-transitive, before-least}
+use Rattle.model.proofs.Order.{boardIn, own-parts, EarlierBlock, earlier-parts, before-row, before-own, before-earlier, before-transitive, before-least}
 use Rattle.model.proofs.Standing.{Fits}
 use Rattle.model.proofs.Walked.{Sound}
 use Rattle.model.proofs.Accepted.{board-at, rows-inside}
 use Rattle.relation.specs.Width.{width}
 use Rattle.relation.specs.Rows.{holds, anyOwn}
-use Rattle.relation.specs.Order.{Within}
 use Rattle.relation.specs.Scenario.{scenarioIn}
 use Rattle.relation.proofs.Tests.{both-ways}
 use Rattle.relation.proofs.Own.{own-any, any-own}
 use Rattle.expansion.specs.Store.{Store, freshStore, storeOps}
-use Rattle.expansion.proofs.Sim.{Orders, Sim, inRow, bits}
-use Rattle.expansion.proofs.Twin.{met, stored, Match, going, stopped, expand-match}
+use Rattle.expansion.proofs.Sim.{Orders, Sim, inRow}
+use Rattle.expansion.proofs.Twin.{met, Match, going, stopped, expand-match}
 
 -- the message of an event number
 message-half : (k : ℕ) → messageOf (event k) ≡ k / 2
@@ -69,8 +67,8 @@ module _ (w : Walk) (m : Met) (t : Store) (h : Sound (met w m)) (r : Sim w m t) 
       let c = eqb (boardIn E (event x)) (boardIn E (event y)) in
       let d = ltb (getD (m .blocks) (messageOf (event x)) 0) (getD (m .blocks) (messageOf (event y)) 0) in
       let one : boardIn E (event x) ≡ boardIn E (event y) =
-          board-at (met w m) (event x) ∙ ap (λ (k : ℕ). getD (m .events) k 0) (number-event x) ∙ e
-          ∙ sym (board-at (met w m) (event y) ∙ ap (λ (k : ℕ). getD (m .events) k 0) (number-event y)) in
+      board-at (met w m) (event x) ∙ ap (λ (k : ℕ). getD (m .events) k 0) (number-event x) ∙ e
+      ∙ sym (board-at (met w m) (event y) ∙ ap (λ (k : ℕ). getD (m .events) k 0) (number-event y)) in
       before-earlier E (event x) (event y)
       (and-both (a && b && c) d
       (and-both (a && b) c
@@ -113,16 +111,20 @@ module _ (w : Walk) (m : Met) (t : Store) (h : Sound (met w m)) (r : Sim w m t) 
   held-earlier : (x y : Event) → isEarlier (exchangeOf (met w m)) x y ≡ true → Held x y
   unfolding Held exchangeOf
   held-earlier x y l =
-      let p : EarlierBlock (exchangeOf (met w m)) x y = earlier-parts (exchangeOf (met w m)) x y l in
-      (p .inside .0, p .inside .1,
-      r .ordered .earliers (number x) (number y) (below-number x (w .count) .0 (p .inside .0)) (below-number y (w .count) .0 (p .inside .1))
-      (sym (board-at (met w m) x) ∙ p .oneBoard ∙ board-at (met w m) y) (rw (half-number x, half-number y) (p .laterBlock)))
+      let p : EarlierBlock (exchangeOf (met w m)) x y = earlier-parts (exchangeOf (met w m)) x y l in (
+        p .inside .0,
+        p .inside .1,
+        r .ordered .earliers (number x) (number y) (below-number x (w .count) .0 (p .inside .0)) (below-number y (w .count) .0 (p .inside .1))
+            (sym (board-at (met w m) x) ∙ p .oneBoard ∙ board-at (met w m) y) (rw (half-number x, half-number y) (p .laterBlock)),
+      )
 
   held-through : (x y z : Event) → Held x y → Held y z → Held x z
   unfolding Held
-  held-through x y z p q =
-      (p .0, q .1,
-      r .ordered .closed (number x) (number y) (number z) (below-number x (w .count) .0 (p .0)) (below-number y (w .count) .0 (p .1)) (below-number z (w .count) .0 (q .1)) (p .2) (q .2))
+  held-through x y z p q = (
+    p .0,
+    q .1,
+    r .ordered .closed (number x) (number y) (number z) (below-number x (w .count) .0 (p .0)) (below-number y (w .count) .0 (p .1)) (below-number z (w .count) .0 (q .1)) (p .2) (q .2),
+  )
 
   before-held : (x y : Event) → S .before x y ≡ true → Held x y
   before-held = before-least (exchangeOf (met w m)) Held held-row held-own held-earlier held-through

@@ -1,20 +1,20 @@
 -- How the walk's store stands to what the model's walk has met: the same boards, rows that hold exactly "before", and for each
 -- board the events of earlier blocks there and all before them. Assumes nothing.
-use Prim.Native.Nat.{ℕ, zero, suc, _+_, _*_, _/_, _<_, _≤_}
+use Prim.Native.Nat.{ℕ, _+_, _*_, _/_, _<_}
 use native.Mathlib.Omega.{arith}
-use mathlib.Core.Path.{_≡_, refl, sym, _∙_, ap}
-use mathlib.Core.Logic.{_⊎_, inl, inr, ⊎-elim}
+use mathlib.Core.Path.{_≡_, refl}
+use mathlib.Core.Logic.{_⊎_, ⊎-elim}
 use mathlib.Core.Bool.{Bool, true, false}
-use mathlib.Core.List.{List, []}
-use lib.Dec.{eqb, ltb}
+use mathlib.Core.List.{List}
+use lib.Dec.{ltb}
 use lib.ListN.{length, getD, replicate, length-replicate, getD-replicate, List·getD-eq-default}
 use borrow.Author.Tests.{ltb-true, ltb-false}
 use Rattle.model.specs.Limits.{boards, messagesMost}
-use Rattle.model.specs.Expansion.{Walk, freshWalk, Progress}
+use Rattle.model.specs.Expansion.{Walk, freshWalk}
 use Rattle.model.specs.Order.{Met, nothingMet, listed}
 use Rattle.model.proofs.Bounded.{which, not-both}
 use Rattle.relation.specs.Width.{width, wordBits}
-use Rattle.relation.specs.Rows.{has, holds, bitOf, wordOf}
+use Rattle.relation.specs.Rows.{holds, bitOf, wordOf}
 use Rattle.relation.specs.Order.{before, Transitive, Within}
 use Rattle.relation.proofs.Bits.{has-zero}
 use Rattle.expansion.specs.Store.{Store, zeros, freshStore}

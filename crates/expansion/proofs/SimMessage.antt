@@ -1,22 +1,21 @@
 -- A message met keeps the store and the model's walk together. Assumes nothing.
-use Prim.Native.Nat.{ℕ, zero, suc, _+_, _*_, _/_, _<_, _≤_}
-use native.Mathlib.Nat.{mul-le-mul-right}
+use Prim.Native.Nat.{ℕ, suc, _+_, _*_, _/_, _<_, _≤_}
 use native.Mathlib.Decide.{ℕ-discrete, decLt}
 use native.Mathlib.Omega.{arith}
 use mathlib.Core.Path.{_≡_, refl, sym, _∙_, ap, subst}
 use mathlib.Core.Logic.{_⊎_, inl, inr, ⊎-elim}
-use mathlib.Core.Bool.{Bool, true, false, _&&_, _||_}
+use mathlib.Core.Bool.{Bool, true, false, _||_}
 use mathlib.Core.List.{List, [], _∷_, _++_}
-use lib.Dec.{eqb, ltb}
+use lib.Dec.{eqb}
 use lib.ListN.{length, getD, set, length-append, length-set, List·getD-append, List·getD-eq-default}
 use lib.Seq.{getD-at, getD-append-add, getD-set-same, getD-set-other}
 use borrow.Author.Tests.{eq-eqb, eqb-true}
 use Rattle.model.specs.Limits.{boards, messagesMost}
-use Rattle.model.specs.Expansion.{Walk, Progress}
-use Rattle.model.specs.Order.{Met, metOps, listed}
-use Rattle.model.proofs.Bounded.{or-cases, or-left, or-right, which, not-both}
+use Rattle.model.specs.Expansion.{Walk}
+use Rattle.model.specs.Order.{Met, metOps}
+use Rattle.model.proofs.Bounded.{or-cases, or-left, or-right, which}
 use Rattle.model.proofs.Walked.{Sound}
-use Rattle.relation.specs.Width.{width, wordBits}
+use Rattle.relation.specs.Width.{width}
 use Rattle.relation.specs.Rows.{holds}
 use Rattle.relation.specs.Order.{before, Transitive, Within}
 use Rattle.expansion.specs.Store.{Store, seated, added, storeOps}
@@ -180,9 +179,11 @@ module _ (w : Walk) (m : Met) (t : Store) (h : Sound (record { walk = w; kept = 
 
       go : Dec (y < 2 * suc c) → (x < 2 * suc c) × (y < 2 * suc c)
       go (no n) = absurd (omega (arith, r .inside x y hx (sym (row-beyond x y hx (omega arith)) ∙ i) .1))
-      go (yes l) =
-          (⊎-elim (λ (o : y < 2 * c). let q : x < 2 * c = r .inside x y hx (sym (row-old x y hx o) ∙ i) .0 in omega arith)
-          (⊎-elim send (λ e. receive (received x hx (row-at x y (2 * c + 1) e i)))) (which-event y l), l)
+      go (yes l) = (
+        ⊎-elim (λ (o : y < 2 * c). let q : x < 2 * c = r .inside x y hx (sym (row-old x y hx o) ∙ i) .0 in omega arith)
+            (⊎-elim send (λ e. receive (received x hx (row-at x y (2 * c + 1) e i)))) (which-event y l),
+        l,
+      )
 
   -- the rows hold the sources, and are transitive
   earliers′ : (x y : ℕ) → x < 2 * suc c → y < 2 * suc c → getD events′ x 0 ≡ getD events′ y 0
@@ -293,7 +294,7 @@ module _ (w : Walk) (m : Met) (t : Store) (h : Sound (record { walk = w; kept = 
         let g : w .first ≤ c = h .firstMost in
         let le : u .0 < 2 * c = omega (arith, u .1) in
         let there : Q (u .0) y ≡ true = o .earliers (u .0) y (omega arith) (omega arith) (board-old (u .0) le ∙ u .2 ∙ sym e)
-            (omega (arith, block-old (u .0 / 2) (omega arith), block-new (y / 2) ey, h .earlierBlocks (u .0 / 2) (omega (arith, u .1)))) in
+        (omega (arith, block-old (u .0 / 2) (omega arith), block-new (y / 2) ey, h .earlierBlocks (u .0 / 2) (omega (arith, u .1)))) in
         ⊎-elim
         (λ (s : x ≡ u .0). subst (λ (k : ℕ). Q k y ≡ true) (sym s) there)
         (λ q. let lx : x < 2 * c = r .inside x (u .0) hx q .0 in

@@ -1,28 +1,28 @@
 -- A P row met, a block opened and a call made keep the store and the model's walk together. Assumes nothing.
-use Prim.Native.Nat.{ℕ, suc, _+_, _*_, _/_, _<_, _≤_}
+use Prim.Native.Nat.{ℕ, suc, _+_, _*_, _<_, _≤_}
 use native.Mathlib.Nat.{mul-le-mul-right}
 use native.Mathlib.Decide.{decLt}
 use native.Mathlib.Omega.{arith}
-use mathlib.Core.Path.{_≡_, refl, sym, _∙_, ap, subst}
+use mathlib.Core.Path.{_≡_, refl, sym, _∙_, subst}
 use mathlib.Core.Logic.{_⊎_, inl, inr, ⊎-elim}
 use mathlib.Core.Bool.{Bool, true, false, _&&_, _||_, or-false}
 use mathlib.Core.List.{List}
 use lib.Dec.{eqb, leb, ltb}
 use lib.ListN.{length, getD}
 use borrow.Author.Tests.{eq-eqb, eqb-true, lt-leb}
-use Rattle.model.specs.Limits.{boards, messagesMost}
-use Rattle.model.specs.Expansion.{Walk, Progress}
+use Rattle.model.specs.Limits.{boards}
+use Rattle.model.specs.Expansion.{Walk}
 use Rattle.model.specs.Order.{Met, metOps, listed}
-use Rattle.model.proofs.Bounded.{and-left, and-right, or-cases, or-left, or-right, which, not-both}
+use Rattle.model.proofs.Bounded.{and-left, and-right, or-cases, or-left, or-right, which}
 use Rattle.model.proofs.Walked.{Sound}
-use Rattle.relation.specs.Width.{width, wordBits}
+use Rattle.relation.specs.Width.{width}
 use Rattle.relation.specs.Rows.{holds, inserted}
-use Rattle.relation.specs.Order.{before, Transitive, Within, linked}
+use Rattle.relation.specs.Order.{before, Within, linked}
 use Rattle.relation.proofs.Inserted.{length-inserted, holds-inserted}
 use Rattle.relation.proofs.Closed.{linked-holds, linked-pair, linked-least, inserted-linked, inserted-closed}
 use Rattle.expansion.specs.Store.{Store, passed, storeOps}
 use Rattle.expansion.proofs.Passed.{length-passed, passed-kept, passed-event, passed-only}
-use Rattle.expansion.proofs.Sim.{Orders, Sim, inRow, inPast, bits}
+use Rattle.expansion.proofs.Sim.{Orders, Sim, inRow, bits}
 
 -- a P row between two events of the open block
 module _ (w : Walk) (m : Met) (t : Store) (h : Sound (record { walk = w; kept = m })) (r : Sim w m t) (x₀ y₀ : ℕ)
@@ -53,9 +53,10 @@ module _ (w : Walk) (m : Met) (t : Store) (h : Sound (record { walk = w; kept = 
   covers b l out = go (decLt b (2 * w .first))
     where
       go : Dec (b < 2 * w .first) → (b ≡ y′ → ⊥) × (holds width (t .words) b y′ ≡ false)
-      go (yes f) =
-          (λ e. omega arith,
-          ⊎-elim (λ i. absurd (omega (arith, r .earlier y′ b (omega (arith, few)) f i))) (λ z. z) (which (holds width (t .words) b y′)))
+      go (yes f) = (
+        λ e. omega arith,
+        ⊎-elim (λ i. absurd (omega (arith, r .earlier y′ b (omega (arith, few)) f i))) (λ z. z) (which (holds width (t .words) b y′)),
+      )
       go (no f) = absurd (out (omega arith) l)
 
   row-linked : (a b : ℕ) → a < n → b < n → inRow′ a b ≡ linked (inRow t) x′ y′ a b
@@ -74,9 +75,10 @@ module _ (w : Walk) (m : Met) (t : Store) (h : Sound (record { walk = w; kept = 
       let px = eqb x x′ || holds width (t .words) x′ x in
       ⊎-elim
       (λ p. r .inside x y hx p)
-      (λ p. let q = and-right range (py && px) p in
-      (⊎-elim (λ e. omega (arith, eqb-true x x′ e)) (λ z. r .inside x x′ hx z .0) (or-cases (eqb x x′) (holds width (t .words) x′ x) (and-right py px q)),
-      ⊎-elim (λ e. omega (arith, eqb-true y y′ e)) (λ z. r .inside y′ y (omega (arith, few)) z .1) (or-cases (eqb y y′) (holds width (t .words) y y′) (and-left py px q))))
+      (λ p. let q = and-right range (py && px) p in (
+        ⊎-elim (λ e. omega (arith, eqb-true x x′ e)) (λ z. r .inside x x′ hx z .0) (or-cases (eqb x x′) (holds width (t .words) x′ x) (and-right py px q)),
+        ⊎-elim (λ e. omega (arith, eqb-true y y′ e)) (λ z. r .inside y′ y (omega (arith, few)) z .1) (or-cases (eqb y y′) (holds width (t .words) y y′) (and-left py px q)),
+      ))
       (or-cases (holds width (t .words) y x) (range && (py && px))
       (sym (holds-inserted width (t .words) x′ y′ (2 * w .first) n y x room (omega (arith, few)) (omega (arith, few)) hx) ∙ i))
 

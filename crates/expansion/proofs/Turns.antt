@@ -4,15 +4,15 @@ use Prim.Native.Nat.{ℕ, suc, _+_, _-_, _*_, _<_, _≤_}
 use native.Mathlib.Nat.{le-antisymm, sub-self, mul-le-mul-right}
 use native.Mathlib.Omega.{arith}
 use mathlib.Core.Path.{_≡_, refl, sym, _∙_, ap}
-use mathlib.Core.List.{List, [], _++_, append-nil}
-use lib.ListN.{length, getD, set, drop, replicate, length-set, drop-of-length-le}
+use mathlib.Core.List.{List, _++_, append-nil}
+use lib.ListN.{length, getD, set, replicate, length-set, drop-of-length-le}
 use borrow.Author.Fill.{fill-none, fill-more}
 use Rattle.model.specs.Limits.{boards, messagesMost}
 use Rattle.relation.specs.Width.{width}
 use Rattle.relation.specs.Rows.{marked, joined, joinedFrom, cleared}
 use Rattle.relation.proofs.Marked.{length-marked}
 use Rattle.relation.proofs.Joined.{length-joined-from}
-use Rattle.expansion.specs.Store.{zeros, seated, begun, added, passedAt, passedIn, passed}
+use Rattle.expansion.specs.Store.{zeros, begun, added, passedAt, passedIn, passed}
 use Rattle.expansion.specs.Room.{storeOf, Room}
 
 -- all of a list cleared is so many zeros

@@ -1,25 +1,24 @@
 -- What the loop over a sheet's rows keeps, row by row, and what a call comes to. Each law has the premises of one place of the
 -- code. Assumes nothing.
 use Prim.Native.Nat.{ℕ, zero, suc, _+_, _-_, _*_, _<_, _≤_}
-use native.Mathlib.Numerals.{add-one}
 use native.Mathlib.Omega.{arith}
 use mathlib.Core.Path.{_≡_, refl, sym, _∙_, ap, subst}
 use mathlib.Core.Bool.{Bool, true, false, cond}
-use mathlib.Core.List.{List, [], _∷_}
+use mathlib.Core.List.{List, _∷_}
 use lib.Dec.{eqb, ltb}
-use lib.ListN.{length, getD, drop}
+use lib.ListN.{getD, drop}
 use borrow.Author.Tests.{ne-eqb, eqb-false}
-use Rattle.model.specs.Limits.{messagesMost, sheets, callsMost}
-use Rattle.model.specs.Bounded.{among}
+use Rattle.model.specs.Limits.{messagesMost, callsMost}
 use Rattle.model.specs.Refusal.{Out, ok, refusal, andThen, depthRefusal, callsRefusal, messagesRefusal}
 use Rattle.model.specs.Rows.{Row, sheet, message, order, block, call}
 use Rattle.model.specs.Place.{lineOf, opens}
 use Rattle.model.specs.Expansion.{Progress, startOf, blockOpened, callMade, messageMet, orderMet, walkRows, callAt}
-use Rattle.model.proofs.Refusal.{not-refused, and-then-ok}
+use Rattle.model.proofs.Refusal.{not-refused}
 use Rattle.expansion.specs.Store.{Store, storeOps}
-use Rattle.expansion.specs.Bridge.{rowFrom, rowsOf, rowsFrom, RowsRead}
-use Rattle.expansion.specs.Room.{storeOf, Room}
-use Rattle.expansion.specs.Outcome.{stateOf, walkedOf, RoomLeft, Leaves, Opens, rowMet, callEntered, rowsWalked, callWalked, Stands, Present, openBehind, AllStand, Ready, Calls}
+use Rattle.expansion.specs.Bridge.{rowFrom, rowsOf}
+use Rattle.expansion.specs.Lent.{rowsFrom, RowsRead}
+use Rattle.expansion.specs.Room.{storeOf}
+use Rattle.expansion.specs.Parts.{stateOf, Leaves, Opens, rowMet, callEntered, rowsWalked, callWalked, Stands, Present, openBehind, AllStand, Ready, Calls}
 use Rattle.expansion.specs.declared.Walk.{Walk}
 use Rattle.expansion.specs.declared.Walked.{Walked}
 use Rattle.expansion.specs.declared.Walked.the-variants.{Going, Stopped}
@@ -237,7 +236,7 @@ module _ (kind one two : List ℕ) (count left row : ℕ) (w₀ : Walk) (t₀ : 
         pub call-going : (w′ : Walk) (t′ : Store) → Leaves (Going w′) t′ (callWalked kind one two count left i (stateOf w t)) → Walking (i + 1) w′ t′
         call-going w′ t′ f =
             let o : w′ .first ≡ w′ .count =
-                behind-call (callAt storeOps left (rowsOf kind one two count) (getD one i 0) (lineOf i) (stateOf w t)) w′ t′ (f .exact) in
+            behind-call (callAt storeOps left (rowsOf kind one two count) (getD one i 0) (lineOf i) (stateOf w t)) w′ t′ (f .exact) in
             go-on (callWalked kind one two count left i (stateOf w t)) w′ t′ (call-next (stateOf w t) b) f
             (ap (openBehind (2 * (w .count - w .first))) (row-is-call (getD kind i 0) (getD one i 0) (getD two i 0) b) ∙ omega arith)
 

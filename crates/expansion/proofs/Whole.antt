@@ -1,26 +1,26 @@
 -- The whole expansion: the walk begins with nothing met, and what it leaves is the paper's answer. Assumes nothing.
-use Prim.Native.Nat.{ℕ, _+_, _-_, _*_, _<_, _≤_}
+use Prim.Native.Nat.{ℕ, _-_, _*_}
 use native.Mathlib.Omega.{arith}
 use mathlib.Core.Path.{_≡_, refl, sym, _∙_, ap, subst}
-use mathlib.Core.Bool.{Bool, true, false, cond}
-use mathlib.Core.List.{List, []}
+use mathlib.Core.Bool.{Bool, true, false}
+use mathlib.Core.List.{List}
 use lib.ListN.{length, getD, drop, replicate}
 use Rattle.model.specs.Limits.{boards, messagesMost, levels}
 use Rattle.model.specs.Refusal.{Out, ok, refusal, andThen, circleRefusal}
 use Rattle.model.specs.Rows.{Row}
 use Rattle.model.specs.Place.{lineOf, opens}
-use Rattle.model.specs.Expansion.{Progress, freshWalk, startOf, walkRows, callAt, expand}
+use Rattle.model.specs.Expansion.{Progress, freshWalk, walkRows, callAt, expand}
 use Rattle.model.specs.Answer.{expandedOf}
 use Rattle.model.proofs.Standing.{read-fits}
 use Rattle.relation.specs.Width.{width}
 use Rattle.relation.specs.Rows.{cleared, anyOwn}
 use Rattle.relation.specs.Scenario.{scenarioIn}
 use Rattle.expansion.specs.Store.{Store, zeros, freshStore, storeOps}
-use Rattle.expansion.specs.Bridge.{rowsOf, rowsFrom, RowsRead}
-use Rattle.expansion.specs.Room.{storeOf, Room}
-use Rattle.expansion.specs.Outcome.{begun, stateOf, walkedOf, Leaves, rowsWalked, AllStand, Ready}
+use Rattle.expansion.specs.Bridge.{rowsOf}
+use Rattle.expansion.specs.Lent.{rowsFrom, RowsRead}
+use Rattle.expansion.specs.Room.{storeOf}
+use Rattle.expansion.specs.Parts.{fresh, stateOf, Leaves, rowsWalked, AllStand, Ready}
 use Rattle.expansion.specs.declared.Walk.{Walk}
-use Rattle.expansion.specs.declared.Walked.{Walked}
 use Rattle.expansion.specs.declared.Walked.the-variants.{Going, Stopped}
 use Rattle.expansion.proofs.Sim.{zeros-length, zeros-at}
 use Rattle.expansion.proofs.Scenarios.{concluded, expanded-same}
@@ -41,15 +41,15 @@ cleared-all events words words₀ e f l =
     record { eventsZero = e; wordsZero = f ∙ cleared-zeros (2 * messagesMost * width) words₀ l; pastZero = refl }
 
 module _ (kind one two : List ℕ) (count : ℕ) (start : List ℕ) (lent : RowsRead kind one two count start) (events words past : List ℕ)
-    (z : Cleared events words past) (w : Walk) (fresh : w ≡ begun) where
+    (z : Cleared events words past) (w : Walk) (begins : w ≡ fresh) where
   abbrev file : List Row
   file = rowsOf kind one two count
 
   -- the walk begins at sheet 0's first row, in an empty block
   pub fresh-ready : Ready kind one two count (getD start 0 0) (w .first) (w .count) (storeOf events words past)
   fresh-ready =
-      let f : w .first ≡ 0 = ap (λ (v : Walk). v .first) fresh in
-      let c : w .count ≡ 0 = ap (λ (v : Walk). v .count) fresh in
+      let f : w .first ≡ 0 = ap (λ (v : Walk). v .first) begins in
+      let c : w .count ≡ 0 = ap (λ (v : Walk). v .count) begins in
       let none : 0 ≡ 2 * (w .count - w .first) = omega arith in
       record {
         room = record {
@@ -73,7 +73,7 @@ module _ (kind one two : List ℕ) (count : ℕ) (start : List ℕ) (lent : Rows
   fresh-walked : walked ≡ expand storeOps file freshStore
   unfolding expand
   fresh-walked =
-      ap (λ (v : Walk). rowsWalked kind one two count levels (getD start 0 0) (stateOf v (storeOf events words past))) fresh
+      ap (λ (v : Walk). rowsWalked kind one two count levels (getD start 0 0) (stateOf v (storeOf events words past))) begins
       ∙ rw (z .eventsZero, z .wordsZero, z .pastZero)
       (ap (λ (rs : List Row). walkRows storeOps (callAt storeOps levels file) rs (lineOf (getD start 0 0)) (record { walk = freshWalk; kept = freshStore }))
       (sym (rows-drop kind one two count (getD start 0 0)))

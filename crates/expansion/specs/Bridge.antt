@@ -1,17 +1,15 @@
 -- From the reader's data to the model: three columns are rows, and a table says where each sheet starts.
 -- Assumes nothing.
-use Prim.Native.Nat.{ℕ, zero, suc, _-_, _≤_}
+use Prim.Native.Nat.{ℕ, zero, suc}
 use Prim.Native.Char.{code}
-use mathlib.Core.Path.{_≡_}
-use mathlib.Core.Bool.{Bool, true, false, cond}
+use mathlib.Core.Bool.{cond}
 use mathlib.Core.List.{List, [], _∷_}
 use lib.Dec.{eqb}
-use lib.ListN.{length, getD}
+use lib.ListN.{getD}
 use Rattle.model.specs.Limits.{sheets}
 use Rattle.model.specs.Bounded.{among}
-use Rattle.model.specs.Refusal.{ok}
 use Rattle.model.specs.Rows.{Row, sheet, message, order, block, call}
-use Rattle.model.specs.Place.{opens, readOf}
+use Rattle.model.specs.Place.{opens}
 use Rattle.model.specs.Expansion.{startOf}
 use Rattle.model.specs.Order.{cells}
 
@@ -37,19 +35,3 @@ startIn rs n = cond (among n (opens rs)) (startOf n rs) 0
 
 abbrev pub startsOf : List Row → List ℕ
 startsOf rs = cells sheets (startIn rs)
-
--- the rows are those of some text
-abbrev pub AreRead : List Row → Type 0
-AreRead rs = (text : List ℕ) × (readOf text ≡ ok rs)
-
--- the rows from row i on, of the first so many
-abbrev pub rowsFrom : List ℕ → List ℕ → List ℕ → ℕ → ℕ → List Row
-rowsFrom kind one two count i = rowsAt kind one two i (count - i)
-
--- The columns lent hold the rows of some text, and the table says where each sheet starts.
-pub record RowsRead (kind one two : List ℕ) (count : ℕ) (start : List ℕ) : Type 0 where
-  pub read : AreRead (rowsOf kind one two count)
-  pub starts : start ≡ startsOf (rowsOf kind one two count)
-  pub kindLong : count ≤ length kind
-  pub oneLong : count ≤ length one
-  pub twoLong : count ≤ length two

@@ -1,4 +1,6 @@
 pub mod Bridge
+pub mod Lent
+pub mod Outcome
 pub mod Store
 pub mod Room
-pub mod Outcome
+pub mod Parts

@@ -5,7 +5,7 @@ use Prim.Native.Nat.{ℕ, zero, suc, _+_, _-_, _*_}
 use mathlib.Core.List.{List}
 use lib.ListN.{getD, set, replicate}
 use Rattle.model.specs.Limits.{boards, messagesMost}
-use Rattle.model.specs.Expansion.{Walk, Ops}
+use Rattle.model.specs.Expansion.{Ops}
 use Rattle.relation.specs.Width.{width}
 use Rattle.relation.specs.Rows.{marked, joined, joinedFrom, inserted}
 

@@ -1,6 +1,5 @@
 // The expansion of calls: rows in; the messages that the walk meets and their causal order in words, or refusal 8 to 11, out.
 use relation::WIDTH;
-
 ghost use mathlib.Core.Path.{_≡_};
 ghost use Prim.Native.Nat.{_-_, _*_, _<_};
 ghost use lib.ListN.{length};
@@ -8,9 +7,11 @@ ghost use Rattle.model.specs.Limits.{boards as boardsMost, messagesMost};
 ghost use Rattle.model.specs.Answer.{expandedOf};
 ghost use Rattle.relation.specs.Width.{width};
 ghost use Rattle.expansion.specs.Store.{zeros, seated, added, passed};
-ghost use Rattle.expansion.specs.Bridge.{rowFrom, rowsOf, RowsRead};
+ghost use Rattle.expansion.specs.Bridge.{rowFrom, rowsOf};
+ghost use Rattle.expansion.specs.Lent.{RowsRead};
 ghost use Rattle.expansion.specs.Room.{storeOf, Room};
-ghost use Rattle.expansion.specs.Outcome.{outcomeOf, begun, stateOf, Opens, Leaves, Ready, Calls, Stands, rowMet, callEntered, rowsWalked, callWalked};
+ghost use Rattle.expansion.specs.Outcome.{outcomeOf};
+ghost use Rattle.expansion.specs.Parts.{fresh, stateOf, Opens, Leaves, Ready, Calls, Stands, rowMet, callEntered, rowsWalked, callWalked};
 
 // How far a walk is: calls made, the number of the open block's first message, and messages met.
 pub struct Walk {
@@ -21,11 +22,12 @@ pub struct Walk {
 
 impl Walk {
     pub const CALLS_MOST: usize = model::CALLS_MOST;
+
     pub const MESSAGES_MOST: usize = model::MESSAGES_MOST;
 
     // Nothing is met yet.
     pub fn fresh() -> Walk
-        ensures { λ r. ⌜ r ≡ begun ⌝ }
+        ensures { λ r. ⌜ r ≡ fresh ⌝ }
     {
         Walk {
             calls: 0,
@@ -146,7 +148,14 @@ fn row_met(
 }
 
 // A call with so many levels left: refusal 8 at level 8, else 9 at call 1,025, else the called sheet's first block is open.
-fn open_call(boards: &[u8], words: &[u64], past: &mut [u64], left: usize, line: usize, walk: Walk) -> Walked
+fn open_call(
+    boards: &[u8],
+    words: &[u64],
+    past: &mut [u64],
+    left: usize,
+    line: usize,
+    walk: Walk,
+) -> Walked
     requires { ⌜ Room (walk .first) (walk .count) (storeOf (now boards) (now words) (now past)) ⌝ }
     ensures { λ r. ⌜ Leaves r (storeOf (now (boards .entry)) (now (words .entry)) (now (past .exit))) (callEntered left line (stateOf walk (storeOf (now (boards .entry)) (now (words .entry)) (now (past .entry))))) ⌝ }
 {
@@ -188,7 +197,19 @@ fn walk_call(
     match open_call(boards, words, past, left, row + FIRST_LINE, walk) {
         Walked::Stopped(number, line) => Walked::Stopped(number, line),
         Walked::Going(opened) => {
-            match walk_rows(kind, one, two, count, start, boards, words, past, left - 1, begin, opened) {
+            match walk_rows(
+                kind,
+                one,
+                two,
+                count,
+                start,
+                boards,
+                words,
+                past,
+                left - 1,
+                begin,
+                opened,
+            ) {
                 Walked::Stopped(number, line) => Walked::Stopped(number, line),
                 Walked::Going(back) => Walked::Going(open_block(boards, words, past, back)),
             }
@@ -222,9 +243,30 @@ fn walk_rows(
             return Walked::Going(here);
         }
         let met = if letter == b'C' {
-            walk_call(kind, one, two, count, start, boards, words, past, left, at, here)
+            walk_call(
+                kind,
+                one,
+                two,
+                count,
+                start,
+                boards,
+                words,
+                past,
+                left,
+                at,
+                here,
+            )
         } else {
-            row_met(letter, one[at] as usize, two[at] as usize, at + FIRST_LINE, boards, words, past, here)
+            row_met(
+                letter,
+                one[at] as usize,
+                two[at] as usize,
+                at + FIRST_LINE,
+                boards,
+                words,
+                past,
+                here,
+            )
         };
         match met {
             Walked::Stopped(number, line) => return Walked::Stopped(number, line),
@@ -254,7 +296,19 @@ pub fn expand(
     relation::clear(words, model::EVENTS_MOST * WIDTH);
     let mut past = [0u64; PAST];
     let row = start[0] as usize;
-    match walk_rows(kind, one, two, count, start, boards, words, &mut past, model::LEVELS, row, Walk::fresh()) {
+    match walk_rows(
+        kind,
+        one,
+        two,
+        count,
+        start,
+        boards,
+        words,
+        &mut past,
+        model::LEVELS,
+        row,
+        Walk::fresh(),
+    ) {
         Walked::Stopped(number, line) => Expanded::Refused(number, line),
         Walked::Going(walk) => {
             let met = walk.count;

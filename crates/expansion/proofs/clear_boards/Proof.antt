@@ -1,11 +1,11 @@
+-- `expansion::clear_boards` meets its contract. The loop keeps `Clearing`: the boards passed are zero.
+-- Assumes nothing.
 use Prim.Native.Nat.{_-_, _*_}
 use borrow.Author.Needs.{needs}
 use Rattle.model.specs.Limits.{messagesMost}
 use Rattle.expansion.proofs.Turns.{Clearing, clearing-start, clearing-more, clearing-end}
 use Rattle.expansion.proofs.clear_boards.Statement.{statement}
 use Rattle.expansion.proofs.clear_boards.Tie as tie
-use Rattle.expansion.proofs.clear_boards.Reads as reads
-use Rattle.expansion.proofs.clear_boards.Lts as lts
 
 abbrev Inv-loop : tie.InvT-loop
 Inv-loop boards₀ i₀ boards i = Clearing boards₀ i boards
@@ -13,31 +13,24 @@ Inv-loop boards₀ i₀ boards i = Clearing boards₀ i boards
 abbrev μ-loop : tie.MeasureT-loop
 μ-loop boards₀ i₀ boards i = 2 * messagesMost - i
 
--- src/lib.rt:40:5
 loop-holds : tie.Need-loop-holds Inv-loop μ-loop
 loop-holds c = search clearing-start
 
--- src/lib.rt:41:9
 slice-write-boards : tie.Need-slice-write-boards Inv-loop μ-loop
 slice-write-boards c = search needs
 
--- src/lib.rt:40:9
 add-i : tie.Need-add-i Inv-loop μ-loop
 add-i c = search needs
 
--- src/lib.rt:40:5
 loop-less : tie.Need-loop-less Inv-loop μ-loop
 loop-less c = search needs
 
--- src/lib.rt:40:5
 loop-again : tie.Need-loop-again Inv-loop μ-loop
 loop-again c = search (clearing-more, needs)
 
--- src/lib.rt:36:1
 same-length : tie.Need-same-length Inv-loop μ-loop
 same-length c = search needs
 
--- src/lib.rt:36:1
 returns : tie.Need-returns Inv-loop μ-loop
 returns c = search clearing-end
 

@@ -7,110 +7,82 @@ use Rattle.expansion.proofs.Walking.{leaves-as}
 use Rattle.expansion.proofs.Whole.{cleared-all, fresh-ready, answer-stopped, answer-circle, answer-messages}
 use Rattle.expansion.proofs.expand.Statement.{statement}
 use Rattle.expansion.proofs.expand.Tie as tie
-use Rattle.expansion.proofs.expand.Reads as reads
-use Rattle.expansion.proofs.expand.Lts as lts
-use Rattle.expansion.proofs.Walk.fresh.Reads as fresh-reads
-use Rattle.expansion.proofs.clear_boards.Reads as clear-boards-reads
-use Rattle.expansion.proofs.walk_rows.Reads as walk-rows-reads
-use Rattle.relation.proofs.circle.Reads as circle-reads
-use Rattle.relation.proofs.clear.Reads as clear-reads
 
--- src/lib.rt:253:5
 clear-boards-requires : tie.Need-clear-boards-requires
 clear-boards-requires c κs = search needs
 
--- src/lib.rt:254:28
 mul-clear : tie.Need-mul-clear
 mul-clear c = search needs
 
--- src/lib.rt:254:5
 clear-requires : tie.Need-clear-requires
 clear-requires c κs = search needs
 
--- src/lib.rt:256:15
 shared-slice-read-row : tie.Need-shared-slice-read-row
 shared-slice-read-row c =
     omega (arith, start-long _ _ _ _ _ (c .before .before .before .before .before .before .before .before .before .before .before .before .before .before .before .pre .0))
 
--- src/lib.rt:256:15
 cast-row : tie.Need-cast-row
 cast-row c =
     omega (arith, c .shared-slice-known5 .given 0)
 
--- src/lib.rt:257:66
 slice-aggregate-walk-rows : tie.Need-slice-aggregate-walk-rows
 slice-aggregate-walk-rows c = search needs
 
--- src/lib.rt:257:97
 fresh-requires : tie.Need-fresh-requires
 fresh-requires c κs = search needs
 
--- src/lib.rt:257:11
 walk-rows-requires : tie.Need-walk-rows-requires
 walk-rows-requires c κs =
     let s = c .before .before .before .before .before .before .before .before .before .before .before .before .before .before .before .before .before .before .before in
     let z = cleared-all _ _ _ (c .before .before .before .before .before .before .before .before .before .before .before .clear-boards .ensures) (c .before .before .before .before .before .before .before .clear .ensures) (s .pre .1 .1) in
     (s .pre .0, fresh-ready _ _ _ _ _ (s .pre .0) _ _ _ z _ (c .fresh .ensures))
 
--- src/lib.rt:258:25
 enum-known-number : tie.Need-enum-known-number
 enum-known-number c = search needs
 
--- src/lib.rt:259:23
 enum-known-walk : tie.Need-enum-known-walk
 enum-known-walk c = search needs
 
--- src/lib.rt:261:40
 mul-circle : tie.Need-mul-circle
 mul-circle c =
     let r = leaves-as (c .before .before .walk .given .1) (c .before .before .before .before .before .before .before .before .before .walk-rows .ensures) .room in
     record { fits = omega (arith, r .countMost) }
 
--- src/lib.rt:261:16
 circle-requires : tie.Need-circle-requires
 circle-requires c κs =
     let r = leaves-as (c .before .before .walk .given .1) (c .before .before .before .before .before .before .before .before .before .walk-rows .ensures) .room in
     (omega (arith, r .countMost, r .wordsLong), omega (arith, r .countMost))
 
--- src/lib.rt:239:1
 same-length : tie.Need-same-length
 same-length c = search needs
 
--- src/lib.rt:239:1
 same-length-2 : tie.Need-same-length-2
 same-length-2 c = search needs
 
--- src/lib.rt:239:1
 returns : tie.Need-returns
 returns c =
     let s = c .before .before .before .before .before .before .before .before .before .before .before .before .before .before .before .before .before .before .before .before .before .before .before .before .before .before .before .before in
     let z = cleared-all _ _ _ (c .before .before .before .before .before .before .before .before .before .before .before .before .before .before .before .before .before .before .before .before .clear-boards .ensures) (c .before .before .before .before .before .before .before .before .before .before .before .before .before .before .before .before .clear .ensures) (s .pre .1 .1) in
     answer-stopped _ _ _ _ _ (s .pre .0) _ _ _ z _ (c .before .before .before .before .before .before .before .before .before .fresh .ensures) _ _ _ (leaves-as (c .before .number .given .1) (c .before .before .before .before .before .before .before .before .walk-rows .ensures))
 
--- src/lib.rt:239:1
 same-length-3 : tie.Need-same-length-3
 same-length-3 c = search needs
 
--- src/lib.rt:239:1
 same-length-4 : tie.Need-same-length-4
 same-length-4 c = search needs
 
--- src/lib.rt:239:1
 returns-2 : tie.Need-returns-2
 returns-2 c =
     let s = c .before .before .before .before .before .before .before .before .before .before .before .before .before .before .before .before .before .before .before .before .before .before .before .before .before .before .before .before .before .before .before in
     let z = cleared-all _ _ _ (c .before .before .before .before .before .before .before .before .before .before .before .before .before .before .before .before .before .before .before .before .before .before .before .clear-boards .ensures) (c .before .before .before .before .before .before .before .before .before .before .before .before .before .before .before .before .before .before .before .clear .ensures) (s .pre .1 .1) in
     answer-circle _ _ _ _ _ (s .pre .0) _ _ _ z _ (c .before .before .before .before .before .before .before .before .before .before .before .before .fresh .ensures) _ _ _ _ (leaves-as (c .before .before .before .before .walk .given .1) (c .before .before .before .before .before .before .before .before .before .before .before .walk-rows .ensures)) _ (c .before .circle .ensures) (c .if1 .taken)
 
--- src/lib.rt:239:1
 same-length-5 : tie.Need-same-length-5
 same-length-5 c = search needs
 
--- src/lib.rt:239:1
 same-length-6 : tie.Need-same-length-6
 same-length-6 c = search needs
 
--- src/lib.rt:239:1
 returns-3 : tie.Need-returns-3
 returns-3 c =
     let s = c .before .before .before .before .before .before .before .before .before .before .before .before .before .before .before .before .before .before .before .before .before .before .before .before .before .before .before .before .before .before .before in

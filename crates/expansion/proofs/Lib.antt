@@ -1,0 +1,12 @@
+mod Passed
+mod Added
+mod Sim
+mod SimMessage
+mod SimOrder
+mod Twin
+mod Scenarios
+mod Turns
+mod Parts
+mod Reading
+mod Walking
+mod Whole

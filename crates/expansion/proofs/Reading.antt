@@ -1,0 +1,240 @@
+-- What the columns and the table lent hold, the rows being those of some text: each row stands where the walk comes to it, each
+-- sheet called starts where the table says, and the rows are few. Assumes nothing.
+use Prim.Native.Nat.{ℕ, zero, suc, _+_, _-_, _<_, _≤_}
+use native.Mathlib.Numerals.{add-one}
+use native.Mathlib.Omega.{arith}
+use mathlib.Core.Path.{_≡_, refl, _∙_, ap, ap₂, subst}
+use mathlib.Core.Bool.{Bool, true, false, not, cond, _&&_, _||_}
+use mathlib.Core.List.{List, [], _∷_}
+use mathlib.Core.Option.{Option, none, some}
+use lib.Dec.{eqb, leb, ltb}
+use lib.ListN.{length, getD, drop, length-append}
+use borrow.Author.Tests.{ltb-true}
+use Rattle.model.specs.Limits.{textMost, rowsMost, sheets}
+use Rattle.model.specs.Bounded.{among}
+use Rattle.model.specs.Refusal.{ok, refusal, andThen, headingRefusal, rowRefusal, placeRefusal, absentRefusal}
+use Rattle.model.specs.Text.{Line, Columns, linesOf, headingOf}
+use Rattle.model.specs.Rows.{Row, sheet, message, order, block, call, rowOf}
+use Rattle.model.specs.Place.{Place, outside, withMessage, moved, isSheet, placed, lineOf, judged, opens, strayCall, complete, bodyOf, readOf}
+use Rattle.model.specs.Place.{rowsFrom as rowsRead}
+use Rattle.model.specs.Expansion.{startOf}
+use Rattle.model.proofs.Refusal.{not-refused, and-then-ok, passed, cond-ok}
+use Rattle.model.proofs.Closure.{cells-length, cells-at}
+use Rattle.model.proofs.Standing.{Fits, read-fits}
+use Rattle.model.proofs.Walked.{OnOneBoard, message-parts, order-parts}
+use Rattle.expansion.specs.Bridge.{rowFrom, rowsAt, rowsOf, startIn}
+use Rattle.expansion.specs.Lent.{rowsFrom, AreRead, RowsRead}
+use Rattle.expansion.specs.Parts.{Present, AllStand}
+
+-- The rows from row i on.
+module _ (kind one two : List ℕ) where
+  rows-length : (i n : ℕ) → length (rowsAt kind one two i n) ≡ n
+  unfolding rowsAt
+  rows-length i zero = refl
+  rows-length i (suc n) = ap suc (rows-length (suc i) n)
+
+  rows-at-drop : (k i n : ℕ) → drop k (rowsAt kind one two i n) ≡ rowsAt kind one two (i + k) (n - k)
+  unfolding rowsAt
+  rows-at-drop zero i n =
+      let a : i ≡ i + 0 = omega arith in
+      let b : n ≡ n - 0 = omega arith in
+      ap₂ (rowsAt kind one two) a b
+  rows-at-drop (suc k) i zero = let b : 0 ≡ 0 - suc k = omega arith in ap (rowsAt kind one two (i + suc k)) b
+  rows-at-drop (suc k) i (suc n) =
+      let a : suc i + k ≡ i + suc k = omega arith in
+      let b : n - k ≡ suc n - suc k = omega arith in
+      rows-at-drop k (suc i) n ∙ ap₂ (rowsAt kind one two) a b
+
+  pub rows-drop : (count i : ℕ) → drop i (rowsOf kind one two count) ≡ rowsFrom kind one two count i
+  rows-drop count i = rows-at-drop i 0 count ∙ ap (λ (k : ℕ). rowsAt kind one two k (count - i)) (omega arith)
+
+  pub rows-next : (count i : ℕ) → i < count
+      → rowsFrom kind one two count i ≡ rowFrom (getD kind i 0) (getD one i 0) (getD two i 0) ∷ rowsFrom kind one two count (i + 1)
+  unfolding rowsAt
+  rows-next count i h =
+      let e : count - i ≡ suc (count - (i + 1)) = omega arith in
+      rw (e, add-one i)
+
+  pub rows-end : (count i : ℕ) → count ≤ i → rowsFrom kind one two count i ≡ []
+  unfolding rowsAt
+  rows-end count i h = let e : count - i ≡ 0 = omega arith in rw e
+
+-- a value that is there only on a test
+cond-some : {A : Type 0} (t : Bool) (a b : A) → cond t (some a) none ≡ some b → t ≡ true
+cond-some true a b e = refl
+cond-some false a b e = let z : _≡_ {A = ℕ} 0 1 = cc in absurd (omega arith)
+
+-- a row that is read is one of the first 512, and its place allows it
+pub record Judged (i : ℕ) (p q : Place) (r : Row) : Type 0 where
+  pub few : i < rowsMost
+  pub allowed : moved p r ≡ some q
+
+judged-row : (c : Columns) (i : ℕ) (p : Place) (l : Line) (rp : Row × Place) → judged c i p l ≡ ok rp → Judged i p (rp .1) (rp .0)
+unfolding judged placed
+judged-row c i p l rp e = form (ltb i rowsMost) refl (rowOf c l) e
+  where
+    place : (r : Row) (t : Bool) (o : Option Place) → moved p r ≡ o → i < rowsMost
+        → elim (cond t o none) [ none ↦ refusal placeRefusal (lineOf i) | some q ↦ ok (r, q) ] ≡ ok rp
+        → Judged i p (rp .1) (rp .0)
+    place r false o h k e = not-refused e
+    place r true none h k e = not-refused e
+    place r true (some q) h k e =
+        let t : _≡_ {A = Row × Place} (r, q) rp = cc in
+        subst (λ (z : Row × Place). Judged i p (z .1) (z .0)) t (record { few = k; allowed = h })
+
+    form : (b : Bool) → ltb i rowsMost ≡ b → (o : Option Row)
+        → elim (cond b o none) [
+          | none ↦ refusal rowRefusal (lineOf i)
+          | some r ↦ elim (cond (isSheet r || not (eqb (length (p .opened)) 0)) (moved p r) none) [ none ↦ refusal placeRefusal (lineOf i) | some q ↦ ok (r, q) ]
+        ] ≡ ok rp
+        → Judged i p (rp .1) (rp .0)
+    form false k o e = not-refused e
+    form true k none e = not-refused e
+    form true k (some r) e = place r (isSheet r || not (eqb (length (p .opened)) 0)) (moved p r) refl (ltb-true i rowsMost k) e
+
+-- the rows' sheets are 0 to 31 where they call, and the rows are few
+abbrev Known : Row → Type 0
+Known (sheet k) = Unit {0}
+Known (message a b) = Unit {0}
+Known (order x y) = Unit {0}
+Known block = Unit {0}
+Known (call k) = k < sheets
+
+abbrev AllKnown : List Row → Type 0
+AllKnown [] = Unit {0}
+AllKnown (r ∷ rs) = Known r × AllKnown rs
+
+moved-known : (p q : Place) (r : Row) → moved p r ≡ some q → Known r
+unfolding moved
+moved-known p q (sheet k) e = tt
+moved-known p q (message a b) e = tt
+moved-known p q (order x y) e = tt
+moved-known p q block e = tt
+moved-known p q (call k) e = ltb-true k sheets (cond-some (ltb k sheets) (record { opened = p .opened; events = [] }) q e)
+
+read-rows : (c : Columns) (i : ℕ) (p : Place) (ls : List Line) (rs : List Row) → rowsRead c i p ls ≡ ok rs → i ≤ rowsMost
+    → AllKnown rs × (i + length rs ≤ rowsMost)
+unfolding rowsRead
+read-rows c i p [] rs e h =
+    let t : [] ≡ rs = cc in subst (λ (z : List Row). AllKnown z × (i + length z ≤ rowsMost)) t (tt, omega arith)
+read-rows c i p (l ∷ ls) rs e h =
+    let s = passed (judged c i p l) (λ rp. elim (rowsRead c (suc i) (rp .1) ls) [ refusal number line ↦ refusal number line | ok rs′ ↦ ok (rp .0 ∷ rs′) ]) rs e in
+    let rp = s .0 in
+    let j = judged-row c i p l rp (s .1) in
+    let t = passed (rowsRead c (suc i) (rp .1) ls) (λ rs′. ok (rp .0 ∷ rs′)) rs (s .2) in
+    let e′ : rp .0 ∷ t .0 ≡ rs = cc (t .2) in
+    let on = read-rows c (suc i) (rp .1) ls (t .0) (t .1) (j .few) in
+    subst (λ (z : List Row). AllKnown z × (i + length z ≤ rowsMost)) e′
+    ((moved-known p (rp .1) (rp .0) (j .allowed), on .0), omega (arith, on .1))
+
+-- every sheet called is there
+abbrev AllPresent : List ℕ → List Row → Type 0
+AllPresent opened [] = Unit {0}
+AllPresent opened (r ∷ rs) = Present opened r × AllPresent opened rs
+
+all-present : (opened : List ℕ) (i : ℕ) (rs : List Row) → AllKnown rs → strayCall opened i rs ≡ none → AllPresent opened rs
+unfolding strayCall
+all-present opened i [] k e = tt
+all-present opened i (sheet n ∷ rs) k e = (tt, all-present opened (suc i) rs (k .1) e)
+all-present opened i (message a b ∷ rs) k e = (tt, all-present opened (suc i) rs (k .1) e)
+all-present opened i (order x y ∷ rs) k e = (tt, all-present opened (suc i) rs (k .1) e)
+all-present opened i (block ∷ rs) k e = (tt, all-present opened (suc i) rs (k .1) e)
+all-present opened i (call n ∷ rs) k e = go (among n opened) refl e (all-present opened (suc i) rs (k .1))
+  where
+    go : (b : Bool) → among n opened ≡ b → cond b (strayCall opened (suc i) rs) (some (lineOf i)) ≡ none
+        → (strayCall opened (suc i) rs ≡ none → AllPresent opened rs)
+        → Present opened (call n) × AllPresent opened rs
+    go true t e on = ((k .0, t), on e)
+    go false t e on = let z : _≡_ {A = ℕ} 0 1 = cc in absurd (omega arith)
+
+-- so the rows stand, from the open block's events on
+all-stand : (opened events : List ℕ) (rs : List Row) → Fits events rs → AllPresent opened rs → AllStand opened (length events) rs
+all-stand opened events [] f p = tt
+all-stand opened events (sheet n ∷ rs) f p = (tt, tt, all-stand opened [] rs f (p .1))
+all-stand opened events (message a b ∷ rs) f p = (
+  message-parts events a b (f .0),
+  tt,
+  subst (λ (n : ℕ). AllStand opened n rs) (length-append events (a ∷ b ∷ [])) (all-stand opened (withMessage events a b) rs (f .1) (p .1)),
+)
+all-stand opened events (order x y ∷ rs) f p =
+    let o : OnOneBoard events x y = order-parts events x y (f .0) in
+    ((o .firstThere, o .secondThere), tt, all-stand opened events rs (f .1) (p .1))
+all-stand opened events (block ∷ rs) f p = (tt, tt, all-stand opened [] rs f (p .1))
+all-stand opened events (call n ∷ rs) f p = (tt, p .0, all-stand opened [] rs f (p .1))
+
+-- and so do the rows behind each sheet's S row
+sheet-stand : (opened : List ℕ) (k n : ℕ) (rs : List Row) → AllStand opened k rs → AllStand opened 0 (drop (startOf n rs) rs)
+unfolding startOf
+sheet-stand opened k n [] a = tt
+sheet-stand opened k n (sheet m ∷ rs) a = go (eqb m n) (sheet-stand opened 0 n rs (a .2))
+  where
+    go : (b : Bool) → AllStand opened 0 (drop (startOf n rs) rs)
+        → AllStand opened 0 (drop (elim b [ true ↦ 1 | false ↦ suc (startOf n rs) ]) (sheet m ∷ rs))
+    go true g = a .2
+    go false g = g
+sheet-stand opened k n (message x y ∷ rs) a = sheet-stand opened (k + 2) n rs (a .2)
+sheet-stand opened k n (order x y ∷ rs) a = sheet-stand opened k n rs (a .2)
+sheet-stand opened k n (block ∷ rs) a = sheet-stand opened 0 n rs (a .2)
+sheet-stand opened k n (call m ∷ rs) a = sheet-stand opened 0 n rs (a .2)
+
+-- What the rows of a text are: few, each stands, and sheet 0 is there.
+record Whole (rs : List Row) : Type 0 where
+  pub few : length rs ≤ rowsMost
+  pub present : AllPresent (opens rs) rs
+  pub begins : among 0 (opens rs) ≡ true
+
+complete-whole : (c : Columns) (ls : List Line) (rs₀ rs : List Row) → rowsRead c 0 outside ls ≡ ok rs₀ → complete rs₀ ≡ ok rs → Whole rs
+unfolding complete
+complete-whole c ls rs₀ rs e f =
+    let t = cond-ok (among 0 (opens rs₀)) _ _ _ rs f in go (strayCall (opens rs₀) 0 rs₀) refl (t .0) (t .1)
+  where
+    go : (o : Option ℕ) → strayCall (opens rs₀) 0 rs₀ ≡ o → among 0 (opens rs₀) ≡ true
+        → elim o [ none ↦ ok rs₀ | some line ↦ refusal absentRefusal line ] ≡ ok rs
+        → Whole rs
+    go none s b h =
+        let same : rs₀ ≡ rs = cc in
+        let r = read-rows c 0 outside ls rs₀ e (omega arith) in
+        subst Whole same (record { few = omega (arith, r .1); present = all-present (opens rs₀) 0 rs₀ (r .0) s; begins = b })
+    go (some line) s b h = not-refused h
+
+body-whole : (ls : List Line) (rs : List Row) → bodyOf ls ≡ ok rs → Whole rs
+unfolding bodyOf
+body-whole [] rs e = not-refused e
+body-whole (h ∷ ls) rs e = go (headingOf h) e
+  where
+    go : (o : Option Columns)
+        → elim o [ none ↦ refusal headingRefusal 1 | some c ↦ andThen (rowsRead c 0 outside ls) complete ] ≡ ok rs
+        → Whole rs
+    go none e = not-refused e
+    go (some c) e = let t = and-then-ok (rowsRead c 0 outside ls) complete rs e in complete-whole c ls (t .0) rs (t .1) (t .2)
+
+read-whole : (rs : List Row) → AreRead rs → Whole rs
+unfolding readOf
+read-whole rs r =
+    body-whole (linesOf (r .0)) rs
+    (cond-ok (ltb 0 (length (r .0)) && leb (length (r .0)) textMost) (bodyOf (linesOf (r .0))) _ _ rs (r .1) .1)
+
+-- The rows lent are few, so a row's line fits.
+pub rows-few : (kind one two : List ℕ) (count : ℕ) → AreRead (rowsOf kind one two count) → count ≤ rowsMost
+rows-few kind one two count r = omega (arith, rows-length kind one two 0 count, read-whole (rowsOf kind one two count) r .few)
+
+module _ (kind one two : List ℕ) (count : ℕ) (start : List ℕ) (lent : RowsRead kind one two count start) where
+  abbrev file : List Row
+  file = rowsOf kind one two count
+
+  -- a sheet that is there starts where the table says
+  pub start-at : (n : ℕ) → n < sheets → among n (opens file) ≡ true → getD start n 0 ≡ startOf n file
+  unfolding startIn
+  start-at n h a = ap (λ (l : List ℕ). getD l n 0) (lent .starts) ∙ cells-at sheets (startIn file) n 0 h ∙ rw a
+
+  pub start-long : length start ≡ sheets
+  start-long = ap length (lent .starts) ∙ cells-length sheets (startIn file)
+
+  pub start-zero : getD start 0 0 ≡ startOf 0 file
+  start-zero = start-at 0 (omega arith) (read-whole file (lent .read) .begins)
+
+  -- and its rows stand
+  pub start-stand : (n : ℕ) → AllStand (opens file) 0 (drop (startOf n file) file)
+  start-stand n =
+      sheet-stand (opens file) 0 n file
+      (all-stand (opens file) [] file (read-fits (lent .read .0) file (lent .read .1)) (read-whole file (lent .read) .present))

@@ -1,0 +1,6 @@
+pub mod Bridge
+pub mod Lent
+pub mod Outcome
+pub mod Store
+pub mod Room
+pub mod Parts

@@ -7,8 +7,10 @@ use native.Mathlib.Nat.{not-suc-le-zero, le-of-suc-le-suc}
 use native.Mathlib.Decide.{ℕ-discrete}
 use native.Mathlib.Omega.{arith}
 use lib.Dec.{eqb}
-use lib.ListN.{length, getD, set, replicate}
+use lib.ListN.{length, length-map, getD, set, replicate}
 use lib.Seq.{getD-set-same, getD-set-other}
+use mir.Val.{Val}
+use denote.Laws.{Is}
 use borrow.Author.Tests.{eq-eqb, ne-eqb}
 use Rattle.model.specs.Limits.{boards}
 use Rattle.model.specs.Order.{Event, sendOf, receiveOf, number}
@@ -19,6 +21,7 @@ use Rattle.relation.proofs.Tests.{eqb-same}
 use Rattle.channel.specs.declared.Buffer.{Buffer}
 use Rattle.channel.specs.declared.Run.{Run}
 use Rattle.channel.specs.State.{inRow, With, Without, bufferOf, stateOf, Follows}
+use Rattle.channel.proofs.Run.{the-row}
 use Rattle.channel.proofs.Rows.{alone-row}
 
 -- a message is the bit of its send
@@ -75,6 +78,10 @@ getD-inside : {A : Type 0} (l : List A) (i : ℕ) (d e : A) → i < length l →
 getD-inside [] i d e h = absurd (not-suc-le-zero h)
 getD-inside (a ∷ l) zero d e h = refl
 getD-inside (a ∷ l) (suc i) d e h = getD-inside l i d e (le-of-suc-le-suc h)
+
+-- a run has a buffer for each board: its type says so
+pub buffers-long : (run : Run) (vs : List Val) → Is the-row run vs → length (run .buffers) ≡ boards
+buffers-long run vs good = simp length-map at (good .1 .1 .1 .1 .0 .1 .0 .1)
 
 -- a buffer as the code reads it is that of the board
 pub buffer-read : (run : Run) (b at : ℕ) (other : Buffer) → b ≡ at → b < length (run .buffers) → bufferOf run at ≡ getD (run .buffers) b other

@@ -1,11 +1,9 @@
 -- `channel::allowed_deliver` meets its contract: `may_deliver` of the run's own pieces.
 -- Assumes nothing.
-use mathlib.Core.Path.{_≡_, refl}
+use mathlib.Core.Path.{refl}
 use Prim.Native.Nat.{_+_, _*_}
 use native.Mathlib.Omega.{arith}
-use lib.ListN.{length, length-map}
-use Rattle.model.specs.Limits.{boards}
-use Rattle.channel.proofs.Steps.{buffer-read}
+use Rattle.channel.proofs.Steps.{buffers-long, buffer-read}
 use borrow.Author.Needs.{needs}
 use Rattle.channel.proofs.allowed_deliver.Statement.{statement}
 use Rattle.channel.proofs.allowed_deliver.Tie as tie
@@ -41,7 +39,7 @@ returns : tie.Need-returns
 returns c =
     let w = c .before .before .before .before in
     let s = w .before .before .before .before .before in
-    let long : length (s .args .t1 .buffers) ≡ boards = simp length-map at (s .good .0 .1 .1 .1 .1 .0 .1 .0 .1) in
+    let long = buffers-long (s .args .t1) _ (s .good .0) in
     let board = s .pre .0 .boardsBelow (2 * s .args .m + 1) (omega arith) in
     c .may-deliver .ensures (s .args .t1) refl (buffer-read (s .args .t1) _ _ _ (w .wide .ensures) (omega arith))
 

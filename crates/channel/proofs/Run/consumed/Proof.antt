@@ -1,11 +1,9 @@
 -- `channel::Run::consumed` meets its contract: `consumed-follows`, the board being one that there is.
 -- Assumes nothing.
-use mathlib.Core.Path.{_≡_}
 use Prim.Native.Nat.{_<_}
 use native.Mathlib.Omega.{arith}
-use lib.ListN.{length, length-map}
-use Rattle.model.specs.Limits.{boards}
-use Rattle.channel.proofs.Steps.{consumed-follows}
+use lib.ListN.{length}
+use Rattle.channel.proofs.Steps.{buffers-long, consumed-follows}
 use borrow.Author.Needs.{needs}
 use Rattle.channel.proofs.Run.consumed.Statement.{statement}
 use Rattle.channel.proofs.Run.consumed.Tie as tie
@@ -42,8 +40,10 @@ with-requires c κs = search needs
 
 returns : tie.Need-returns
 returns c =
-    let long : length (c .before .before .before .before .before .before .before .before .before .before .args .self .buffers) ≡ boards = simp length-map at (c .before .before .before .before .before .before .before .before .before .before .good .0 .1 .1 .1 .1 .0 .1 .0 .1) in
-    let inside : c .before .before .before .before .before .before .before .wide .result < length (c .before .before .before .before .before .before .before .before .before .before .args .self .buffers) = omega arith in
+    let w = c .before .before .before .before .before .before .before in
+    let s = w .before .before .before in
+    let long = buffers-long (s .args .self) _ (s .good .0) in
+    let inside : w .wide .result < length (s .args .self .buffers) = omega arith in
     search consumed-follows
 
 pub consumed-spec : {M : Type 1} → statement M

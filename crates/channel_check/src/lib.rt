@@ -1,6 +1,20 @@
 // The channel check as one call: a text, a channel code, scratch words and trace bytes in; the answer out.
 ghost use mathlib.Core.Path.{_≡_};
+ghost use Prim.Native.Nat.{_*_, _<_, _≤_};
+ghost use lib.ListN.{length};
+ghost use Rattle.model.specs.Limits.{channels, messagesMost, traceLeast};
+ghost use Rattle.model.specs.Answer.{expandedOf, sheetOf};
+ghost use Rattle.model.specs.Refusal.{ok};
+ghost use Rattle.relation.specs.Width.{width};
+ghost use Rattle.relation.specs.Scenario.{scenarioIn};
+ghost use Rattle.sheet.specs.Bridge.{rowsOf};
+ghost use Rattle.expansion.specs.Lent.{RowsRead};
 ghost use Rattle.channel_check.specs.Contract.{Checked, numbersFor, numbersIn};
+ghost use Rattle.channel_check.specs.Parts.{Fit, Decides, IsRace};
+
+use expansion::Expanded;
+use race::Lowest;
+use sheet::Verdict;
 
 // Free; locked, with the race's message and event and the number of steps in the trace; or refused, with number and line.
 pub enum Answer {
@@ -16,4 +30,35 @@ pub struct ChannelCheckAnswer {
     pub one: u32,
     pub two: u32,
     pub three: u32,
+}
+
+// The words of the relation, a row for each event: all that the check keeps in the scratch.
+const RELATION_WORDS: usize = model::EVENTS_MOST * relation::WIDTH;
+
+// The race (e, x) is named: the schedule for e goes into the trace.
+fn lock(words: &[u64], boards: &[u8], count: usize, code: usize, e: usize, x: usize, trace: &mut [u8]) -> Answer
+    requires { ⌜ Fit count (now boards) (now words) ⌝ }
+    requires { ⌜ (code < channels) × (traceLeast ≤ length (now trace)) ⌝ }
+    requires { ⌜ IsRace (scenarioIn count (now boards) (now words)) code e x ⌝ }
+    ensures { λ r. ⌜ Decides (ok (scenarioIn count (now (boards .entry)) (now (words .entry)))) code (now (trace .entry)) (now (trace .exit)) r ⌝ }
+{
+    let mut masks = [0u64; channel::MASK_WORDS];
+    channel::board_masks(boards, count, &mut masks);
+    let c = channel::channel_of(code);
+    let steps = schedule::schedule(words, &masks, boards, count, c, e, trace);
+    Answer::Locked(e, x, steps)
+}
+
+// An accepted sheet is locked exactly if its causal order has a race of the channel's kind.
+fn decide(words: &[u64], boards: &[u8], count: usize, code: usize, trace: &mut [u8]) -> Answer
+    requires { ⌜ Fit count (now boards) (now words) ⌝ }
+    requires { ⌜ (code < channels) × (traceLeast ≤ length (now trace)) ⌝ }
+    ensures { λ r. ⌜ Decides (ok (scenarioIn count (now (boards .entry)) (now (words .entry)))) code (now (trace .entry)) (now (trace .exit)) r ⌝ }
+{
+    let rule = race::rule_of(code);
+    let lowest = race::lowest_race(words, boards, count, rule);
+    match lowest {
+        Lowest::Nothing => Answer::Free,
+        Lowest::Race(e, x) => lock(words, boards, count, code, e, x, trace),
+    }
 }

@@ -5,14 +5,29 @@ use mathlib.Core.Option.{Option, none, some}
 use Prim.Native.Nat.{ℕ, _+_, _*_, _<_, _≤_}
 use native.Mathlib.Omega.{arith}
 use lib.ListN.{length, drop}
-use Rattle.model.specs.Refusal.{Out, ok, refusal}
+use Rattle.model.specs.Limits as limits
+use Rattle.model.specs.Limits.{messagesMost, scratchLeast, traceLeast}
+use Rattle.model.specs.Refusal.{Out, ok, refusal, andThen}
+use Rattle.model.specs.Rows.{Row}
 use Rattle.model.specs.Order.{Scenario, event}
 use Rattle.model.specs.Channel as model
 use Rattle.model.specs.Race.{RaceRule, raceRuleOf, isRace, races, lowestEvent, lowestMessage, lowestRace}
 use Rattle.model.specs.Schedule.{schedule, bytesOf}
-use Rattle.model.specs.Answer.{Numbers, lockedWord, free, locked, verdictOf, answerFor, numbersOf, traceAfter}
+use Rattle.model.specs.Answer.{Numbers, lockedWord, free, locked, expandedOf, sheetOf, acceptedOf, verdictOf, answerFor, numbersOf, traceAfter}
 use Rattle.model.specs.Bounded as bounded
 use Rattle.model.proofs.Bounded.{IsLowest, lowest-some}
+use Rattle.model.proofs.Accepted.{accepted-count, accepted-boards}
+use Rattle.relation.specs.Scenario.{scenarioIn}
+use Rattle.relation.proofs.Scenario.{board-at}
+use Rattle.sheet.specs.declared.Verdict.{Verdict}
+use Rattle.sheet.specs.declared.Verdict.the-variants as verdict
+use Rattle.sheet.specs.Bridge.{rowsOf, ReadAs}
+use Rattle.sheet.proofs.Bridge.{refused-is, rows-are, starts-are, count-most, kind-long, one-long, two-long}
+use Rattle.expansion.specs.declared.Expanded.{Expanded}
+use Rattle.expansion.specs.declared.Expanded.the-variants as expanded
+use Rattle.expansion.specs.Outcome as expands
+use Rattle.expansion.specs.Lent.{AreRead, RowsRead}
+use Rattle.channel.specs.Masks.{BoardsBelow}
 use Rattle.race.specs.declared.Rule.{Rule}
 use Rattle.race.specs.declared.Lowest.{Lowest}
 use Rattle.race.specs.declared.Lowest.the-variants as lowest
@@ -85,3 +100,65 @@ module _ (S : Scenario) (code : ℕ) (rule : Rule) (v : Lowest) (same : ruleIn r
 
   pub unnamed : (trace : List ℕ) → v ≡ lowest.Nothing → Decides (ok S) code trace trace Free
   unnamed trace i = frees S code trace (ap (lowestRace S) (sym same) ∙ sym found ∙ ap raceIn i)
+
+-- a refusal handed on
+refuses : (number line code : ℕ) (trace : List ℕ) → Decides (refusal number line) code trace trace (Refused number line)
+unfolding answerFor traceAfter
+refuses number line code trace = record { answer = refl; traceLeft = refl }
+
+-- What the expansion of rows that were read hands on.
+module _ (rs : List Row) (v : Expanded) (boards words : List ℕ) (h : expands.outcomeOf v boards words ≡ expandedOf rs) where
+  pub expansion-refuses : (number line code : ℕ) (trace : List ℕ) → v ≡ expanded.Refused number line
+      → Decides (expandedOf rs) code trace trace (Refused number line)
+  expansion-refuses number line code trace i =
+      subst (λ (o : Out Scenario). Decides o code trace trace (Refused number line))
+      (sym (ap (λ (w : Expanded). expands.outcomeOf w boards words) i) ∙ h) (refuses number line code trace)
+
+  module _ (m : ℕ) (i : v ≡ expanded.Messages m) where
+    scenario-is : expandedOf rs ≡ ok (scenarioIn m boards words)
+    scenario-is = sym h ∙ ap (λ (w : Expanded). expands.outcomeOf w boards words) i
+
+    pub expansion-decides : (code : ℕ) (trace behind : List ℕ) (r : Answer) → Decides (ok (scenarioIn m boards words)) code trace behind r
+        → Decides (expandedOf rs) code trace behind r
+    expansion-decides code trace behind r d = subst⁻¹ (λ (o : Out Scenario). Decides o code trace behind r) scenario-is d
+
+    module _ (read : AreRead rs) where
+      -- with the least buffers and any channel the sheet is accepted
+      accepted-least : acceptedOf (read .0) 0 scratchLeast traceLeast ≡ ok (scenarioIn m boards words)
+      unfolding acceptedOf sheetOf andThen
+      accepted-least = subst⁻¹ (λ (o : Out (List Row)). andThen o expandedOf ≡ ok (scenarioIn m boards words)) (read .1) scenario-is
+
+      pub fit-few : m ≤ messagesMost
+      fit-few = accepted-count (read .0) 0 scratchLeast traceLeast (scenarioIn m boards words) accepted-least
+
+      pub fit-below : BoardsBelow m boards
+      fit-below x l =
+          subst (λ (b : ℕ). b < limits.boards) (board-at m boards words x)
+          (accepted-boards (read .0) 0 scratchLeast traceLeast (scenarioIn m boards words) accepted-least (event x))
+
+-- What the reading of a text hands on.
+module _ (text kind one two start : List ℕ) (v : Verdict) (p : ReadAs text kind one two start v) where
+  pub reading-refuses : (number line code : ℕ) (trace : List ℕ) → v ≡ verdict.Refused number line
+      → Decides (sheetOf text) code trace trace (Refused number line)
+  unfolding sheetOf andThen
+  reading-refuses number line code trace i =
+      subst⁻¹ (λ (o : Out (List Row)). Decides (andThen o expandedOf) code trace trace (Refused number line))
+      (refused-is text kind one two start v p number line i) (refuses number line code trace)
+
+  module _ (count : ℕ) (i : v ≡ verdict.Rows count) where
+    pub rows-read : RowsRead kind one two count start
+    rows-read =
+        let few = count-most text kind one two start v p count i in
+        record {
+          read = (text, rows-are text kind one two start v p count i);
+          starts = starts-are text kind one two start v p count i;
+          kindLong = omega (arith, kind-long text kind one two start v p count i);
+          oneLong = omega (arith, one-long text kind one two start v p count i);
+          twoLong = omega (arith, two-long text kind one two start v p count i);
+        }
+
+    pub reading-decides : (code : ℕ) (trace behind : List ℕ) (r : Answer) → Decides (expandedOf (rowsOf kind one two count)) code trace behind r
+        → Decides (sheetOf text) code trace behind r
+    unfolding sheetOf andThen
+    reading-decides code trace behind r d =
+        subst⁻¹ (λ (o : Out (List Row)). Decides (andThen o expandedOf) code trace behind r) (rows-are text kind one two start v p count i) d

@@ -62,3 +62,44 @@ fn decide(words: &[u64], boards: &[u8], count: usize, code: usize, trace: &mut [
         Lowest::Race(e, x) => lock(words, boards, count, code, e, x, trace),
     }
 }
+
+// The rows of a text that is read: expanded, and decided.
+fn judge_rows(
+    kind: &[u8],
+    one: &[u8],
+    two: &[u8],
+    count: usize,
+    start: &[u16],
+    code: usize,
+    words: &mut [u64],
+    trace: &mut [u8],
+) -> Answer
+    requires { ⌜ RowsRead (now kind) (now one) (now two) count (now start) ⌝ }
+    requires { ⌜ length (now words) ≡ 2 * messagesMost * width ⌝ }
+    requires { ⌜ (code < channels) × (traceLeast ≤ length (now trace)) ⌝ }
+    ensures { λ r. ⌜ Decides (expandedOf (rowsOf (now (kind .entry)) (now (one .entry)) (now (two .entry)) count)) code (now (trace .entry)) (now (trace .exit)) r ⌝ }
+{
+    let mut boards = [0u8; model::EVENTS_MOST];
+    let expanded = expansion::expand(kind, one, two, count, start, &mut boards, words);
+    match expanded {
+        Expanded::Refused(number, line) => Answer::Refused(number, line),
+        Expanded::Messages(messages) => decide(words, &boards, messages, code, trace),
+    }
+}
+
+// A text: read, expanded and decided, in the words of the relation.
+fn judge(text: &[u8], code: usize, words: &mut [u64], trace: &mut [u8]) -> Answer
+    requires { ⌜ length (now words) ≡ 2 * messagesMost * width ⌝ }
+    requires { ⌜ (code < channels) × (traceLeast ≤ length (now trace)) ⌝ }
+    ensures { λ r. ⌜ Decides (sheetOf (now (text .entry))) code (now (trace .entry)) (now (trace .exit)) r ⌝ }
+{
+    let mut kind = [0u8; model::ROWS_MOST];
+    let mut one = [0u8; model::ROWS_MOST];
+    let mut two = [0u8; model::ROWS_MOST];
+    let mut start = [0u16; model::SHEETS];
+    let verdict = sheet::read(text, &mut kind, &mut one, &mut two, &mut start);
+    match verdict {
+        Verdict::Refused(number, line) => Answer::Refused(number, line),
+        Verdict::Rows(count) => judge_rows(&kind, &one, &two, count, &start, code, words, trace),
+    }
+}

@@ -2,7 +2,7 @@
 use mathlib.Core.Path.{_≡_, refl, sym, _∙_, ap, subst, subst⁻¹}
 use mathlib.Core.List.{List, _++_}
 use mathlib.Core.Option.{Option, none, some}
-use Prim.Native.Nat.{ℕ, _+_, _*_, _<_, _≤_}
+use Prim.Native.Nat.{ℕ, _+_, _*_, _^_, _<_, _≤_}
 use native.Mathlib.Omega.{arith}
 use lib.ListN.{length, drop}
 use Rattle.model.specs.Limits as limits
@@ -36,7 +36,7 @@ use Rattle.schedule.specs.Bridge.{Scheduled}
 use Rattle.channel_check.specs.declared.Answer.{Answer}
 use Rattle.channel_check.specs.declared.Answer.the-variants.{Free, Locked, Refused}
 use Rattle.channel_check.specs.Contract.{numbersFor}
-use Rattle.channel_check.specs.Parts.{IsRace, Decides}
+use Rattle.channel_check.specs.Parts.{Small, IsRace, Decides}
 
 -- the race named is of the scenario's messages and events
 pub race-below : (S : Scenario) (code e x : ℕ) → IsRace S code e x → (e < S .count) × (x < 2 * S .count)
@@ -45,6 +45,7 @@ race-below S code e x h = go (bounded.lowest (S .count) (races S r)) refl h
   where
     r : RaceRule
     r = raceRuleOf code
+
     with-event : (f : ℕ) → f < S .count → (o : Option ℕ) → lowestEvent S r f ≡ o → _≡_ {A = Option (ℕ × ℕ)} (elim o [ none ↦ none | some y ↦ some (f, y) ]) (some (e, x))
         → (e < S .count) × (x < 2 * S .count)
     with-event f l none i k = let z : _≡_ {A = ℕ} 0 1 = cc in absurd (omega arith)
@@ -52,6 +53,7 @@ race-below S code e x h = go (bounded.lowest (S .count) (races S r)) refl h
         let pair : _≡_ {A = ℕ × ℕ} (f, y) (e, x) = cc in
         let L = lowest-some (2 * S .count) (λ j. isRace S r f (event j)) y i in
         (subst (λ (n : ℕ). n < S .count) (ap (λ p. p .0) pair) l, subst (λ (n : ℕ). n < 2 * S .count) (ap (λ p. p .1) pair) (L .below))
+
     go : (o : Option ℕ) → bounded.lowest (S .count) (races S r) ≡ o → _≡_ {A = Option (ℕ × ℕ)} (elim o [ none ↦ none | some f ↦ elim (lowestEvent S r f) [ none ↦ none | some y ↦ some (f, y) ] ]) (some (e, x))
         → (e < S .count) × (x < 2 * S .count)
     go none i k = let z : _≡_ {A = ℕ} 0 1 = cc in absurd (omega arith)
@@ -63,7 +65,7 @@ module _ (S : Scenario) (code : ℕ) where
   verdict-locked e x h =
       subst⁻¹
       (λ (o : Option (ℕ × ℕ)). elim o [ none ↦ free | some race ↦ locked (race .0) (race .1) (schedule S (model.channelOf code) (race .0)) ]
-        ≡ locked e x (schedule S (model.channelOf code) e))
+      ≡ locked e x (schedule S (model.channelOf code) e))
       h refl
 
   verdict-free : lowestRace S (raceRuleOf code) ≡ none → verdictOf S code ≡ free
@@ -162,3 +164,22 @@ module _ (text kind one two start : List ℕ) (v : Verdict) (p : ReadAs text kin
     unfolding sheetOf andThen
     reading-decides code trace behind r d =
         subst⁻¹ (λ (o : Out (List Row)). Decides (andThen o expandedOf) code trace behind r) (rows-are text kind one two start v p count i) d
+
+-- What `numbers` asks and shows, by the answer.
+module _ (a : Answer) where
+  pub small-locked : (e x steps : ℕ) → a ≡ Locked e x steps → Small (numbersFor a) → (e < 2 ^ 32) × (x < 2 ^ 32) × (steps < 2 ^ 32)
+  small-locked e x steps i s =
+      let t = subst (λ (b : Answer). Small (numbersFor b)) i s in
+      (t .one, t .two, t .three)
+
+  pub small-line : (number line : ℕ) → a ≡ Refused number line → Small (numbersFor a) → line < 2 ^ 32
+  small-line number line i s = subst (λ (b : Answer). Small (numbersFor b)) i s .two
+
+  pub free-numbers : a ≡ Free → _≡_ {A = Numbers} (record { word = 0; one = 0; two = 0; three = 0 }) (numbersFor a)
+  free-numbers i = ap numbersFor (sym i)
+
+  pub locked-numbers : (e x steps : ℕ) → a ≡ Locked e x steps → _≡_ {A = Numbers} (record { word = 1; one = e; two = x; three = steps }) (numbersFor a)
+  locked-numbers e x steps i = ap numbersFor (sym i)
+
+  pub refused-numbers : (number line : ℕ) → a ≡ Refused number line → _≡_ {A = Numbers} (record { word = 2; one = number; two = line; three = 0 }) (numbersFor a)
+  refused-numbers number line i = ap numbersFor (sym i)

@@ -17,11 +17,15 @@ use Rattle.model.specs.Order.{Scenario}
 use Rattle.model.specs.Channel.{channelOf}
 use Rattle.model.specs.Race.{raceRuleOf, lowestRace}
 use Rattle.model.specs.Schedule.{schedule}
-use Rattle.model.specs.Answer.{Answer, free, locked, refused, Numbers, sheetOf, acceptedOf, verdictOf, answerFor, answerOf, touchesNothing, numbersOf, scratchAfter, traceAfter}
+use Rattle.model.specs.Answer.{Answer, free, locked, refused, Numbers, refusedWord, sheetOf, acceptedOf, verdictOf, answerFor, answerOf, touchesNothing, numbersOf, scratchAfter, traceAfter}
 use Rattle.model.specs.Verdict.{PointThree}
 use Rattle.model.proofs.PointThree.{point-three}
 use Rattle.model.proofs.Lines.{Named, Well, sheet-well}
-use Rattle.channel_check.specs.Contract.{Checked}
+use Rattle.relation.specs.Rows.{cleared}
+use Rattle.channel_check.specs.declared.Answer as answer-type
+use Rattle.channel_check.specs.Contract.{Checked, numbersFor}
+use Rattle.channel_check.specs.Parts.{Small, Decides}
+use Rattle.channel_check.proofs.Small.{answer-small}
 
 -- What is answered, and left in the buffers, as the model says: then point 3 holds of it.
 pub checked-from : (text : List ℕ) (code : ℕ) (scratch scratchExit trace traceExit : List ℕ) (r : Numbers) (a : Answer)
@@ -83,3 +87,42 @@ scratch-left text code scratch used n e l =
     ap (λ j. drop j (used ++ drop n scratch)) (sym at) ∙ drop-append-add used (drop n scratch) k ∙ drop-drop k n scratch
     ∙ ap (λ j. drop j scratch) back in
     rw (touches text code, rest)
+
+-- What each return of `check` is to show.
+module _ (text : List ℕ) (code : ℕ) (scratch trace : List ℕ) where
+  pub refuses-channel : channels ≤ code
+      → Checked text code scratch scratch trace trace (record { word = refusedWord; one = channelRefusal; two = 0; three = 0 })
+  unfolding scratchAfter traceAfter
+  refuses-channel h =
+      checked-from text code scratch scratch trace trace _ (refused channelRefusal 0) (no-channel text code (length scratch) (length trace) h) refl refl refl
+
+  pub refuses-scratch : code < channels → length scratch < scratchLeast
+      → Checked text code scratch scratch trace trace (record { word = refusedWord; one = benchRefusal; two = 0; three = 0 })
+  unfolding scratchAfter traceAfter
+  refuses-scratch h l =
+      checked-from text code scratch scratch trace trace _ (refused benchRefusal 0) (short-scratch text code (length scratch) (length trace) h l) refl refl refl
+
+  pub refuses-trace : code < channels → scratchLeast ≤ length scratch → length trace < traceLeast
+      → Checked text code scratch scratch trace trace (record { word = refusedWord; one = benchRefusal; two = 0; three = 0 })
+  unfolding scratchAfter traceAfter
+  refuses-trace h l k =
+      checked-from text code scratch scratch trace trace _ (refused benchRefusal 0) (short-trace text code (length scratch) (length trace) h l k) refl refl refl
+
+  pub answers : (scratchExit traceExit used : List ℕ) (n : ℕ) (r : answer-type.Answer) → code < channels → scratchLeast ≤ length scratch → traceLeast ≤ length trace
+      → length used ≡ n → n ≤ scratchLeast → scratchExit ≡ cleared scratchLeast (used ++ drop n scratch) → Decides (sheetOf text) code trace traceExit r
+      → Checked text code scratch scratchExit trace traceExit (numbersFor r)
+  unfolding cleared
+  answers scratchExit traceExit used n r h l k e m s d =
+      checked-from text code scratch scratchExit trace traceExit (numbersFor r) (answerFor (sheetOf text) code)
+      (by-sheet text code (length scratch) (length trace) h l k) (d .answer) (s ∙ scratch-left text code scratch used n e m) (d .traceLeft)
+
+-- the numbers answered are small, and handing them on keeps the promise
+pub small-checked : (text : List ℕ) (code : ℕ) (scratch scratchExit trace traceExit : List ℕ) (r : Numbers)
+    → Checked text code scratch scratchExit trace traceExit r → Small r
+small-checked text code scratch scratchExit trace traceExit r h =
+    subst⁻¹ Small (h .answer) (answer-small text code (length scratch) (length trace))
+
+pub same-numbers : (text : List ℕ) (code : ℕ) (scratch scratchExit trace traceExit : List ℕ) (r q : Numbers)
+    → Checked text code scratch scratchExit trace traceExit r → q ≡ r → Checked text code scratch scratchExit trace traceExit q
+same-numbers text code scratch scratchExit trace traceExit r q h i =
+    subst⁻¹ (λ (n : Numbers). Checked text code scratch scratchExit trace traceExit n) i h

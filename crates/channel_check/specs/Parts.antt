@@ -2,13 +2,13 @@
 use mathlib.Core.Path.{_≡_}
 use mathlib.Core.List.{List}
 use mathlib.Core.Option.{some}
-use Prim.Native.Nat.{ℕ, _*_, _≤_}
+use Prim.Native.Nat.{ℕ, _*_, _^_, _<_, _≤_}
 use lib.ListN.{length}
 use Rattle.model.specs.Limits.{messagesMost}
 use Rattle.model.specs.Refusal.{Out}
 use Rattle.model.specs.Order.{Scenario}
 use Rattle.model.specs.Race.{raceRuleOf, lowestRace}
-use Rattle.model.specs.Answer.{answerFor, numbersOf, traceAfter}
+use Rattle.model.specs.Answer.{Numbers, answerFor, numbersOf, traceAfter}
 use Rattle.relation.specs.Width.{width}
 use Rattle.channel.specs.Masks.{BoardsBelow}
 use Rattle.channel_check.specs.declared.Answer.{Answer}
@@ -20,6 +20,12 @@ pub record Fit (count : ℕ) (boards words : List ℕ) : Type 0 where
   pub boardsLong : length boards ≡ 2 * messagesMost
   pub wordsLong : length words ≡ 2 * messagesMost * width
   pub boardsBelow : BoardsBelow count boards
+
+-- the numbers behind the word fit 32 bits
+pub record Small (r : Numbers) : Type 0 where
+  pub one : r .one < 2 ^ 32
+  pub two : r .two < 2 ^ 32
+  pub three : r .three < 2 ^ 32
 
 -- e and x are the race named
 abbrev pub IsRace : Scenario → ℕ → ℕ → ℕ → Type 0

@@ -10,8 +10,7 @@ ghost use Rattle.relation.specs.Scenario.{scenarioIn};
 ghost use Rattle.sheet.specs.Bridge.{rowsOf};
 ghost use Rattle.expansion.specs.Lent.{RowsRead};
 ghost use Rattle.channel_check.specs.Contract.{Checked, numbersFor, numbersIn};
-ghost use Rattle.channel_check.specs.Parts.{Fit, Decides, IsRace};
-
+ghost use Rattle.channel_check.specs.Parts.{Fit, Small, Decides, IsRace};
 use expansion::Expanded;
 use race::Lowest;
 use sheet::Verdict;
@@ -36,7 +35,15 @@ pub struct ChannelCheckAnswer {
 const RELATION_WORDS: usize = model::EVENTS_MOST * relation::WIDTH;
 
 // The race (e, x) is named: the schedule for e goes into the trace.
-fn lock(words: &[u64], boards: &[u8], count: usize, code: usize, e: usize, x: usize, trace: &mut [u8]) -> Answer
+fn lock(
+    words: &[u64],
+    boards: &[u8],
+    count: usize,
+    code: usize,
+    e: usize,
+    x: usize,
+    trace: &mut [u8],
+) -> Answer
     requires { ⌜ Fit count (now boards) (now words) ⌝ }
     requires { ⌜ (code < channels) × (traceLeast ≤ length (now trace)) ⌝ }
     requires { ⌜ IsRace (scenarioIn count (now boards) (now words)) code e x ⌝ }
@@ -102,4 +109,68 @@ fn judge(text: &[u8], code: usize, words: &mut [u64], trace: &mut [u8]) -> Answe
         Verdict::Refused(number, line) => Answer::Refused(number, line),
         Verdict::Rows(count) => judge_rows(&kind, &one, &two, count, &start, code, words, trace),
     }
+}
+
+// The check: refusals 1 and 2 touch nothing; behind every other answer the scratch is cleared.
+pub fn check(text: &[u8], code: u32, scratch: &mut [u64], trace: &mut [u8]) -> Answer
+    ensures { λ r. ⌜ Checked (now (text .entry)) code (now (scratch .entry)) (now (scratch .exit)) (now (trace .entry)) (now (trace .exit)) (numbersFor r) ⌝ }
+{
+    let channel = code as usize;
+    if model::CHANNELS <= channel {
+        return Answer::Refused(model::CHANNEL, 0);
+    }
+    if scratch.len() < model::SCRATCH_LEAST {
+        return Answer::Refused(model::BENCH, 0);
+    }
+    if trace.len() < model::TRACE_LEAST {
+        return Answer::Refused(model::BENCH, 0);
+    }
+    let end = RELATION_WORDS;
+    let answer = judge(text, channel, &mut scratch[..end], trace);
+    relation::clear(scratch, model::SCRATCH_LEAST);
+    answer
+}
+
+// The answer's numbers for C. Each fits 32 bits.
+fn numbers(answer: Answer) -> ChannelCheckAnswer
+    requires { ⌜ Small (numbersFor answer) ⌝ }
+    ensures { λ r. ⌜ numbersIn r ≡ numbersFor answer ⌝ }
+{
+    match answer {
+        Answer::Free => ChannelCheckAnswer {
+            word: 0,
+            one: 0,
+            two: 0,
+            three: 0,
+        },
+        Answer::Locked(e, x, steps) => {
+            ChannelCheckAnswer {
+                word: 1,
+                one: e as u32,
+                two: x as u32,
+                three: steps as u32,
+            }
+        }
+        Answer::Refused(number, line) => {
+            ChannelCheckAnswer {
+                word: 2,
+                one: number as u32,
+                two: line as u32,
+                three: 0,
+            }
+        }
+    }
+}
+
+// The check, for C: any text, any channel code, any lengths.
+#[no_mangle]
+pub extern "C" fn channel_check(
+    text: &[u8],
+    code: u32,
+    scratch: &mut [u64],
+    trace: &mut [u8],
+) -> ChannelCheckAnswer
+    ensures { λ r. ⌜ Checked (now (text .entry)) code (now (scratch .entry)) (now (scratch .exit)) (now (trace .entry)) (now (trace .exit)) (numbersIn r) ⌝ }
+{
+    numbers(check(text, code, scratch, trace))
 }

@@ -20,16 +20,15 @@ slice-aggregate-decide : tie.Need-slice-aggregate-decide
 slice-aggregate-decide c = search needs
 
 decide-requires : tie.Need-decide-requires
-decide-requires c κs =
-    (
-      record {
-        few = fit-few _ _ _ _ (c .before .before .before .before .before .before .before .before .before .expand .ensures) _ (c .before .before .before .before .expanded2 .given .1) (c .before .before .before .before .before .before .before .before .before .before .before .before .before .before .before .before .before .before .pre .0 .read);
-        boardsLong = search needs;
-        wordsLong = search needs;
-        boardsBelow = fit-below _ _ _ _ (c .before .before .before .before .before .before .before .before .before .expand .ensures) _ (c .before .before .before .before .expanded2 .given .1) (c .before .before .before .before .before .before .before .before .before .before .before .before .before .before .before .before .before .before .pre .0 .read);
-      },
-      (search needs, search needs),
-    )
+decide-requires c κs = (
+  record {
+    few = fit-few _ _ _ _ (c .before .before .before .before .before .before .before .before .before .expand .ensures) _ (c .before .before .before .before .expanded2 .given .1) (c .before .before .before .before .before .before .before .before .before .before .before .before .before .before .before .before .before .before .pre .0 .read);
+    boardsLong = search needs;
+    wordsLong = search needs;
+    boardsBelow = fit-below _ _ _ _ (c .before .before .before .before .before .before .before .before .before .expand .ensures) _ (c .before .before .before .before .expanded2 .given .1) (c .before .before .before .before .before .before .before .before .before .before .before .before .before .before .before .before .before .before .pre .0 .read);
+  },
+  (search needs, search needs),
+)
 
 same-length : tie.Need-same-length
 same-length c = search needs

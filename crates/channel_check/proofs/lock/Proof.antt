@@ -17,18 +17,17 @@ slice-aggregate-schedule : tie.Need-slice-aggregate-schedule
 slice-aggregate-schedule c = search needs
 
 schedule-requires : tie.Need-schedule-requires
-schedule-requires c κs =
-    (
-      record {
-        few = search needs;
-        boardsLong = search needs;
-        wordsLong = search needs;
-        masksLong = search needs;
-        boardsBelow = c .before .before .before .before .before .before .before .before .before .pre .0 .boardsBelow;
-        masksOf = c .before .before .before .before .board-masks .ensures;
-      },
-      (race-below _ (c .before .before .before .before .before .before .before .before .before .args .code) _ _ (c .before .before .before .before .before .before .before .before .before .pre .1 .1) .0, search needs),
-    )
+schedule-requires c κs = (
+  record {
+    few = search needs;
+    boardsLong = search needs;
+    wordsLong = search needs;
+    masksLong = search needs;
+    boardsBelow = c .before .before .before .before .before .before .before .before .before .pre .0 .boardsBelow;
+    masksOf = c .before .before .before .before .board-masks .ensures;
+  },
+  (race-below _ (c .before .before .before .before .before .before .before .before .before .args .code) _ _ (c .before .before .before .before .before .before .before .before .before .pre .1 .1) .0, search needs),
+)
 
 same-length : tie.Need-same-length
 same-length c = search needs

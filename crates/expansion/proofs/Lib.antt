@@ -8,5 +8,6 @@ mod Scenarios
 mod Turns
 mod Parts
 mod Reading
+mod Cut
 mod Walking
 mod Whole

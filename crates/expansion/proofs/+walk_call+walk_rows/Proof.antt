@@ -66,7 +66,7 @@ call-cast-row t c =
 call-sub-down : (t : ℕ) → call-lts.Need-sub-down (call-claims t) (call-at t) walk-call.Post
 call-sub-down t c =
     let s = c .before .before .before .before .before .before .before .before .before .before .before .before .before .before .before .before .before .before in
-    entered-left _ _ _ _ _ (s .pre .1 .0) _ _ _ _ (s .pre .1 .1) _ _ (leaves-as (c .before .into .given .1) (c .before .before .before .before .before .open-call .ensures))
+    omega (arith, entered-left _ _ _ _ _ (s .pre .1 .0) _ _ _ _ (s .pre .1 .1) _ _ (leaves-as (c .before .into .given .1) (c .before .before .before .before .before .open-call .ensures)))
 
 call-walk-rows-requires : (t : ℕ) → call-lts.Need-walk-rows-requires (call-claims t) (call-at t) walk-call.Post
 call-walk-rows-requires t c κs =

@@ -9,7 +9,7 @@ add-t16 : tie.Need-add-t16
 add-t16 c = search needs
 
 returns : tie.Need-returns
-returns c = search row-refused
+returns c = row-refused _ _ _ _ _ _ _ (c .before .if1 .taken) (omega arith)
 
 add-message-requires : tie.Need-add-message-requires
 add-message-requires c κs =

@@ -17,7 +17,7 @@ use Rattle.relation.specs.Width.{width}
 use Rattle.relation.specs.Rows.{inserted}
 use Rattle.relation.proofs.Inserted.{length-inserted}
 use Rattle.expansion.specs.Store.{Store, seated, added, passed, storeOps}
-use Rattle.expansion.specs.Bridge.{rowFrom}
+use Rattle.sheet.specs.Bridge.{rowFrom}
 use Rattle.expansion.specs.Room.{storeOf, Room}
 use Rattle.expansion.specs.Parts.{stateOf, Leaves, Opens, rowMet, callEntered, Stands}
 use Rattle.expansion.specs.declared.Walk.{Walk}

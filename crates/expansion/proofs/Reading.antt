@@ -22,7 +22,7 @@ use Rattle.model.proofs.Refusal.{not-refused, and-then-ok, passed, cond-ok}
 use Rattle.model.proofs.Closure.{cells-length, cells-at}
 use Rattle.model.proofs.Standing.{Fits, read-fits}
 use Rattle.model.proofs.Walked.{OnOneBoard, message-parts, order-parts}
-use Rattle.expansion.specs.Bridge.{rowFrom, rowsAt, rowsOf, startIn}
+use Rattle.sheet.specs.Bridge.{rowFrom, rowsAt, rowsOf, startIn}
 use Rattle.expansion.specs.Lent.{rowsFrom, AreRead, RowsRead}
 use Rattle.expansion.specs.Parts.{Present, AllStand}
 

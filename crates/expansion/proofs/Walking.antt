@@ -15,7 +15,7 @@ use Rattle.model.specs.Place.{lineOf, opens}
 use Rattle.model.specs.Expansion.{Progress, startOf, blockOpened, callMade, messageMet, orderMet, walkRows, callAt}
 use Rattle.model.proofs.Refusal.{not-refused}
 use Rattle.expansion.specs.Store.{Store, storeOps}
-use Rattle.expansion.specs.Bridge.{rowFrom, rowsOf}
+use Rattle.sheet.specs.Bridge.{rowFrom, rowsOf}
 use Rattle.expansion.specs.Lent.{rowsFrom, RowsRead}
 use Rattle.expansion.specs.Room.{storeOf}
 use Rattle.expansion.specs.Parts.{stateOf, Leaves, Opens, rowMet, callEntered, rowsWalked, callWalked, Stands, Present, openBehind, AllStand, Ready, Calls}

@@ -16,7 +16,7 @@ use Rattle.relation.specs.Width.{width}
 use Rattle.relation.specs.Rows.{cleared, anyOwn}
 use Rattle.relation.specs.Scenario.{scenarioIn}
 use Rattle.expansion.specs.Store.{Store, zeros, freshStore, storeOps}
-use Rattle.expansion.specs.Bridge.{rowsOf}
+use Rattle.sheet.specs.Bridge.{rowsOf}
 use Rattle.expansion.specs.Lent.{rowsFrom, RowsRead}
 use Rattle.expansion.specs.Room.{storeOf}
 use Rattle.expansion.specs.Outcome.{outcomeOf, concludedAs}

@@ -7,7 +7,7 @@ use lib.ListN.{length}
 use Rattle.model.specs.Refusal.{ok}
 use Rattle.model.specs.Rows.{Row}
 use Rattle.model.specs.Place.{readOf}
-use Rattle.expansion.specs.Bridge.{rowsAt, rowsOf, startsOf}
+use Rattle.sheet.specs.Bridge.{rowsAt, rowsOf, startsOf}
 
 -- the rows are those of some text
 abbrev pub AreRead : List Row → Type 0

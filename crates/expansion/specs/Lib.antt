@@ -1,4 +1,3 @@
-pub mod Bridge
 pub mod Lent
 pub mod Outcome
 pub mod Store

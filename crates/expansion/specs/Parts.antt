@@ -13,7 +13,7 @@ use Rattle.model.specs.Rows.{Row, sheet, message, order, block, call}
 use Rattle.model.specs.Place.{lineOf, opens}
 use Rattle.model.specs.Expansion.{Progress, blockOpened, callMade, messageMet, orderMet, walkRows, callAt}
 use Rattle.expansion.specs.Store.{Store, storeOps}
-use Rattle.expansion.specs.Bridge.{rowsOf}
+use Rattle.sheet.specs.Bridge.{rowsOf}
 use Rattle.expansion.specs.Lent.{rowsFrom}
 use Rattle.expansion.specs.Room.{Room}
 use Rattle.expansion.specs.declared.Walk.{Walk}

@@ -9,7 +9,7 @@ ghost use Rattle.model.specs.Answer.{expandedOf};
 ghost use Rattle.relation.specs.Width.{width};
 ghost use Rattle.relation.specs.Rows.{anyOwn};
 ghost use Rattle.expansion.specs.Store.{zeros, seated, added, passed};
-ghost use Rattle.expansion.specs.Bridge.{rowFrom, rowsOf};
+ghost use Rattle.sheet.specs.Bridge.{rowFrom, rowsOf};
 ghost use Rattle.expansion.specs.Lent.{RowsRead};
 ghost use Rattle.expansion.specs.Room.{storeOf, Room};
 ghost use Rattle.expansion.specs.Outcome.{outcomeOf, concludedAs};

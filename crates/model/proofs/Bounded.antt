@@ -6,7 +6,8 @@ use mathlib.Core.Path.{_≡_, refl, sym, _∙_, ap, subst}
 use mathlib.Core.Logic.{_⊎_, inl, inr, ⊎-elim}
 use mathlib.Core.Bool.{Bool, true, false, not, cond, _&&_, _||_}
 use mathlib.Core.Option.{Option, none, some}
-use borrow.Author.Tests.{not-true, not-false}
+use borrow.Author.Tests.{not-true, not-false, leb-true, leb-false}
+use lib.Dec.{leb}
 use Rattle.model.specs.Bounded.{every, any, lowest}
 
 -- the halves of a conjunction that holds
@@ -129,3 +130,29 @@ lowest-none n p e = subst (λ (o : Option ℕ). Found n p o) e (lowest-found n p
 
 pub lowest-some : (n : ℕ) (p : ℕ → Bool) (k : ℕ) → lowest n p ≡ some k → IsLowest n p k
 lowest-some n p k e = subst (λ (o : Option ℕ). Found n p o) e (lowest-found n p)
+
+-- two numbers are equal, or one of them is below the other
+pub apart : (j i : ℕ) → (j ≡ i) ⊎ ((j < i) ⊎ (i < j))
+apart j i =
+    ⊎-elim
+    (λ (t : leb j i ≡ true). ⊎-elim inl (λ h. inr (inl h)) (eq-or-lt-of-le (leb-true j i t)))
+    (λ (f : leb j i ≡ false). inr (inr (leb-false j i f)))
+    (which (leb j i))
+
+-- a search that goes up from 0: nothing found below k; and then k is found, or k fails too
+pub lowest-hit : (n k : ℕ) (p : ℕ → Bool) → lowest k p ≡ none → p k ≡ true → k < n → lowest n p ≡ some k
+lowest-hit n k p e t l = go (lowest n p) (lowest-found n p)
+  where
+    go : (o : Option ℕ) → Found n p o → o ≡ some k
+    go none f = not-both (p k) t (f k l)
+    go (some j) f =
+        ap some
+        (⊎-elim (λ (i : j ≡ k). i)
+        (⊎-elim
+        (λ (h : j < k). not-both (p j) (f .passes) (lowest-none k p e j h))
+        (λ (h : k < j). not-both (p k) t (f .first k h)))
+        (apart j k))
+
+pub lowest-miss : (k : ℕ) (p : ℕ → Bool) → lowest k p ≡ none → p k ≡ false → lowest (suc k) p ≡ none
+unfolding lowest
+lowest-miss k p e f = rw (e, lowest, f)

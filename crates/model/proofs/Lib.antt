@@ -8,6 +8,7 @@ pub mod Standing
 pub mod Walked
 pub mod Causal
 pub mod Accepted
+pub mod Lines
 pub mod Least
 pub mod Phases
 pub mod Rank

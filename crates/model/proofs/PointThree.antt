@@ -19,7 +19,7 @@ use Rattle.model.specs.Channel.{Channel, channelOf}
 use Rattle.model.specs.Run.{State, start, Step, send, deliver, consume, next, allowed, isOrderFrom, after, finished, stuck, IsOrder, EndsStuck, EndsFinished, CanFinish}
 use Rattle.model.specs.Race.{RaceRule, byEvent, byOrigin, never, raceRuleOf, escapes, isRace, races, lowestEvent, lowestMessage, lowestRace}
 use Rattle.model.specs.Schedule.{schedule, scheduleFrom, bytesOf}
-use Rattle.model.specs.Answer.{Answer, free, locked, refused, acceptedOf, verdictOf, answerFor, answerOf, traceAfter}
+use Rattle.model.specs.Answer.{Answer, free, locked, refused, acceptedOf, verdictOf, answerFor, answerOf, traceAfter, numbersOf}
 use Rattle.model.specs.Verdict.{LowestRace, Verdict, PointThree}
 use Rattle.model.proofs.Bounded.{and-left, and-right, which, not-both, any-from, any-some, any-none, IsLowest, Found, lowest-found}
 use Rattle.model.proofs.Events.{event-number, below-number}
@@ -43,9 +43,6 @@ race-parts S r e x h =
     let b = S .before x (receiveOf e) in
     let both : (t && b) ≡ true = and-left (t && b) (escapes S r e x) h in
     (eqb-true (board S x) (S .target e) (and-left t b both), and-right t b both, and-right (t && b) (escapes S r e x) h)
-
-free-unlocked : {e x : ℕ} {ts : List Step} → free ≡ locked e x ts → ⊥
-free-unlocked i = let z : _≡_ {A = ℕ} 0 1 = cc in omega arith
 
 never-escapes : (S : Scenario) (e : ℕ) (x : Event) → escapes S never e x ≡ false
 unfolding escapes
@@ -160,15 +157,17 @@ module _ (S : Scenario) (C : Causal S) (code : ℕ) (known : code < channels) wh
       (stuck-unfinished S c (view S (R .phases)) h) in
       stuck-forbids S (R .phases) c C h (p .0) (p .1)
 
-  verdict-for : (a : Answer) → Decided a → (trace : List ℕ) → Verdict S code a (traceAfter a trace)
+  verdict-for : (a : Answer) → Decided a → (trace : List ℕ) → Verdict S code (numbersOf a) (traceAfter a trace)
   unfolding traceAfter
   verdict-for a (isFree quiet) trace =
       record {
-        lockedWhenStuck = (λ k. (let i : free ≡ locked (k .0) (k .1) (k .2) = k .3 in absurd (free-unlocked i)), λ k. absurd (free-moves quiet (k .0) (k .1)));
-        lockedRace = λ e x ts i. absurd (free-unlocked i);
-        lockedSchedule = λ e x ts i. absurd (free-unlocked i);
-        lockedTrace = λ e x ts i. absurd (free-unlocked i);
-        lockedSteps = λ e x ts i. absurd (free-unlocked i);
+        lockedOrFree = inr refl;
+        lockedWhenRacing = (λ i. absurd (omega arith), λ k. absurd (quiet (k .0) (k .1) (k .2) (k .3)));
+        lockedRace = λ i. absurd (omega arith);
+        lockedCount = λ i. absurd (omega arith);
+        lockedTrace = λ i. absurd (omega arith);
+        lockedSteps = λ i. absurd (omega arith);
+        lockedWhenStuck = (λ i. absurd (omega arith), λ k. absurd (free-moves quiet (k .0) (k .1)));
         freeWhenFinishing = (λ i ts o. can-finish S (channelOf code) C (raceRuleOf code) (suited S C code known) quiet ts o, λ h. refl);
         finishedLength = finished-length S (channelOf code) C;
         noneLonger = none-longer S (channelOf code) C;
@@ -177,23 +176,14 @@ module _ (S : Scenario) (C : Causal S) (code : ℕ) (known : code < channels) wh
       let E = race-stuck e (event x) (L .inScenario .0) (L .race) in
       let ts = schedule S (channelOf code) e in
       record {
-        lockedWhenStuck = (λ k. (ts, E), λ k. (e, x, ts, refl));
-        lockedRace = λ f y us i.
-            (let p : e ≡ f = cc in
-            let q : x ≡ y = cc in
-            subst (λ (k : ℕ). LowestRace S code k y) p (subst (λ (k : ℕ). LowestRace S code e k) q L));
-        lockedSchedule = λ f y us i.
-            (let p : e ≡ f = cc in
-            let w : schedule S (channelOf code) e ≡ us = cc in
-            sym w ∙ ap (schedule S (channelOf code)) p);
-        lockedTrace = λ f y us i.
-            (let w : schedule S (channelOf code) e ≡ us = cc in
-            subst (λ (vs : List Step). take (2 * length vs) (bytesOf ts ++ drop (2 * length ts) trace) ≡ bytesOf vs) w
-            (take-at (bytesOf ts) (drop (2 * length ts) trace) (2 * length ts) (bytes-length ts)));
-        lockedSteps = λ f y us i.
-            (let w : schedule S (channelOf code) e ≡ us = cc in
-            subst (EndsStuck S (channelOf code)) w E);
-        freeWhenFinishing = (λ i. absurd (free-unlocked (sym i)), λ h. absurd (stuck-stays ts E (h ts (E .isOrder))));
+        lockedOrFree = inl refl;
+        lockedWhenRacing = (λ i. (e, event x, L .inScenario .0, L .race), λ k. refl);
+        lockedRace = λ i. L;
+        lockedCount = λ i. refl;
+        lockedTrace = λ i. take-at (bytesOf ts) (drop (2 * length ts) trace) (2 * length ts) (bytes-length ts);
+        lockedSteps = λ i. E;
+        lockedWhenStuck = (λ i. (ts, E), λ k. refl);
+        freeWhenFinishing = (λ i. absurd (omega arith), λ h. absurd (stuck-stays ts E (h ts (E .isOrder))));
         finishedLength = finished-length S (channelOf code) C;
         noneLonger = none-longer S (channelOf code) C;
       }
@@ -208,12 +198,14 @@ module _ (S : Scenario) (C : Causal S) (code : ℕ) (known : code < channels) wh
       simp (length-append, length-drop, bytes-length) (omega arith)
 
 -- Point 3, for every text, code, scratch length and trace buffer, with no premise but that the sheet is accepted.
-pub point-three : (text : List ℕ) (code scratchLength : ℕ) (trace : List ℕ) → PointThree text code scratchLength trace
+pub point-three : (text : List ℕ) (code scratchLength : ℕ) (trace : List ℕ)
+    → PointThree text code scratchLength (length trace) (numbersOf (answerOf text code scratchLength (length trace)))
+    (traceAfter (answerOf text code scratchLength (length trace)) trace)
 unfolding answerOf answerFor
 point-three text code scratchLength trace S e =
     let C = accepted-causal text code scratchLength (length trace) S e in
     let known = accepted-code text code scratchLength (length trace) S e in
-    subst⁻¹ (λ (o : Out Scenario). Verdict S code (answerFor o code) (traceAfter (answerFor o code) trace)) e
+    subst⁻¹ (λ (o : Out Scenario). Verdict S code (numbersOf (answerFor o code)) (traceAfter (answerFor o code) trace)) e
     (verdict-for S C code known (verdictOf S code) (decided S C code known) trace)
 
 -- the trace buffer keeps its length, whatever the text: the steps of a schedule always fit the least buffer

@@ -73,14 +73,24 @@ traceAfter free trace = trace
 traceAfter (locked e x ts) trace = bytesOf ts ++ drop (2 * length ts) trace
 traceAfter (refused number line) trace = trace
 
--- The word, 0 free, 1 locked, 2 refused, and the three numbers printed behind it.
+-- The word of an answer, as a number, and the three numbers printed behind it.
+abbrev pub freeWord : ℕ
+freeWord = 0
+
+abbrev pub lockedWord : ℕ
+lockedWord = 1
+
+abbrev pub refusedWord : ℕ
+refusedWord = 2
+
 pub record Numbers : Type 0 where
   pub word : ℕ
   pub one : ℕ
   pub two : ℕ
   pub three : ℕ
 
-unfoldable pub numbersOf : Answer → Numbers
-numbersOf free = record { word = 0; one = 0; two = 0; three = 0 }
-numbersOf (locked e x ts) = record { word = 1; one = e; two = x; three = length ts }
-numbersOf (refused number line) = record { word = 2; one = number; two = line; three = 0 }
+-- 0 0 0 for free; e, x and the step count for locked; the refusal's number, its line and 0 for refused
+abbrev pub numbersOf : Answer → Numbers
+numbersOf free = record { word = freeWord; one = 0; two = 0; three = 0 }
+numbersOf (locked e x ts) = record { word = lockedWord; one = e; two = x; three = length ts }
+numbersOf (refused number line) = record { word = refusedWord; one = number; two = line; three = 0 }

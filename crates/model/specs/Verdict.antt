@@ -1,7 +1,7 @@
 -- Point 3, as a statement: read from the text, the code and the lengths of the buffers lent. Assumes nothing.
 use Prim.Native.Nat.{ℕ, _*_, _<_, _≤_}
 use mathlib.Core.Path.{_≡_}
-use mathlib.Core.Logic.{_↔_}
+use mathlib.Core.Logic.{_↔_, _⊎_}
 use mathlib.Core.Bool.{Bool, true, false}
 use mathlib.Core.List.{List}
 use lib.ListN.{length, take}
@@ -11,7 +11,7 @@ use Rattle.model.specs.Channel.{channelOf}
 use Rattle.model.specs.Run.{Step, IsOrder, EndsStuck, EndsFinished, CanFinish}
 use Rattle.model.specs.Race.{raceRuleOf, isRace}
 use Rattle.model.specs.Schedule.{schedule, bytesOf}
-use Rattle.model.specs.Answer.{Answer, free, locked, acceptedOf, answerOf, traceAfter}
+use Rattle.model.specs.Answer.{Numbers, freeWord, lockedWord, acceptedOf}
 
 -- message e and the event with number x are a race of the code's kind, and no race has a lower e, or e and a lower x
 pub record LowestRace (S : Scenario) (code e x : ℕ) : Type 0 where
@@ -20,24 +20,28 @@ pub record LowestRace (S : Scenario) (code e x : ℕ) : Type 0 where
   pub noLowerMessage : (f y : ℕ) → f < e → y < 2 * S .count → isRace S (raceRuleOf code) f (event y) ≡ false
   pub noLowerEvent : (y : ℕ) → y < x → isRace S (raceRuleOf code) e (event y) ≡ false
 
--- The answer a and the trace buffer at exit, for the scenario of an accepted sheet and a channel code.
-pub record Verdict (S : Scenario) (code : ℕ) (a : Answer) (trace : List ℕ) : Type 0 where
+-- The answer's numbers r and the trace buffer as the check leaves it, for the scenario of an accepted sheet and a channel code.
+pub record Verdict (S : Scenario) (code : ℕ) (r : Numbers) (trace : List ℕ) : Type 0 where
+  -- an accepted sheet is locked or free: locked exactly if its causal order has a race of the channel's kind
+  pub lockedOrFree : (r .word ≡ lockedWord) ⊎ (r .word ≡ freeWord)
+  pub lockedWhenRacing : (r .word ≡ lockedWord) ↔ ((e : ℕ) × (x : Event) × (e < S .count) × (isRace S (raceRuleOf code) e x ≡ true))
+  -- the race named is the lowest
+  pub lockedRace : r .word ≡ lockedWord → LowestRace S code (r .one) (r .two)
+  -- the steps handed back, the first bytes of the trace buffer, two for each step counted, are the schedule for the race named
+  pub lockedCount : r .word ≡ lockedWord → length (schedule S (channelOf code) (r .one)) ≡ r .three
+  pub lockedTrace : r .word ≡ lockedWord → take (2 * r .three) trace ≡ bytesOf (schedule S (channelOf code) (r .one))
+  -- and they are an allowed order that ends stuck
+  pub lockedSteps : r .word ≡ lockedWord → EndsStuck S (channelOf code) (schedule S (channelOf code) (r .one))
   -- locked exactly when some allowed order ends stuck
-  pub lockedWhenStuck : ((e : ℕ) × (x : ℕ) × (ts : List Step) × (a ≡ locked e x ts)) ↔ ((ts : List Step) × EndsStuck S (channelOf code) ts)
-  -- the race named is the lowest, and the steps are those of its schedule
-  pub lockedRace : (e x : ℕ) (ts : List Step) → a ≡ locked e x ts → LowestRace S code e x
-  pub lockedSchedule : (e x : ℕ) (ts : List Step) → a ≡ locked e x ts → ts ≡ schedule S (channelOf code) e
-  -- the steps handed back, the first bytes of the trace buffer, two for each step counted, are an order that ends stuck
-  pub lockedTrace : (e x : ℕ) (ts : List Step) → a ≡ locked e x ts → take (2 * length ts) trace ≡ bytesOf ts
-  pub lockedSteps : (e x : ℕ) (ts : List Step) → a ≡ locked e x ts → EndsStuck S (channelOf code) ts
+  pub lockedWhenStuck : (r .word ≡ lockedWord) ↔ ((ts : List Step) × EndsStuck S (channelOf code) ts)
   -- free exactly when every allowed order, the empty one too, can be carried on until all is consumed
-  pub freeWhenFinishing : (a ≡ free) ↔ ((ts : List Step) → IsOrder S (channelOf code) ts → CanFinish S (channelOf code) ts)
+  pub freeWhenFinishing : (r .word ≡ freeWord) ↔ ((ts : List Step) → IsOrder S (channelOf code) ts → CanFinish S (channelOf code) ts)
   -- an order that finishes has three steps a message, and no allowed order has more
   pub finishedLength : (ts : List Step) → EndsFinished S (channelOf code) ts → length ts ≡ 3 * S .count
   pub noneLonger : (ts : List Step) → IsOrder S (channelOf code) ts → length ts ≤ 3 * S .count
 
--- Point 3 for a call: trace is the buffer as it was lent, of any bytes.
-abbrev pub PointThree : List ℕ → ℕ → ℕ → List ℕ → Type 0
-PointThree text code scratchLength trace =
-    (S : Scenario) → acceptedOf text code scratchLength (length trace) ≡ ok S
-    → Verdict S code (answerOf text code scratchLength (length trace)) (traceAfter (answerOf text code scratchLength (length trace)) trace)
+-- Point 3 for a call: whenever the sheet is accepted, with its channel and the buffers lent, this holds of its scenario, the
+-- numbers answered and the trace buffer at exit.
+abbrev pub PointThree : List ℕ → ℕ → ℕ → ℕ → Numbers → List ℕ → Type 0
+PointThree text code scratchLength traceLength r trace =
+    (S : Scenario) → acceptedOf text code scratchLength traceLength ≡ ok S → Verdict S code r trace

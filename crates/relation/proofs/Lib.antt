@@ -7,4 +7,5 @@ pub mod Inserted
 pub mod Cleared
 pub mod Own
 pub mod Closed
+pub mod Scenario
 mod Loops

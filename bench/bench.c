@@ -1,0 +1,90 @@
+/* Runs one implementation on one fixed sheet, on all six channels: for callgrind to count.
+ * usage: bench proved|careful SHEET [MESSAGES] */
+#include "check.h"
+#include <stdio.h>
+#include <stdlib.h>
+#include <string.h>
+
+static char text[16384];
+static size_t len;
+
+static void line(const char *kind, int one, int two) { len += (size_t)sprintf(text + len, "%s %d %d\n", kind, one, two); }
+
+static void begin(void) { len = (size_t)sprintf(text, "kind one two\nS 0 0\n"); }
+
+/* Every message is sent, and all but the last two are consumed, before the last two race: the longest trace. */
+static void longest_trace(int n) {
+    begin();
+    for (int m = 0; m < n; m++) {
+        int racing = m >= n - 2;
+        line("M", racing ? m % 2 : m % 13, racing ? 15 : (m + 1) % 13);
+    }
+    line("P", 2 * n - 3, 2 * n - 1);
+}
+
+/* Each message is sent behind the receive of the one before: one long chain over the boards. */
+static void chain(int n) {
+    begin();
+    for (int m = 0; m < n; m++) {
+        line("M", m % 16, (m + 1) % 16);
+        if (m > 0) line("P", 2 * m - 1, 2 * m);
+    }
+}
+
+/* As many P rows as the file has room for, each behind the last on one of two boards. */
+static void dense(int n) {
+    begin();
+    for (int m = 0; m < n; m++) line("M", 0, 1);
+    for (int m = n - 2; m >= 0; m--) {
+        line("P", 2 * m, 2 * m + 2);
+        line("P", 2 * m + 1, 2 * m + 3);
+    }
+    for (int m = 0; m + 2 < n; m++) line("P", 2 * m, 2 * m + 4);
+}
+
+/* 1,024 calls of empty sheets; n is not used. */
+static void calls(int n) {
+    (void)n;
+    begin();
+    for (int i = 0; i < 31; i++) line("C", 1, 0);
+    line("C", 2, 0);
+    line("S", 1, 0);
+    for (int i = 0; i < 32; i++) line("C", 2, 0);
+    line("S", 2, 0);
+}
+
+/* 1,024 calls of a sheet of blocks: several hundred thousand of them. */
+static void blocks(int n) {
+    calls(n);
+    for (int i = 0; i < 440; i++) line("B", 0, 0);
+}
+
+/* A file of nearly 8,192 bytes whose last row is refused. */
+static void refused(int n) {
+    (void)n;
+    begin();
+    for (int i = 0; i < 128; i++) line("M", 10 + i % 6, 10 + i % 5);
+    line("B", 0, 0);
+    for (int i = 0; i < 128; i++) line("M", 15, 15);
+    for (int i = 0; i < 252; i++) line("P", 100 + i % 128, 229 - i % 128 + (229 - i % 128 == 100 + i % 128));
+    line("P", 255, 255);
+}
+
+static const struct { const char *name; void (*make)(int); } sheets[] = {
+    {"longest-trace", longest_trace}, {"chain", chain}, {"dense", dense}, {"calls", calls}, {"blocks", blocks}, {"refused", refused},
+};
+
+int main(int argc, char **argv) {
+    static uint64_t scratch[2048];
+    static uint8_t trace[768];
+    if (argc < 3) return 2;
+    for (size_t i = 0; i < sizeof sheets / sizeof *sheets; i++)
+        if (strcmp(argv[2], sheets[i].name) == 0) sheets[i].make(argc > 3 ? atoi(argv[3]) : 128);
+    for (uint32_t code = 0; code < 6; code++) {
+        channel_check_answer a = strcmp(argv[1], "proved") == 0
+                                     ? channel_check((const uint8_t *)text, len, code, scratch, 2048, trace, 768)
+                                     : careful_check((const uint8_t *)text, len, code, scratch, 2048, trace, 768);
+        printf("%s %s %zu bytes, code %u: %u %u %u %u\n", argv[1], argv[2], len, code, a.word, a.one, a.two, a.three);
+    }
+    return 0;
+}

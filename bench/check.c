@@ -1,0 +1,336 @@
+/* The same algorithm as the proved check, written carefully in C: what its instructions are compared with.
+ * Nothing here is proved, and nothing is shared with crates/. */
+#include "check.h"
+#include <string.h>
+
+enum { W = 4, ROWS = 512, SHEETS = 32, BOARDS = 16, MESSAGES = 128, EVENTS = 2 * MESSAGES, LEVELS = 8, CALLS = 1024 };
+
+typedef struct { uint32_t number, line; } refusal; /* number 0: none */
+
+/* ------------------------------------------------------------------ relation rows */
+
+static inline int test(const uint64_t *words, size_t y, size_t x) { return words[y * W + x / 64] >> (x % 64) & 1; }
+static inline void mark(uint64_t *words, size_t y, size_t x) { words[y * W + x / 64] |= UINT64_C(1) << (x % 64); }
+static inline void join(uint64_t *words, size_t to, const uint64_t *other, size_t from) {
+    for (size_t i = 0; i < W; i++) words[to * W + i] |= other[from * W + i];
+}
+
+/* ------------------------------------------------------------------ the sheet file */
+
+typedef struct {
+    uint8_t kind[ROWS], one[ROWS], two[ROWS];
+    uint16_t start[SHEETS];
+    size_t count;
+} sheet;
+
+/* three fields of a line from `at`; the position behind its end, or 0 */
+static size_t cut(const uint8_t *text, size_t len, size_t at, size_t from[3], size_t to[3]) {
+    size_t field = 0;
+    from[0] = at;
+    for (size_t i = at; i < len; i++) {
+        if (text[i] == ' ') {
+            to[field] = i;
+            if (++field == 3) return 0;
+            from[field] = i + 1;
+        } else if (text[i] == '\n') {
+            to[field] = i;
+            return field == 2 ? i + 1 : 0;
+        }
+    }
+    return 0;
+}
+
+static int number(const uint8_t *text, size_t from, size_t to) {
+    size_t n = to - from;
+    unsigned value = 0;
+    if (n == 0 || n > 3 || (n > 1 && text[from] == '0')) return -1;
+    for (size_t i = from; i < to; i++) {
+        unsigned digit = text[i] - '0';
+        if (digit > 9) return -1;
+        value = value * 10 + digit;
+    }
+    return value <= 255 ? (int)value : -1;
+}
+
+static int named(const uint8_t *text, size_t from, size_t to, const char *name) {
+    size_t n = strlen(name);
+    return to - from == n && memcmp(text + from, name, n) == 0;
+}
+
+static int formed(uint8_t kind, int one, int two) {
+    if (kind == 'M' || kind == 'P') return 1;
+    if (two != 0) return 0;
+    return kind == 'S' || kind == 'C' || (kind == 'B' && one == 0);
+}
+
+static refusal read(const uint8_t *text, size_t len, sheet *s) {
+    static const char *names[3] = {"kind", "one", "two"};
+    size_t from[3], to[3], column[3] = {3, 3, 3}, messages = 0, row = 0;
+    uint8_t boards[EVENTS];
+    if (len == 0 || len > 8192) return (refusal){3, 0};
+    size_t at = cut(text, len, 0, from, to);
+    if (at == 0) return (refusal){4, 1};
+    for (size_t c = 0; c < 3; c++)
+        for (size_t f = 0; f < 3; f++)
+            if (named(text, from[f], to[f], names[c])) column[c] = f;
+    if (column[0] == 3 || column[1] == 3 || column[2] == 3) return (refusal){4, 1};
+    memset(s->start, 0, sizeof s->start);
+    for (; at < len; row++) {
+        uint32_t line = (uint32_t)row + 2;
+        if (row == ROWS) return (refusal){5, line};
+        size_t next = cut(text, len, at, from, to);
+        if (next == 0 || to[column[0]] - from[column[0]] != 1) return (refusal){5, line};
+        uint8_t kind = text[from[column[0]]];
+        int one = number(text, from[column[1]], to[column[1]]), two = number(text, from[column[2]], to[column[2]]);
+        if (one < 0 || two < 0 || !formed(kind, one, two)) return (refusal){5, line};
+        int placed = row > 0;
+        switch (kind) {
+        case 'S':
+            placed = one < SHEETS && s->start[one] == 0;
+            if (placed) s->start[one] = (uint16_t)(row + 1);
+            messages = 0;
+            break;
+        case 'M':
+            placed = placed && one < BOARDS && two < BOARDS && messages < MESSAGES;
+            if (placed) {
+                boards[2 * messages] = (uint8_t)one;
+                boards[2 * messages + 1] = (uint8_t)two;
+                messages++;
+            }
+            break;
+        case 'P':
+            placed = placed && (size_t)one < 2 * messages && (size_t)two < 2 * messages && one != two && boards[one] == boards[two];
+            break;
+        case 'B': messages = 0; break;
+        default: placed = placed && one < SHEETS; messages = 0;
+        }
+        if (!placed) return (refusal){6, line};
+        s->kind[row] = kind;
+        s->one[row] = (uint8_t)one;
+        s->two[row] = (uint8_t)two;
+        at = next;
+    }
+    s->count = row;
+    if (s->start[0] == 0) return (refusal){7, 0};
+    for (size_t i = 0; i < row; i++)
+        if (s->kind[i] == 'C' && s->start[s->one[i]] == 0) return (refusal){7, (uint32_t)i + 2};
+    return (refusal){0, 0};
+}
+
+/* ------------------------------------------------------------------ expansion */
+
+typedef struct {
+    size_t calls, first, count;
+    uint64_t *words;
+    uint64_t past[BOARDS * W];
+    uint8_t boards[EVENTS];
+} walk;
+
+static void open_block(walk *w) {
+    for (size_t x = 2 * w->first; x < 2 * w->count; x++) {
+        join(w->past, w->boards[x], w->words, x);
+        mark(w->past, w->boards[x], x);
+    }
+    w->first = w->count;
+}
+
+static void message(walk *w, uint8_t a, uint8_t b) {
+    size_t send = 2 * w->count, receive = send + 1;
+    w->boards[send] = a;
+    w->boards[receive] = b;
+    join(w->words, send, w->past, a);
+    join(w->words, receive, w->past, b);
+    join(w->words, receive, w->words, send);
+    mark(w->words, receive, send);
+    w->count++;
+}
+
+static void insert(walk *w, size_t x, size_t y) {
+    for (size_t b = 2 * w->first; b < 2 * w->count; b++)
+        if (b == y || test(w->words, b, y)) {
+            join(w->words, b, w->words, x);
+            mark(w->words, b, x);
+        }
+}
+
+static refusal walk_sheet(const sheet *s, size_t n, size_t left, walk *w) {
+    for (size_t row = s->start[n]; row < s->count && s->kind[row] != 'S'; row++) {
+        uint32_t line = (uint32_t)row + 2;
+        switch (s->kind[row]) {
+        case 'M':
+            if (w->count == MESSAGES) return (refusal){10, line};
+            message(w, s->one[row], s->two[row]);
+            break;
+        case 'P': insert(w, 2 * w->first + s->one[row], 2 * w->first + s->two[row]); break;
+        case 'B': open_block(w); break;
+        default: {
+            if (left == 0) return (refusal){8, line};
+            if (w->calls == CALLS) return (refusal){9, line};
+            w->calls++;
+            open_block(w);
+            refusal r = walk_sheet(s, s->one[row], left - 1, w);
+            if (r.number) return r;
+            open_block(w);
+        }
+        }
+    }
+    return (refusal){0, 0};
+}
+
+static refusal expand(const sheet *s, walk *w) {
+    memset(w->words, 0, EVENTS * W * 8);
+    memset(w->past, 0, sizeof w->past);
+    memset(w->boards, 0, sizeof w->boards);
+    w->calls = w->first = w->count = 0;
+    refusal r = walk_sheet(s, 0, LEVELS, w);
+    if (r.number) return r;
+    for (size_t x = 0; x < 2 * w->count; x++)
+        if (test(w->words, x, x)) return (refusal){11, 0};
+    return r;
+}
+
+/* ------------------------------------------------------------------ races */
+
+enum rule { BY_EVENT, BY_ORIGIN, NEVER };
+static const enum rule rules[6] = {BY_EVENT, NEVER, BY_ORIGIN, NEVER, BY_ORIGIN, BY_ORIGIN};
+
+static int at_or_before(const walk *w, size_t x, size_t y) { return x == y || test(w->words, y, x); }
+
+static int is_race(const walk *w, enum rule rule, size_t e, size_t x) {
+    size_t receive = 2 * e + 1;
+    if (w->boards[x] != w->boards[receive] || !test(w->words, receive, x)) return 0;
+    switch (rule) {
+    case BY_EVENT: return !at_or_before(w, x, 2 * e);
+    case BY_ORIGIN: return !at_or_before(w, x - x % 2, 2 * e);
+    default: return 0;
+    }
+}
+
+static int lowest_race(const walk *w, enum rule rule, size_t *e, size_t *x) {
+    for (*e = 0; *e < w->count; ++*e)
+        for (*x = 0; *x < 2 * w->count; ++*x)
+            if (is_race(w, rule, *e, *x)) return 1;
+    return 0;
+}
+
+/* ------------------------------------------------------------------ run state and step rules */
+
+enum to_send { SEND_ALWAYS, NO_EARLIER, CHANNEL_EMPTY };
+enum to_deliver { DELIVER_ALWAYS, IN_ORDER, ALONE };
+typedef struct { int eager; enum to_send to_send; enum to_deliver to_deliver; } channel;
+static const channel channels[6] = {
+    {1, SEND_ALWAYS, DELIVER_ALWAYS}, {0, SEND_ALWAYS, DELIVER_ALWAYS}, {1, SEND_ALWAYS, IN_ORDER},
+    {0, SEND_ALWAYS, IN_ORDER},       {1, NO_EARLIER, DELIVER_ALWAYS},  {1, CHANNEL_EMPTY, ALONE},
+};
+
+typedef struct { uint64_t done[W], way[W], held[BOARDS][W]; } run;
+typedef struct { uint64_t on[BOARDS * W], to[BOARDS * W]; } masks;
+
+static int ready(const walk *w, const masks *k, const run *r, size_t x) {
+    const uint64_t *before = w->words + x * W, *on = k->on + w->boards[x] * W;
+    if (r->done[x / 64] >> (x % 64) & 1) return 0;
+    for (size_t i = 0; i < W; i++)
+        if (before[i] & on[i] & ~r->done[i]) return 0;
+    return 1;
+}
+
+static int has(const uint64_t *row, size_t x) { return row[x / 64] >> (x % 64) & 1; }
+static int is_empty(const uint64_t *row) { return (row[0] | row[1] | row[2] | row[3]) == 0; }
+
+static int may_send(const walk *w, const masks *k, channel c, const run *r, size_t m) {
+    if (!ready(w, k, r, 2 * m) || (c.eager && !is_empty(r->held[w->boards[2 * m]]))) return 0;
+    if (c.to_send == NO_EARLIER) {
+        const uint64_t *before = w->words + (2 * m + 1) * W;
+        for (size_t i = 0; i < W; i++)
+            if (before[i] & r->way[i]) return 0;
+    }
+    return c.to_send != CHANNEL_EMPTY || is_empty(r->way);
+}
+
+static int may_deliver(const walk *w, const masks *k, channel c, const run *r, size_t m) {
+    size_t send = 2 * m, target = w->boards[send + 1];
+    if (!has(r->way, send) || (c.eager && !is_empty(r->held[target]))) return 0;
+    if (c.to_deliver == DELIVER_ALWAYS) return 1;
+    uint64_t others[W];
+    memcpy(others, r->way, sizeof others);
+    others[send / 64] &= ~(UINT64_C(1) << (send % 64));
+    if (c.to_deliver == ALONE) return is_empty(others);
+    for (size_t i = 0; i < W; i++)
+        if (w->words[send * W + i] & others[i] & k->to[target * W + i]) return 0;
+    return 1;
+}
+
+static int may_consume(const walk *w, const masks *k, const run *r, size_t m) {
+    return has(r->held[w->boards[2 * m + 1]], 2 * m) && ready(w, k, r, 2 * m + 1);
+}
+
+/* ------------------------------------------------------------------ the schedule */
+
+static int choose(const walk *w, const masks *k, channel c, const run *r, size_t e, uint8_t *kind, size_t *message) {
+    size_t n = w->count, m;
+    *kind = 2;
+    for (m = 0; m < n; m++)
+        if (may_consume(w, k, r, m)) return *message = m, 1;
+    *kind = 1;
+    if (may_deliver(w, k, c, r, e)) return *message = e, 1;
+    for (m = 0; m < n; m++)
+        if (test(w->words, 2 * e, 2 * m + 1) && may_deliver(w, k, c, r, m)) return *message = m, 1;
+    *kind = 0;
+    for (m = 0; m < n; m++)
+        if (at_or_before(w, 2 * m, 2 * e) && may_send(w, k, c, r, m)) return *message = m, 1;
+    *kind = 1;
+    for (m = 0; m < n; m++)
+        if (may_deliver(w, k, c, r, m)) return *message = m, 1;
+    *kind = 0;
+    for (m = 0; m < n; m++)
+        if (may_send(w, k, c, r, m)) return *message = m, 1;
+    return 0;
+}
+
+static void flip(uint64_t *row, size_t x) { row[x / 64] ^= UINT64_C(1) << (x % 64); }
+
+static size_t schedule(const walk *w, channel c, size_t e, uint8_t *trace) {
+    masks k;
+    run r;
+    memset(&k, 0, sizeof k);
+    memset(&r, 0, sizeof r);
+    for (size_t m = 0; m < w->count; m++) {
+        mark(k.on, w->boards[2 * m], 2 * m);
+        mark(k.on, w->boards[2 * m + 1], 2 * m + 1);
+        mark(k.to, w->boards[2 * m + 1], 2 * m);
+    }
+    for (size_t i = 0; i < 3 * w->count; i++) {
+        uint8_t kind;
+        size_t m;
+        if (!choose(w, &k, c, &r, e, &kind, &m)) return i;
+        uint64_t *held = r.held[w->boards[2 * m + 1]];
+        if (kind == 0) flip(r.done, 2 * m), flip(r.way, 2 * m);
+        if (kind == 1) flip(r.way, 2 * m), flip(held, 2 * m);
+        if (kind == 2) flip(held, 2 * m), flip(r.done, 2 * m + 1);
+        trace[2 * i] = kind;
+        trace[2 * i + 1] = (uint8_t)m;
+    }
+    return 3 * w->count;
+}
+
+static channel_check_answer judge(const uint8_t *text, size_t len, uint32_t code, uint64_t *scratch, uint8_t *trace) {
+    sheet s;
+    walk w;
+    size_t e, x;
+    refusal r = read(text, len, &s);
+    w.words = scratch;
+    if (!r.number) r = expand(&s, &w);
+    if (r.number) return (channel_check_answer){2, r.number, r.line, 0};
+    if (rules[code] == NEVER || !lowest_race(&w, rules[code], &e, &x)) return (channel_check_answer){0, 0, 0, 0};
+    size_t steps = schedule(&w, channels[code], e, trace);
+    return (channel_check_answer){1, (uint32_t)e, (uint32_t)x, (uint32_t)steps};
+}
+
+channel_check_answer careful_check(const uint8_t *text, size_t text_len, uint32_t code, uint64_t *scratch, size_t scratch_len,
+                                   uint8_t *trace, size_t trace_len) {
+    if (code > 5) return (channel_check_answer){2, 1, 0, 0};
+    if (scratch_len < 2048 || trace_len < 768) return (channel_check_answer){2, 2, 0, 0};
+    channel_check_answer a = judge(text, text_len, code, scratch, trace);
+    memset(scratch, 0, 2048 * 8);
+    return a;
+}

@@ -1,0 +1,11 @@
+-- `channel::Run::start` meets its contract: rows of zeros hold nothing.
+-- Assumes nothing.
+use Rattle.channel.proofs.Steps.{start-state}
+use Rattle.channel.proofs.Run.start.Statement.{statement}
+use Rattle.channel.proofs.Run.start.Tie as tie
+
+returns : tie.Need-returns
+returns c = start-state
+
+pub start-spec : {M : Type 1} → statement M
+start-spec = tie.close (tie.spec returns)

@@ -1,0 +1,57 @@
+-- `channel::allowed_consume` meets its contract: `may_consume` of the run's own pieces.
+-- Assumes nothing.
+use mathlib.Core.Path.{refl}
+use Prim.Native.Nat.{_+_, _*_}
+use native.Mathlib.Omega.{arith}
+use Rattle.channel.proofs.Steps.{buffers-long, buffer-read}
+use borrow.Author.Needs.{needs}
+use Rattle.channel.proofs.allowed_consume.Statement.{statement}
+use Rattle.channel.proofs.allowed_consume.Tie as tie
+
+mul-x : tie.Need-mul-x
+mul-x c = search needs
+
+add-x : tie.Need-add-x
+add-x c = search needs
+
+shared-slice-read-wide : tie.Need-shared-slice-read-wide
+shared-slice-read-wide c = search needs
+
+wide-requires : tie.Need-wide-requires
+wide-requires c κs = search needs
+
+mul-buffer : tie.Need-mul-buffer
+mul-buffer c =
+    let s = c .before .before .before .before .before in
+    let board = s .pre .0 .boardsBelow (2 * s .args .m + 1) (omega arith) in
+    search needs
+
+element-copy-out-buffer : tie.Need-element-copy-out-buffer
+element-copy-out-buffer c =
+    let s = c .before .before .before .before .before in
+    let board = s .pre .0 .boardsBelow (2 * s .args .m + 1) (omega arith) in
+    search needs
+
+may-consume-requires : tie.Need-may-consume-requires
+may-consume-requires c κs = search needs
+
+returns : tie.Need-returns
+returns c =
+    let w = c .before .before .before .before in
+    let s = w .before .before .before .before .before in
+    let long = buffers-long (s .args .t1) _ (s .good .0) in
+    let board = s .pre .0 .boardsBelow (2 * s .args .m + 1) (omega arith) in
+    c .may-consume .ensures (s .args .c) (s .args .t1) refl (buffer-read (s .args .t1) _ _ _ (w .wide .ensures) (omega arith))
+
+pub allowed-consume-spec : {M : Type 1} → statement M
+allowed-consume-spec =
+    tie.close
+    (tie.spec
+    mul-x
+    add-x
+    shared-slice-read-wide
+    wide-requires
+    mul-buffer
+    element-copy-out-buffer
+    may-consume-requires
+    returns)

@@ -1,0 +1,185 @@
+-- The race test at event numbers: what each test of the code says of the model's. Assumes nothing.
+use mathlib.Core.Path.{_≡_, refl, sym, _∙_, ap, subst, subst⁻¹}
+use mathlib.Core.Logic.{⊎-elim}
+use mathlib.Core.Bool.{Bool, true, false, not, cond, _&&_, _||_}
+use mathlib.Core.List.{List}
+use mathlib.Core.Option.{Option, none, some}
+use Prim.Native.Nat.{ℕ, suc, _+_, _*_, _-_, _/_, _%_, _<_, _≤_}
+use native.Mathlib.Omega.{arith}
+use native.Mathlib.Numerals.{add-one}
+use lib.Dec.{eqb, ltb}
+use lib.ListN.{getD}
+use borrow.Author.Tests.{eqb-true, eqb-false, eq-eqb, ne-eqb, not-true, not-false}
+use Rattle.model.specs.Order.{Event, sendOf, receiveOf, number, event, Scenario, board, boardOf, atOrBefore}
+use Rattle.model.specs.Race.{RaceRule, byEvent, byOrigin, never, origin, escapes, isRace, races, lowestEvent, lowestMessage, lowestRace}
+use Rattle.model.specs.Bounded.{lowest, any}
+use Rattle.model.proofs.Events.{number-event, event-number, at-or-before-same}
+use Rattle.model.proofs.Bounded.{which, not-both, any-from, any-some, lowest-none, lowest-some, lowest-hit, lowest-miss}
+use Rattle.relation.specs.Width.{width}
+use Rattle.relation.specs.Rows.{holds}
+use Rattle.relation.specs.Scenario.{scenarioIn}
+use Rattle.relation.proofs.Scenario.{before-at, board-at}
+use Rattle.race.specs.declared.Rule.{Rule}
+use Rattle.race.specs.declared.Rule.the-variants.{ByEvent, ByOrigin, Never}
+use Rattle.race.specs.declared.Found.{Found}
+use Rattle.race.specs.declared.Found.the-variants as found
+use Rattle.race.specs.Bridge.{ruleIn, foundIn}
+
+pub send-event : (m : ℕ) → event (2 * m) ≡ sendOf m
+unfolding number
+send-event m = event-number (sendOf m)
+
+pub receive-event : (m : ℕ) → event (2 * m + 1) ≡ receiveOf m
+unfolding number
+receive-event m = event-number (receiveOf m)
+
+-- the origin of an event has the even number at or below its own
+pub origin-event : (x : ℕ) → origin (event x) ≡ event (x - x % 2)
+unfolding origin event
+origin-event x =
+    let r : (x - x % 2) % 2 ≡ 0 = omega arith in
+    let d : (x - x % 2) / 2 ≡ x / 2 = omega arith in
+    rw (r, d) (go (eqb (x % 2) 0))
+  where
+    go : (b : Bool) → origin (cond b (sendOf (x / 2)) (receiveOf (x / 2))) ≡ sendOf (x / 2)
+    go true = refl
+    go false = refl
+
+module _ (count : ℕ) (boards words : List ℕ) where
+  pub at-or-before-at : (x y : ℕ) → x < 2 * count → y < 2 * count
+      → atOrBefore (scenarioIn count boards words) (event x) (event y) ≡ (eqb x y || holds width words y x)
+  unfolding atOrBefore
+  at-or-before-at x y l h = rw (before-at count boards words x y l h, number-event x, number-event y)
+
+  pub by-event : (e x : ℕ) → escapes (scenarioIn count boards words) byEvent e (event x)
+      ≡ not (atOrBefore (scenarioIn count boards words) (event x) (event (2 * e)))
+  unfolding escapes
+  by-event e x = rw (send-event e)
+
+  pub by-origin : (e x : ℕ) → escapes (scenarioIn count boards words) byOrigin e (event x)
+      ≡ not (atOrBefore (scenarioIn count boards words) (event (x - x % 2)) (event (2 * e)))
+  unfolding escapes
+  by-origin e x = rw (send-event e, origin-event x)
+
+  pub race-at : (r : RaceRule) (e x : ℕ) → e < count → x < 2 * count
+      → isRace (scenarioIn count boards words) r e (event x)
+      ≡ (eqb (getD boards x 0) (getD boards (2 * e + 1) 0) && holds width words (2 * e + 1) x && escapes (scenarioIn count boards words) r e (event x))
+  unfolding isRace
+  race-at r e x l h =
+      rw (board-at count boards words x, ← receive-event e, before-at count boards words x (2 * e + 1) h (omega arith))
+
+  -- What each return of the code is to show, from what led there.
+  pub at-same : (x y : ℕ) → x ≡ y → true ≡ atOrBefore (scenarioIn count boards words) (event x) (event y)
+  at-same x y e = sym (at-or-before-same (scenarioIn count boards words) (event x) (event y) (ap event e))
+
+  pub at-other : (x y : ℕ) (r : Bool) → (x ≡ y → ⊥) → r ≡ holds width words y x → (x < 2 * count) × (y < 2 * count)
+      → r ≡ atOrBefore (scenarioIn count boards words) (event x) (event y)
+  at-other x y r d h l = h ∙ sym (at-or-before-at x y (l .0) (l .1) ∙ rw (ne-eqb x y d))
+
+  pub outside-event : (q : Rule) (e x : ℕ) (r : Bool) → q ≡ ByEvent → r ≡ atOrBefore (scenarioIn count boards words) (event x) (event (2 * e))
+      → not r ≡ escapes (scenarioIn count boards words) (ruleIn q) e (event x)
+  outside-event q e x r i h = rw (i, h) (sym (by-event e x))
+
+  pub outside-origin : (q : Rule) (e x : ℕ) (r : Bool) → q ≡ ByOrigin
+      → r ≡ atOrBefore (scenarioIn count boards words) (event (x - x % 2)) (event (2 * e))
+      → not r ≡ escapes (scenarioIn count boards words) (ruleIn q) e (event x)
+  outside-origin q e x r i h = rw (i, h) (sym (by-origin e x))
+
+  pub outside-never : (q : Rule) (e x : ℕ) → q ≡ Never → false ≡ escapes (scenarioIn count boards words) (ruleIn q) e (event x)
+  unfolding escapes
+  outside-never q e x i = rw (i, escapes)
+
+  pub other-board : (q : RaceRule) (e x : ℕ) → (getD boards x 0 ≡ getD boards (2 * e + 1) 0 → ⊥) → (e < count) × (x < 2 * count)
+      → false ≡ isRace (scenarioIn count boards words) q e (event x)
+  other-board q e x d l = sym (race-at q e x (l .0) (l .1) ∙ rw (ne-eqb (getD boards x 0) (getD boards (2 * e + 1) 0) d))
+
+  pub not-before : (q : RaceRule) (e x : ℕ) (t : Bool) → not t ≡ true → t ≡ holds width words (2 * e + 1) x → (e < count) × (x < 2 * count)
+      → false ≡ isRace (scenarioIn count boards words) q e (event x)
+  not-before q e x t f h l = sym (race-at q e x (l .0) (l .1) ∙ rw (← h, not-true t f) (falls (eqb (getD boards x 0) (getD boards (2 * e + 1) 0))))
+    where
+      falls : (b : Bool) → (b && false && escapes (scenarioIn count boards words) q e (event x)) ≡ false
+      falls true = refl
+      falls false = refl
+
+  pub race-if : (q : RaceRule) (e x : ℕ) (t r : Bool) → getD boards x 0 ≡ getD boards (2 * e + 1) 0 → not t ≡ false → t ≡ holds width words (2 * e + 1) x
+      → r ≡ escapes (scenarioIn count boards words) q e (event x) → (e < count) × (x < 2 * count)
+      → r ≡ isRace (scenarioIn count boards words) q e (event x)
+  race-if q e x t r i u h g l =
+      g ∙ sym (race-at q e x (l .0) (l .1) ∙ rw (eq-eqb (getD boards x 0) (getD boards (2 * e + 1) 0) i, ← h, not-false t u))
+
+  -- the search for the lowest event: none below x races with e
+  pub record Searched (q : RaceRule) (e end x : ℕ) : Type 0 where
+    pub whole : end ≡ 2 * count
+    pub within : x ≤ end
+    pub passed : lowest x (λ k. isRace (scenarioIn count boards words) q e (event k)) ≡ none
+
+  pub search-begins : (q : RaceRule) (e : ℕ) → Searched q e (2 * count) 0
+  unfolding lowest
+  search-begins q e = record { whole = refl; within = omega arith; passed = refl }
+
+  pub search-goes-on : (q : RaceRule) (e end x : ℕ) (b : Bool) → Searched q e end x → b ≡ false
+      → b ≡ isRace (scenarioIn count boards words) q e (event x) → x < end → Searched q e end (x + 1)
+  search-goes-on q e end x b s f h l =
+      record { whole = s .whole; within = omega arith; passed = rw add-one (lowest-miss x _ (s .passed) (sym h ∙ f)) }
+
+  pub search-finds : (q : RaceRule) (e end x : ℕ) (b : Bool) → Searched q e end x → b ≡ true
+      → b ≡ isRace (scenarioIn count boards words) q e (event x) → x < end → some x ≡ lowestEvent (scenarioIn count boards words) q e
+  unfolding lowestEvent
+  search-finds q e end x b s t h l = sym (lowest-hit (2 * count) x _ (s .passed) (sym h ∙ t) (omega (arith, s .whole)))
+
+  pub search-ends : (q : RaceRule) (e end x : ℕ) → Searched q e end x → end ≤ x → none ≡ lowestEvent (scenarioIn count boards words) q e
+  unfolding lowestEvent
+  search-ends q e end x s l =
+      let i : x ≡ 2 * count = omega (arith, s .whole, s .within) in
+      sym (subst (λ (k : ℕ). lowest k (λ j. isRace (scenarioIn count boards words) q e (event j)) ≡ none) i (s .passed))
+
+  -- a message races where its search finds an event
+  races-none : (q : RaceRule) (e : ℕ) → lowestEvent (scenarioIn count boards words) q e ≡ none → races (scenarioIn count boards words) q e ≡ false
+  unfolding lowestEvent races
+  races-none q e h =
+      ⊎-elim
+      (λ (t : races (scenarioIn count boards words) q e ≡ true).
+      let k = any-some (2 * count) (λ j. isRace (scenarioIn count boards words) q e (event j)) t in
+      not-both _ (k .2) (lowest-none (2 * count) (λ j. isRace (scenarioIn count boards words) q e (event j)) h (k .0) (k .1)))
+      (λ f. f)
+      (which (races (scenarioIn count boards words) q e))
+
+  races-some : (q : RaceRule) (e x : ℕ) → lowestEvent (scenarioIn count boards words) q e ≡ some x → races (scenarioIn count boards words) q e ≡ true
+  unfolding lowestEvent races
+  races-some q e x h =
+      let L = lowest-some (2 * count) (λ j. isRace (scenarioIn count boards words) q e (event j)) x h in
+      any-from (2 * count) (λ j. isRace (scenarioIn count boards words) q e (event j)) x (L .below) (L .passes)
+
+  -- the search for the lowest message: none below e races
+  pub record Passed (q : RaceRule) (e : ℕ) : Type 0 where
+    pub within : e ≤ count
+    pub passed : lowest e (races (scenarioIn count boards words) q) ≡ none
+
+  pub messages-begin : (q : RaceRule) → Passed q 0
+  unfolding lowest
+  messages-begin q = record { within = omega arith; passed = refl }
+
+  pub messages-go-on : (q : RaceRule) (e : ℕ) (f : Found) → Passed q e → f ≡ found.Nothing
+      → foundIn f ≡ lowestEvent (scenarioIn count boards words) q e → e < count → Passed q (e + 1)
+  messages-go-on q e f p i h l =
+      record { within = omega arith; passed = rw add-one (lowest-miss e (races (scenarioIn count boards words) q) (p .passed) (races-none q e (sym h ∙ ap foundIn i))) }
+
+  pub messages-find : (q : RaceRule) (e x : ℕ) (f : Found) → Passed q e → f ≡ found.Event x
+      → foundIn f ≡ lowestEvent (scenarioIn count boards words) q e → e < count → some (e, x) ≡ lowestRace (scenarioIn count boards words) q
+  unfolding lowestRace lowestMessage
+  messages-find q e x f p i h l =
+      let at : lowestEvent (scenarioIn count boards words) q e ≡ some x = sym h ∙ ap foundIn i in
+      let m : lowest count (races (scenarioIn count boards words) q) ≡ some e =
+      lowest-hit count e (races (scenarioIn count boards words) q) (p .passed) (races-some q e x at) l in
+      let race : Option (ℕ × ℕ) = some (e, x) in
+      subst⁻¹
+      (λ (o : Option ℕ). race ≡ elim o [ none ↦ none | some i ↦ elim (lowestEvent (scenarioIn count boards words) q i) [ none ↦ none | some y ↦ some (i, y) ] ]) m
+      (subst⁻¹ (λ (o : Option ℕ). race ≡ elim o [ none ↦ none | some y ↦ some (e, y) ]) at refl)
+
+  pub messages-end : (q : RaceRule) (e : ℕ) → Passed q e → count ≤ e → none ≡ lowestRace (scenarioIn count boards words) q
+  unfolding lowestRace lowestMessage
+  messages-end q e p l =
+      let i : e ≡ count = omega (arith, p .within) in
+      let m : lowest count (races (scenarioIn count boards words) q) ≡ none =
+      subst (λ (k : ℕ). lowest k (races (scenarioIn count boards words) q) ≡ none) i (p .passed) in
+      sym (rw (m, lowestRace, lowestMessage))

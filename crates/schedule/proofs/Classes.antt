@@ -1,0 +1,183 @@
+-- The classes at event numbers: what each return of `takes` is to show, from what led there. Assumes nothing.
+use mathlib.Core.Path.{_≡_, refl, sym, _∙_, ap, ap₂, subst, subst⁻¹}
+use mathlib.Core.Bool.{Bool, true, false, not, _&&_}
+use borrow.Author.Tests.{not-true, not-false}
+use mathlib.Core.Option.{none, some}
+use mathlib.Core.List.{List}
+use Prim.Native.Nat.{ℕ, _+_, _*_, _<_, _≤_}
+use native.Mathlib.Omega.{arith}
+use native.Mathlib.Numerals.{add-one}
+use lib.ListN.{length, getD, set}
+use lib.Dec.{eqb}
+use Rattle.model.specs.Bounded.{lowest}
+use Rattle.model.specs.Limits.{messagesMost}
+use Rattle.model.specs.Run.{send, deliver, consume, allowed}
+use Rattle.model.proofs.Bounded.{lowest-hit, lowest-miss}
+use Rattle.model.specs.Order.{sendOf, receiveOf, event, atOrBefore}
+use Rattle.relation.specs.Width.{width}
+use Rattle.relation.specs.Rows.{holds}
+use Rattle.relation.specs.Scenario.{scenarioIn}
+use Rattle.relation.proofs.Scenario.{before-at}
+use Rattle.race.proofs.Races.{send-event, receive-event}
+use Rattle.channel.specs.declared.Buffer.{Buffer}
+use Rattle.channel.specs.declared.Channel.{Channel}
+use Rattle.channel.specs.declared.Run.{Run}
+use Rattle.channel.specs.Table.{channelIn}
+use Rattle.channel.specs.State.{bufferOf, stateOf, Follows}
+use Rattle.channel.specs.Masks.{boardsMost, BoardsBelow}
+use Rattle.channel.specs.Steps.{SaysSend, SaysDeliver, SaysConsume}
+use Rattle.schedule.specs.declared.Class.{Class}
+use Rattle.schedule.specs.declared.Class.the-variants.{AnyConsume, DeliveryOf, NeededDelivery, NeededSend, AnyDelivery, AnySend}
+use Rattle.schedule.specs.declared.Choice.{Choice}
+use Rattle.schedule.specs.declared.Choice.the-variants as choice
+use Rattle.schedule.specs.Bridge.{classIn, SaysStep, SaysFits, fits, stepIn, Below, kindIn, messageIn, Moved}
+
+module _ (count : ℕ) (boards words : List ℕ) (e : ℕ) (q : Class) (m : ℕ) where
+  pub takes-one : q ≡ DeliveryOf → eqb m e ≡ (classIn (scenarioIn count boards words) e q) .takes m
+  takes-one i = rw i
+
+  pub takes-delivery : (r : Bool) → q ≡ NeededDelivery → r ≡ holds width words (2 * e) (2 * m + 1) → (e < count) × (m < count)
+      → r ≡ (classIn (scenarioIn count boards words) e q) .takes m
+  takes-delivery r i h l =
+      h ∙ sym (before-at count boards words (2 * m + 1) (2 * e) (omega arith) (omega arith))
+      ∙ ap₂ (λ x y. (scenarioIn count boards words) .before x y) (receive-event m) (send-event e)
+      ∙ ap (λ k. (classIn (scenarioIn count boards words) e k) .takes m) (sym i)
+
+  pub takes-send : (r : Bool) → q ≡ NeededSend → r ≡ atOrBefore (scenarioIn count boards words) (event (2 * m)) (event (2 * e))
+      → r ≡ (classIn (scenarioIn count boards words) e q) .takes m
+  takes-send r i h =
+      h ∙ ap₂ (λ x y. atOrBefore (scenarioIn count boards words) x y) (send-event m) (send-event e)
+      ∙ ap (λ k. (classIn (scenarioIn count boards words) e k) .takes m) (sym i)
+
+-- What each return of `may` is to show: the class's step is the one tested.
+module _ (count : ℕ) (boards words : List ℕ) (c : Channel) (done way : List ℕ) (source target : Buffer) (q : Class) (m : ℕ) (r : Bool) where
+  pub says-consume : q ≡ AnyConsume → SaysConsume count boards words done target m r → SaysStep count boards words c done way source target q m r
+  says-consume i h = λ run d w s t e. rw i (h c run d t)
+
+  pub says-one : q ≡ DeliveryOf → SaysDeliver count boards words c way target m r → SaysStep count boards words c done way source target q m r
+  says-one i h = λ run d w s t e. rw i (h run w t)
+
+  pub says-needed-delivery : q ≡ NeededDelivery → SaysDeliver count boards words c way target m r
+      → SaysStep count boards words c done way source target q m r
+  says-needed-delivery i h = λ run d w s t e. rw i (h run w t)
+
+  pub says-delivery : q ≡ AnyDelivery → SaysDeliver count boards words c way target m r
+      → SaysStep count boards words c done way source target q m r
+  says-delivery i h = λ run d w s t e. rw i (h run w t)
+
+  pub says-needed-send : q ≡ NeededSend → SaysSend count boards words c done way source m r
+      → SaysStep count boards words c done way source target q m r
+  says-needed-send i h = λ run d w s t e. rw i (h run d w s)
+
+  pub says-send : q ≡ AnySend → SaysSend count boards words c done way source m r → SaysStep count boards words c done way source target q m r
+  says-send i h = λ run d w s t e. rw i (h run d w s)
+
+-- The search of a class: no message below m fits.
+module _ (count : ℕ) (boards words : List ℕ) (c : Channel) (run : Run) (e : ℕ) (q : Class) where
+  pub record Passed (m : ℕ) : Type 0 where
+    pub within : m ≤ count
+    pub passed : lowest m (fits count boards words c run e q) ≡ none
+
+  pub search-begins : Passed 0
+  unfolding lowest
+  search-begins = record { within = omega arith; passed = refl }
+
+  goes-on : (m : ℕ) → Passed m → fits count boards words c run e q m ≡ false → m < count → Passed (m + 1)
+  goes-on m p f l = record { within = omega arith; passed = rw add-one (lowest-miss m (fits count boards words c run e q) (p .passed) f) }
+
+  pub misses : (m : ℕ) (u : Bool) (done way : List ℕ) (from into : Buffer) → Passed m → u ≡ false
+      → SaysFits count boards words c done way from into e q m u
+      → run .done ≡ done → run .way ≡ way → bufferOf run (getD boards (2 * m) 0) ≡ from → bufferOf run (getD boards (2 * m + 1) 0) ≡ into
+      → m < count → Passed (m + 1)
+  misses m u done way from into p f s d w a b l = goes-on m p (sym (s run d w a b) ∙ f) l
+
+  pub finds : (m : ℕ) (u : Bool) (done way : List ℕ) (from into : Buffer) → Passed m → u ≡ true
+      → SaysFits count boards words c done way from into e q m u
+      → run .done ≡ done → run .way ≡ way → bufferOf run (getD boards (2 * m) 0) ≡ from → bufferOf run (getD boards (2 * m + 1) 0) ≡ into
+      → m < count → some m ≡ lowest count (fits count boards words c run e q)
+  finds m u done way from into p v s d w a b l =
+      sym (lowest-hit count m (fits count boards words c run e q) (p .passed) (sym (s run d w a b) ∙ v) l)
+
+  pub finds-nothing : (m : ℕ) → Passed m → count ≤ m → none ≡ lowest count (fits count boards words c run e q)
+  finds-nothing m p l =
+      let i : m ≡ count = omega (arith, p .within) in
+      sym (subst (λ (k : ℕ). lowest k (fits count boards words c run e q) ≡ none) i (p .passed))
+
+-- What each return of `fits_class` is to show.
+module _ (count : ℕ) (boards words : List ℕ) (c : Channel) (done way : List ℕ) (source target : Buffer) (e : ℕ) (q : Class) (m : ℕ) where
+  pub other-class : (t : Bool) → not t ≡ true → t ≡ (classIn (scenarioIn count boards words) e q) .takes m
+      → SaysFits count boards words c done way source target e q m false
+  other-class t f h = λ run d w s g.
+      ap (λ b. b && allowed (scenarioIn count boards words) (channelIn c) (stateOf run) ((classIn (scenarioIn count boards words) e q) .step m)) (sym (not-true t f) ∙ h)
+
+  pub in-class : (t u : Bool) → not t ≡ false → t ≡ (classIn (scenarioIn count boards words) e q) .takes m
+      → SaysStep count boards words c done way source target q m u → SaysFits count boards words c done way source target e q m u
+  in-class t u f h s = λ run d w a b.
+      s run d w a b e
+      ∙ ap (λ k. k && allowed (scenarioIn count boards words) (channelIn c) (stateOf run) ((classIn (scenarioIn count boards words) e q) .step m)) (sym (not-false t f) ∙ h)
+
+-- the buffer of one board, named in two ways
+pub same-buffer : (run : Run) (k b : ℕ) → k ≡ b → bufferOf run b ≡ bufferOf run k
+same-buffer run k b i = ap (bufferOf run) (sym i)
+
+-- What each return of `step_of` is to show.
+module _ (q : Class) (m : ℕ) where
+  pub step-consume : q ≡ AnyConsume → choice.Consume m ≡ stepIn q m
+  step-consume i = rw i
+
+  pub step-one : q ≡ DeliveryOf → choice.Deliver m ≡ stepIn q m
+  step-one i = rw i
+
+  pub step-needed-delivery : q ≡ NeededDelivery → choice.Deliver m ≡ stepIn q m
+  step-needed-delivery i = rw i
+
+  pub step-needed-send : q ≡ NeededSend → choice.Send m ≡ stepIn q m
+  step-needed-send i = rw i
+
+  pub step-delivery : q ≡ AnyDelivery → choice.Deliver m ≡ stepIn q m
+  step-delivery i = rw i
+
+  pub step-send : q ≡ AnySend → choice.Send m ≡ stepIn q m
+  step-send i = rw i
+
+-- the message of a step chosen is below the count
+pub below-send : (count : ℕ) (r : Choice) (m : ℕ) → r ≡ choice.Send m → Below count r → m < count
+below-send count r m i b = subst (Below count) i b
+
+pub below-deliver : (count : ℕ) (r : Choice) (m : ℕ) → r ≡ choice.Deliver m → Below count r → m < count
+below-deliver count r m i b = subst (Below count) i b
+
+pub below-consume : (count : ℕ) (r : Choice) (m : ℕ) → r ≡ choice.Consume m → Below count r → m < count
+below-consume count r m i b = subst (Below count) i b
+
+pub two-bytes : (trace : List ℕ) (i k m : ℕ) (r : Choice) → k ≡ kindIn r → m ≡ messageIn r
+    → set (set trace (2 * i) k) (2 * i + 1) m ≡ set (set trace (2 * i) (kindIn r)) (2 * i + 1) (messageIn r)
+two-bytes trace i k m r p q = rw (p, q)
+
+-- What `advanced` asks of the run's steps, and what it returns.
+module _ (count : ℕ) (boards : List ℕ) (r : Choice) (m : ℕ) (room : (2 * count ≤ length boards) × BoardsBelow count boards)
+    (few : (count ≤ messagesMost) × Below count r) where
+  received : m < count → (m < messagesMost) × ((2 * m + 1 < length boards) × (getD boards (2 * m + 1) 0 < boardsMost))
+  received l = (omega (arith, few .0), (omega (arith, room .0), room .1 (2 * m + 1) (omega arith)))
+
+  pub send-room : r ≡ choice.Send m → m < messagesMost
+  send-room i = omega (arith, few .0, below-send count r m i (few .1))
+
+  pub deliver-room : r ≡ choice.Deliver m → (m < messagesMost) × ((2 * m + 1 < length boards) × (getD boards (2 * m + 1) 0 < boardsMost))
+  deliver-room i = received (below-deliver count r m i (few .1))
+
+  pub consume-room : r ≡ choice.Consume m → (m < messagesMost) × ((2 * m + 1 < length boards) × (getD boards (2 * m + 1) 0 < boardsMost))
+  consume-room i = received (below-consume count r m i (few .1))
+
+module _ (boards : List ℕ) (run behind : Run) (r : Choice) where
+  pub moved-send : (m : ℕ) → r ≡ choice.Send m → ((on : List ℕ) → Follows on run (send m) behind) → Moved boards run r behind
+  moved-send m i h = subst⁻¹ (λ (k : Choice). Moved boards run k behind) i (h boards)
+
+  pub moved-deliver : (m : ℕ) → r ≡ choice.Deliver m → Follows boards run (deliver m) behind → Moved boards run r behind
+  moved-deliver m i h = subst⁻¹ (λ (k : Choice). Moved boards run k behind) i h
+
+  pub moved-consume : (m : ℕ) → r ≡ choice.Consume m → Follows boards run (consume m) behind → Moved boards run r behind
+  moved-consume m i h = subst⁻¹ (λ (k : Choice). Moved boards run k behind) i h
+
+pub moved-nothing : (boards : List ℕ) (run : Run) (r : Choice) → r ≡ choice.Nothing → Moved boards run r run
+moved-nothing boards run r i = subst⁻¹ (λ (k : Choice). Moved boards run k run) i refl

@@ -1,0 +1,63 @@
+-- `schedule::choose` meets its contract: the classes before k have no allowed step. Assumes nothing.
+use borrow.Author.Needs.{needs}
+use Prim.Native.Nat.{_-_}
+use Rattle.schedule.proofs.Running.{Tried, tried-none, tried-more, chooses, chooses-nothing}
+use Rattle.schedule.proofs.choose.Statement.{statement}
+use Rattle.schedule.proofs.choose.Tie as tie
+
+abbrev Inv-loop : tie.InvT-loop
+Inv-loop words masks boards count c run e k₀ k = Tried count boards words c run e k
+
+abbrev μ-loop : tie.MeasureT-loop
+μ-loop words masks boards count c run e k₀ k = 6 - k
+
+loop-holds : tie.Need-loop-holds Inv-loop μ-loop
+loop-holds c = search tried-none
+
+array-copy-out-class : tie.Need-array-copy-out-class Inv-loop μ-loop
+array-copy-out-class c = search needs
+
+lowest-requires : tie.Need-lowest-requires Inv-loop μ-loop
+lowest-requires c κs = search needs
+
+enum-known-found : tie.Need-enum-known-found Inv-loop μ-loop
+enum-known-found c = search needs
+
+step-of-requires : tie.Need-step-of-requires Inv-loop μ-loop
+step-of-requires c κs = search needs
+
+returns : tie.Need-returns Inv-loop μ-loop
+returns c = search chooses
+
+enum-told : tie.Need-enum-told Inv-loop μ-loop
+enum-told c = search needs
+
+add-k : tie.Need-add-k Inv-loop μ-loop
+add-k c = search needs
+
+loop-less : tie.Need-loop-less Inv-loop μ-loop
+loop-less c = search needs
+
+loop-again : tie.Need-loop-again Inv-loop μ-loop
+loop-again c = search tried-more
+
+returns-2 : tie.Need-returns-2 Inv-loop μ-loop
+returns-2 c = search chooses-nothing
+
+pub choose-spec : {M : Type 1} → statement M
+choose-spec =
+    tie.close
+    (tie.spec
+    Inv-loop
+    μ-loop
+    loop-holds
+    array-copy-out-class
+    lowest-requires
+    enum-known-found
+    step-of-requires
+    returns
+    enum-told
+    add-k
+    loop-less
+    loop-again
+    returns-2)

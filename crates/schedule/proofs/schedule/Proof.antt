@@ -1,0 +1,79 @@
+-- `schedule::schedule` meets its contract: i steps were taken and written. It ends by their number. Assumes nothing.
+use borrow.Author.Needs.{needs}
+use Prim.Native.Nat.{_-_}
+use Rattle.schedule.proofs.Running.{Goes, goes-start, goes-on, goes-stops, goes-ends}
+use Rattle.schedule.proofs.schedule.Statement.{statement}
+use Rattle.schedule.proofs.schedule.Tie as tie
+
+abbrev Inv-loop : tie.InvT-loop
+Inv-loop words masks boards count c e trace₀ run₀ i₀ i-end trace run i = Goes count boards words c e trace₀ i-end trace run i
+
+abbrev μ-loop : tie.MeasureT-loop
+μ-loop words masks boards count c e trace₀ run₀ i₀ i-end trace run i = i-end - i
+
+start-requires : tie.Need-start-requires Inv-loop μ-loop
+start-requires c κs = search needs
+
+mul-i-end : tie.Need-mul-i-end Inv-loop μ-loop
+mul-i-end c = search needs
+
+loop-holds : tie.Need-loop-holds Inv-loop μ-loop
+loop-holds c = search goes-start
+
+choose-requires : tie.Need-choose-requires Inv-loop μ-loop
+choose-requires c κs = search needs
+
+is-nothing-requires : tie.Need-is-nothing-requires Inv-loop μ-loop
+is-nothing-requires c κs = search needs
+
+same-length : tie.Need-same-length Inv-loop μ-loop
+same-length c = search needs
+
+returns : tie.Need-returns Inv-loop μ-loop
+returns c = search goes-stops
+
+write-step-requires : tie.Need-write-step-requires Inv-loop μ-loop
+write-step-requires c κs = search needs
+
+advanced-requires : tie.Need-advanced-requires Inv-loop μ-loop
+advanced-requires c κs = search needs
+
+add-i : tie.Need-add-i Inv-loop μ-loop
+add-i c = search needs
+
+loop-less : tie.Need-loop-less Inv-loop μ-loop
+loop-less c = search needs
+
+loop-again : tie.Need-loop-again Inv-loop μ-loop
+loop-again c = search goes-on
+
+mul-result : tie.Need-mul-result Inv-loop μ-loop
+mul-result c = search needs
+
+same-length-2 : tie.Need-same-length-2 Inv-loop μ-loop
+same-length-2 c = search needs
+
+returns-2 : tie.Need-returns-2 Inv-loop μ-loop
+returns-2 c = search goes-ends
+
+pub schedule-spec : {M : Type 1} → statement M
+schedule-spec =
+    tie.close
+    (tie.spec
+    Inv-loop
+    μ-loop
+    start-requires
+    mul-i-end
+    loop-holds
+    choose-requires
+    is-nothing-requires
+    same-length
+    returns
+    write-step-requires
+    advanced-requires
+    add-i
+    loop-less
+    loop-again
+    mul-result
+    same-length-2
+    returns-2)

@@ -1,0 +1,42 @@
+-- `schedule::write_step` meets its contract. Assumes nothing.
+use borrow.Author.Needs.{needs}
+use Rattle.schedule.proofs.Classes.{two-bytes}
+use Rattle.schedule.proofs.write_step.Statement.{statement}
+use Rattle.schedule.proofs.write_step.Tie as tie
+
+mul-at : tie.Need-mul-at
+mul-at c = search needs
+
+add-behind : tie.Need-add-behind
+add-behind c = search needs
+
+kind-of-requires : tie.Need-kind-of-requires
+kind-of-requires c κs = search needs
+
+slice-write-trace : tie.Need-slice-write-trace
+slice-write-trace c = search needs
+
+message-of-requires : tie.Need-message-of-requires
+message-of-requires c κs = search needs
+
+slice-write-trace-2 : tie.Need-slice-write-trace-2
+slice-write-trace-2 c = search needs
+
+same-length : tie.Need-same-length
+same-length c = search needs
+
+returns : tie.Need-returns
+returns c = search two-bytes
+
+pub write-step-spec : {M : Type 1} → statement M
+write-step-spec =
+    tie.close
+    (tie.spec
+    mul-at
+    add-behind
+    kind-of-requires
+    slice-write-trace
+    message-of-requires
+    slice-write-trace-2
+    same-length
+    returns)

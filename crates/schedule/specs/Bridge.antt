@@ -1,0 +1,119 @@
+-- The schedule's data as the model's, and its promise. Assumes nothing.
+use mathlib.Core.Path.{_≡_}
+use mathlib.Core.Bool.{Bool, true, false, _&&_}
+use mathlib.Core.List.{List, _++_}
+use mathlib.Core.Option.{Option, none, some}
+use Prim.Native.Nat.{ℕ, _+_, _*_, _<_}
+use lib.ListN.{length, drop, getD}
+use Rattle.model.specs.Bounded.{lowest}
+use Rattle.model.specs.Order.{Scenario}
+use Rattle.model.specs.Channel as model
+use Rattle.model.specs.Run.{Step, send, deliver, consume, allowed}
+use Rattle.model.specs.Schedule as plan
+use Rattle.model.specs.Schedule.{schedule, bytesOf}
+use Rattle.relation.specs.Scenario.{scenarioIn}
+use Rattle.channel.specs.declared.Buffer.{Buffer}
+use Rattle.channel.specs.declared.Channel.{Channel}
+use Rattle.channel.specs.declared.Run.{Run}
+use Rattle.channel.specs.Table.{channelIn}
+use Rattle.channel.specs.State.{bufferOf, stateOf, Follows}
+use Rattle.schedule.specs.declared.Class.{Class}
+use Rattle.schedule.specs.declared.Class.the-variants.{AnyConsume, DeliveryOf, NeededDelivery, NeededSend, AnyDelivery, AnySend}
+use Rattle.schedule.specs.declared.Found.{Found}
+use Rattle.schedule.specs.declared.Found.the-variants as found
+use Rattle.schedule.specs.declared.Choice.{Choice}
+use Rattle.schedule.specs.declared.Choice.the-variants as choice
+
+-- a class of the schedule for e
+abbrev pub classIn : Scenario → ℕ → Class → plan.Class
+classIn S e AnyConsume = plan.anyConsume
+classIn S e DeliveryOf = plan.deliveryOf e
+classIn S e NeededDelivery = plan.neededDelivery S e
+classIn S e NeededSend = plan.neededSend S e
+classIn S e AnyDelivery = plan.anyDelivery
+classIn S e AnySend = plan.anySend
+
+abbrev pub foundIn : Found → Option ℕ
+foundIn (found.Message m) = some m
+foundIn found.Nothing = none
+
+abbrev pub choiceIn : Choice → Option Step
+choiceIn (choice.Send m) = some (send m)
+choiceIn (choice.Deliver m) = some (deliver m)
+choiceIn (choice.Consume m) = some (consume m)
+choiceIn choice.Nothing = none
+
+-- the message chosen is one of the first `count`
+abbrev pub Below : ℕ → Choice → Type 0
+Below count (choice.Send m) = m < count
+Below count (choice.Deliver m) = m < count
+Below count (choice.Consume m) = m < count
+Below count choice.Nothing = Unit {0}
+
+-- the class's step on message m is allowed, in the state of every run with these pieces
+abbrev pub SaysStep : ℕ → List ℕ → List ℕ → Channel → List ℕ → List ℕ → Buffer → Buffer → Class → ℕ → Bool → Type 0
+SaysStep count boards words c done way source target class m r =
+    (run : Run) → run .done ≡ done → run .way ≡ way → bufferOf run (getD boards (2 * m) 0) ≡ source
+    → bufferOf run (getD boards (2 * m + 1) 0) ≡ target → (e : ℕ)
+    → r ≡ allowed (scenarioIn count boards words) (channelIn c) (stateOf run) ((classIn (scenarioIn count boards words) e class) .step m)
+
+-- message m is of the class, and its step is allowed
+abbrev pub fits : ℕ → List ℕ → List ℕ → Channel → Run → ℕ → Class → ℕ → Bool
+fits count boards words c run e class m =
+    (classIn (scenarioIn count boards words) e class) .takes m
+    && allowed (scenarioIn count boards words) (channelIn c) (stateOf run) ((classIn (scenarioIn count boards words) e class) .step m)
+
+-- the same, of every run with these pieces
+abbrev pub SaysFits : ℕ → List ℕ → List ℕ → Channel → List ℕ → List ℕ → Buffer → Buffer → ℕ → Class → ℕ → Bool → Type 0
+SaysFits count boards words c done way source target e class m r =
+    (run : Run) → run .done ≡ done → run .way ≡ way → bufferOf run (getD boards (2 * m) 0) ≡ source
+    → bufferOf run (getD boards (2 * m + 1) 0) ≡ target → r ≡ fits count boards words c run e class m
+
+-- the lowest message that does
+abbrev pub Lowest : ℕ → List ℕ → List ℕ → Channel → Run → ℕ → Class → Found → Type 0
+Lowest count boards words c run e class r = foundIn r ≡ lowest count (fits count boards words c run e class)
+
+-- the step of a class on message m
+abbrev pub stepIn : Class → ℕ → Choice
+stepIn AnyConsume m = choice.Consume m
+stepIn DeliveryOf m = choice.Deliver m
+stepIn NeededDelivery m = choice.Deliver m
+stepIn NeededSend m = choice.Send m
+stepIn AnyDelivery m = choice.Deliver m
+stepIn AnySend m = choice.Send m
+
+-- what the schedule for e takes next, in the run's state
+pub record Chosen (count : ℕ) (boards words : List ℕ) (c : Channel) (run : Run) (e : ℕ) (r : Choice) : Type 0 where
+  pub choice : choiceIn r ≡ plan.choose (scenarioIn count boards words) (channelIn c) (plan.classesFor (scenarioIn count boards words) e) (stateOf run)
+  pub below : Below count r
+
+abbrev pub isNothing : Choice → Bool
+isNothing (choice.Send m) = false
+isNothing (choice.Deliver m) = false
+isNothing (choice.Consume m) = false
+isNothing choice.Nothing = true
+
+-- the two bytes of a step; with no step there is none to write
+abbrev pub kindIn : Choice → ℕ
+kindIn (choice.Send m) = 0
+kindIn (choice.Deliver m) = 1
+kindIn (choice.Consume m) = 2
+kindIn choice.Nothing = 3
+
+abbrev pub messageIn : Choice → ℕ
+messageIn (choice.Send m) = m
+messageIn (choice.Deliver m) = m
+messageIn (choice.Consume m) = m
+messageIn choice.Nothing = 0
+
+-- the run behind a step; with no step it stays
+abbrev pub Moved : List ℕ → Run → Choice → Run → Type 0
+Moved boards run (choice.Send m) r = Follows boards run (send m) r
+Moved boards run (choice.Deliver m) r = Follows boards run (deliver m) r
+Moved boards run (choice.Consume m) r = Follows boards run (consume m) r
+Moved boards run choice.Nothing r = r ≡ run
+
+-- the number of steps counted, and the trace buffer: the schedule's bytes, and all others as they were
+pub record Scheduled (S : Scenario) (c : model.Channel) (e : ℕ) (before behind : List ℕ) (steps : ℕ) : Type 0 where
+  pub count : steps ≡ length (schedule S c e)
+  pub trace : behind ≡ bytesOf (schedule S c e) ++ drop (2 * length (schedule S c e)) before

@@ -1,0 +1,83 @@
+-- What later code uses of the bridge: the columns row by row, and the table sheet by sheet. Assumes nothing.
+use Prim.Native.Nat.{ℕ, zero, suc, _+_, _-_, _≤_, _<_}
+use native.Mathlib.Nat.{add-zero, sub-zero, suc-sub-suc}
+use native.Mathlib.Omega.{arith}
+use mathlib.Core.Path.{_≡_, refl, sym, _∙_, ap, subst}
+use mathlib.Core.List.{List, _∷_}
+use lib.ListN.{length, getD, drop}
+use Rattle.model.specs.Limits.{sheets, rowsMost}
+use Rattle.model.specs.Refusal.{ok, refusal}
+use Rattle.model.specs.Rows.{Row}
+use Rattle.model.specs.Place.{readOf}
+use Rattle.model.specs.Order.{cells}
+use Rattle.sheet.specs.Bridge.{rowFrom, rowsAt, rowsOf, startIn, startsOf, outcomeOf, storeOf, Sized, KeptOn, ReadAs}
+use Rattle.sheet.specs.declared.Verdict.{Verdict}
+use Rattle.sheet.specs.declared.Verdict.the-variants.{Rows, Refused}
+
+pub rows-length : (kind one two : List ℕ) (i n : ℕ) → length (rowsAt kind one two i n) ≡ n
+unfolding rowsAt
+rows-length kind one two i zero = refl
+rows-length kind one two i (suc n) = ap suc (rows-length kind one two (suc i) n)
+
+-- the rows from a later one on
+pub rows-drop : (kind one two : List ℕ) (j i n : ℕ) → j ≤ n → drop j (rowsAt kind one two i n) ≡ rowsAt kind one two (i + j) (n - j)
+unfolding rowsAt
+rows-drop kind one two zero i n h = rw (add-zero i, sub-zero n)
+rows-drop kind one two (suc j) i zero h = absurd (omega arith)
+rows-drop kind one two (suc j) i (suc n) h =
+    let e : suc i + j ≡ i + suc j = omega arith in
+    rows-drop kind one two j (suc i) n (omega arith) ∙ rw (e, suc-sub-suc n j)
+
+-- the first of them
+pub rows-first : (kind one two : List ℕ) (i n : ℕ) → i < n
+    → rowsAt kind one two i (n - i) ≡ rowFrom (getD kind i 0) (getD one i 0) (getD two i 0) ∷ rowsAt kind one two (suc i) (n - suc i)
+unfolding rowsAt
+rows-first kind one two i n h = let e : n - i ≡ suc (n - suc i) = omega arith in rw e
+
+pub cells-length : (n : ℕ) (f : ℕ → ℕ) → length (cells n f) ≡ n
+unfolding cells
+cells-length zero f = refl
+cells-length (suc n) f = ap suc (cells-length n (λ k. f (suc k)))
+
+pub cells-at : (n : ℕ) (f : ℕ → ℕ) (i : ℕ) → i < n → getD (cells n f) i 0 ≡ f i
+unfolding cells
+cells-at zero f i h = absurd (omega arith)
+cells-at (suc n) f zero h = refl
+cells-at (suc n) f (suc i) h = cells-at n (λ k. f (suc k)) i (omega arith)
+
+-- the table at a sheet
+pub start-at : (rs : List Row) (n : ℕ) → n < sheets → getD (startsOf rs) n 0 ≡ startIn rs n
+start-at rs n h = cells-at sheets (startIn rs) n h
+
+-- a reading, by its verdict
+module _ (text kind one two start : List ℕ) (v : Verdict) (p : ReadAs text kind one two start v) where
+  pub refused-is : (number line : ℕ) → v ≡ Refused number line → readOf text ≡ refusal number line
+  refused-is number line e = sym (p .outcome) ∙ ap (λ (x : Verdict). outcomeOf x kind one two) e
+
+  module _ (count : ℕ) (e : v ≡ Rows count) where
+    pub rows-are : readOf text ≡ ok (rowsOf kind one two count)
+    rows-are = sym (p .outcome) ∙ ap (λ (x : Verdict). outcomeOf x kind one two) e
+
+    pub starts-are : start ≡ startsOf (rowsOf kind one two count)
+    starts-are = p .starts (rowsOf kind one two count) rows-are
+
+    kept-all : (count ≤ rowsMost) × Sized (storeOf kind one two start)
+    kept-all =
+        let q : KeptOn (storeOf kind one two start) (Rows count) = subst (λ (x : Verdict). KeptOn (storeOf kind one two start) x) e (p .kept) in
+        q
+
+    pub count-most : count ≤ rowsMost
+    count-most = kept-all .0
+
+    -- the lengths, as a caller needs them that lends a column as a slice
+    pub kind-long : rowsMost ≡ length kind
+    kind-long = sym (kept-all .1 .kind)
+
+    pub one-long : rowsMost ≡ length one
+    one-long = sym (kept-all .1 .one)
+
+    pub two-long : rowsMost ≡ length two
+    two-long = sym (kept-all .1 .two)
+
+    pub start-long : sheets ≡ length start
+    start-long = sym (kept-all .1 .start)

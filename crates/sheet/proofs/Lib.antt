@@ -1,0 +1,11 @@
+pub mod Bridge
+pub mod Accepted
+pub mod Scan
+pub mod Spans
+pub mod Lines
+pub mod Names
+pub mod Forms
+pub mod Standing
+pub mod Storing
+pub mod Simulation
+pub mod Whole

@@ -1,0 +1,398 @@
+-- The twin's reading, with its table of starts, is the model's, with its list of opened sheets. Assumes nothing.
+use Prim.Native.Nat.{ℕ, suc, _+_, _<_}
+use native.Mathlib.Nat.{zero-add}
+use native.Mathlib.Omega.{arith}
+use mathlib.Core.Path.{_≡_, refl, sym, _∙_, ap, subst}
+use mathlib.Core.Bool.{Bool, true, false, not, cond, _&&_, _||_}
+use mathlib.Core.List.{List, [], _∷_, _++_}
+use mathlib.Core.Option.{Option, none, some}
+use borrow.Author.Tests.{lt-ltb, le-ltb, eq-eqb, ne-eqb, ltb-true, ltb-false, eqb-true, eqb-false, not-true, not-false}
+use lib.Dec.{eqb, ltb}
+use lib.ListN.{length, getD, set, replicate, length-set, length-replicate, getD-replicate, List·getD-eq-default}
+use lib.Seq.{getD-set-same, getD-set-other, ext-getD}
+use Rattle.model.specs.Limits.{sheets, rowsMost}
+use Rattle.model.specs.Bounded.{among}
+use Rattle.model.specs.Refusal.{Out, ok, refusal, andThen, rowRefusal, placeRefusal}
+use Rattle.model.specs.Text.{Line, Columns}
+use Rattle.model.specs.Rows.{Row, sheet, message, order, block, call, rowOf}
+use Rattle.model.specs.Place.{Place, outside, messageFits, orderFits, moved, isSheet, placed, lineOf, judged, rowsFrom, opens, strayCall, complete}
+use Rattle.model.specs.Expansion.{startOf}
+use Rattle.model.proofs.Bounded.{and-left, and-right, not-both}
+use Rattle.sheet.specs.Bridge.{startIn, startsOf}
+use Rattle.sheet.proofs.Bridge.{cells-length, start-at}
+use Rattle.sheet.specs.Stand.{Stand, isOpen, mayOpen, movedTo, stoodAt, judgedBy, Kept, aheadOf, readFrom, fresh, strayFrom, completed}
+
+or-true : (b : Bool) → (b || true) ≡ true
+or-true true = refl
+or-true false = refl
+
+-- a sheet has a start exactly when it is among those opened
+abbrev Agree : List ℕ → List ℕ → Type 0
+Agree starts opened = (n : ℕ) → isOpen starts n ≡ among n opened
+
+open-set : (starts : List ℕ) (n i : ℕ) → n < length starts → isOpen (set starts n (i + 1)) n ≡ true
+unfolding isOpen
+open-set starts n i h = rw (getD-set-same starts n (i + 1) 0 h, ne-eqb (i + 1) 0 (λ e. omega arith))
+
+open-other : (starts : List ℕ) (n i m : ℕ) → (m ≡ n → ⊥) → isOpen (set starts n (i + 1)) m ≡ isOpen starts m
+unfolding isOpen
+open-other starts n i m h = rw (getD-set-other starts n m (i + 1) 0 h)
+
+agree-set : (starts opened : List ℕ) (n i : ℕ) → Agree starts opened → n < length starts → Agree (set starts n (i + 1)) (n ∷ opened)
+unfolding among
+agree-set starts opened n i h l m = go (eqb m n) refl
+  where
+    go : (t : Bool) → eqb m n ≡ t → isOpen (set starts n (i + 1)) m ≡ (t || among m opened)
+    go true e = subst (λ (x : ℕ). isOpen (set starts n (i + 1)) x ≡ true) (sym (eqb-true m n e)) (open-set starts n i l)
+    go false e = open-other starts n i m (eqb-false m n e) ∙ h m
+
+-- the place behind a row in the model, and where the twin stands: both are there, and agree, or neither is
+data Moves : Option Place → Option Stand → Type 0 where
+  neither : Moves none none
+  both : (opened starts events : List ℕ) → Agree starts opened → length starts ≡ sheets → (length opened ≡ 0 → ⊥)
+      → Moves (some (record { opened = opened; events = events })) (some (record { starts = starts; events = events }))
+
+module _ (opened starts events : List ℕ) (i : ℕ) (agree : Agree starts opened) (long : length starts ≡ sheets) where
+  move-sheet : (n : ℕ) → Moves (moved (record { opened = opened; events = events }) (sheet n)) (movedTo i (record { starts = starts; events = events }) (sheet n))
+  unfolding moved movedTo mayOpen
+  move-sheet n = rw (← agree n) (go (ltb n sheets && not (isOpen starts n)) refl)
+    where
+      go : (t : Bool) → (ltb n sheets && not (isOpen starts n)) ≡ t
+          → Moves (cond t (some (record { opened = n ∷ opened; events = [] })) none) (cond t (some (record { starts = set starts n (i + 1); events = [] })) none)
+      go true e =
+          let l : n < length starts = rw long (ltb-true n sheets (and-left (ltb n sheets) (not (isOpen starts n)) e)) in
+          both (n ∷ opened) (set starts n (i + 1)) [] (agree-set starts opened n i agree l) (length-set starts n (i + 1) ∙ long) (λ z. omega arith)
+      go false e = neither
+
+  module _ (some-open : (length opened ≡ 0 → ⊥)) where
+    move : (r : Row) → Moves (moved (record { opened = opened; events = events }) r) (movedTo i (record { starts = starts; events = events }) r)
+    unfolding moved movedTo
+    move (sheet n) = move-sheet n
+    move (message a b) = go (messageFits events a b)
+      where
+        go : (t : Bool) → Moves (cond t (some (record { opened = opened; events = events ++ (a ∷ b ∷ []) })) none) (cond t (some (record { starts = starts; events = events ++ (a ∷ b ∷ []) })) none)
+        go true = both opened starts (events ++ (a ∷ b ∷ [])) agree long some-open
+        go false = neither
+    move (order x y) = go (orderFits events x y)
+      where
+        go : (t : Bool) → Moves (cond t (some (record { opened = opened; events = events })) none) (cond t (some (record { starts = starts; events = events })) none)
+        go true = both opened starts events agree long some-open
+        go false = neither
+    move block = both opened starts [] agree long some-open
+    move (call n) = go (ltb n sheets)
+      where
+        go : (t : Bool) → Moves (cond t (some (record { opened = opened; events = [] })) none) (cond t (some (record { starts = starts; events = [] })) none)
+        go true = both opened starts [] agree long some-open
+        go false = neither
+
+  -- a sheet is open exactly behind the first row
+  place-first : (r : Row) → eqb (length opened) 0 ≡ true → ltb 0 i ≡ false
+      → Moves (placed (record { opened = opened; events = events }) r) (stoodAt i (record { starts = starts; events = events }) r)
+  unfolding placed stoodAt isSheet
+  place-first (sheet n) e f = move-sheet n
+  place-first (message a b) e f = rw (e, f) neither
+  place-first (order x y) e f = rw (e, f) neither
+  place-first block e f = rw (e, f) neither
+  place-first (call n) e f = rw (e, f) neither
+
+  place-later : (r : Row) → eqb (length opened) 0 ≡ false → ltb 0 i ≡ true
+      → Moves (placed (record { opened = opened; events = events }) r) (stoodAt i (record { starts = starts; events = events }) r)
+  unfolding placed stoodAt
+  place-later r e f = rw (e, f, or-true (isSheet r)) (move (eqb-false (length opened) 0 e) r)
+
+  place : (r : Row) → eqb (length opened) 0 ≡ eqb i 0
+      → Moves (placed (record { opened = opened; events = events }) r) (stoodAt i (record { starts = starts; events = events }) r)
+  place r h = go (eqb i 0) refl
+    where
+      go : (t : Bool) → eqb i 0 ≡ t → Moves (placed (record { opened = opened; events = events }) r) (stoodAt i (record { starts = starts; events = events }) r)
+      go true e = place-first r (h ∙ e) (le-ltb 0 i (let k : i ≡ 0 = eqb-true i 0 e in omega arith))
+      go false e = place-later r (h ∙ e) (lt-ltb 0 i (let k : (i ≡ 0 → ⊥) = eqb-false i 0 e in omega arith))
+
+-- the rows of what the twin keeps
+rowsKept : Out Kept → Out (List Row)
+rowsKept (ok k) = ok (k .rows)
+rowsKept (refusal number line) = refusal number line
+
+-- a row judged by both: refused alike, or placed alike
+data Judges : Out (Row × Place) → Out (Row × Stand) → Type 0 where
+  refused : (number line : ℕ) → Judges (refusal number line) (refusal number line)
+  stands : (r : Row) (opened starts events : List ℕ) → Agree starts opened → length starts ≡ sheets → (length opened ≡ 0 → ⊥)
+      → Judges (ok (r, record { opened = opened; events = events })) (ok (r, record { starts = starts; events = events }))
+
+module _ (c : Columns) where
+  judge : (i : ℕ) (line : Line) (opened starts events : List ℕ) → Agree starts opened → length starts ≡ sheets → eqb (length opened) 0 ≡ eqb i 0
+      → Judges (judged c i (record { opened = opened; events = events }) line) (judgedBy c i (record { starts = starts; events = events }) line)
+  unfolding judged judgedBy
+  judge i line opened starts events h l z = form (cond (ltb i rowsMost) (rowOf c line) none)
+    where
+      stood : (r : Row) (p : Option Place) (q : Option Stand) → Moves p q
+          → Judges (elim p [ none ↦ refusal placeRefusal (lineOf i) | some x ↦ ok (r, x) ]) (elim q [ none ↦ refusal placeRefusal (lineOf i) | some x ↦ ok (r, x) ])
+      stood r none none neither = refused placeRefusal (lineOf i)
+      stood r (some x) (some y) (both o s e a b d) = stands r o s e a b d
+
+      form : (o : Option Row)
+          → Judges (elim o [ none ↦ refusal rowRefusal (lineOf i) | some r ↦ elim (placed (record { opened = opened; events = events }) r) [ none ↦ refusal placeRefusal (lineOf i) | some q ↦ ok (r, q) ] ])
+          (elim o [ none ↦ refusal rowRefusal (lineOf i) | some r ↦ elim (stoodAt i (record { starts = starts; events = events }) r) [ none ↦ refusal placeRefusal (lineOf i) | some q ↦ ok (r, q) ] ])
+      form none = refused rowRefusal (lineOf i)
+      form (some r) =
+          stood r (placed (record { opened = opened; events = events }) r) (stoodAt i (record { starts = starts; events = events }) r)
+          (place opened starts events i h l r z)
+
+  -- a row and what is behind it, in the model and in the twin
+  ahead-same : (r : Row) (o : Out Kept) (m : Out (List Row)) → m ≡ rowsKept o
+      → elim m [ refusal number line ↦ refusal number line | ok rs ↦ ok (r ∷ rs) ] ≡ rowsKept (aheadOf r o)
+  unfolding rowsKept aheadOf
+  ahead-same r (ok k) m e = rw e
+  ahead-same r (refusal number line) m e = rw e
+
+  rows-same : (ls : List Line) (i : ℕ) (opened starts events : List ℕ) → Agree starts opened → length starts ≡ sheets
+      → eqb (length opened) 0 ≡ eqb i 0
+      → rowsFrom c i (record { opened = opened; events = events }) ls ≡ rowsKept (readFrom c i (record { starts = starts; events = events }) ls)
+  unfolding rowsFrom readFrom rowsKept
+  rows-same [] i opened starts events h l z = refl
+  rows-same (line ∷ ls) i opened starts events h l z =
+      go (judged c i (record { opened = opened; events = events }) line) (judgedBy c i (record { starts = starts; events = events }) line)
+      (judge i line opened starts events h l z) refl refl (λ o s e. rows-same ls (suc i) o s e)
+    where
+      go : (x : Out (Row × Place)) (y : Out (Row × Stand)) → Judges x y
+          → judged c i (record { opened = opened; events = events }) line ≡ x → judgedBy c i (record { starts = starts; events = events }) line ≡ y
+          → ((o s e : List ℕ) → Agree s o → length s ≡ sheets → eqb (length o) 0 ≡ eqb (suc i) 0
+          → rowsFrom c (suc i) (record { opened = o; events = e }) ls ≡ rowsKept (readFrom c (suc i) (record { starts = s; events = e }) ls))
+          → rowsFrom c i (record { opened = opened; events = events }) (line ∷ ls)
+          ≡ rowsKept (readFrom c i (record { starts = starts; events = events }) (line ∷ ls))
+      go x y (refused number line′) e f rest = rw (e, f, rowsFrom, readFrom)
+      go x y (stands r o s v a b d) e f rest =
+          rw (e, f, rowsFrom, readFrom)
+          (ahead-same r (readFrom c (suc i) (record { starts = s; events = v }) ls) (rowsFrom c (suc i) (record { opened = o; events = v }) ls)
+          (rest o s v a b (ne-eqb (length o) 0 d ∙ sym (ne-eqb (suc i) 0 (λ q. omega arith)))))
+
+-- The table behind rows i, i + 1, ..: what it held before, and the start of each sheet that they open.
+startAfter : ℕ → List ℕ → List Row → ℕ → ℕ
+startAfter i starts rs n = cond (isOpen starts n) (getD starts n 0) (cond (among n (opens rs)) (i + startOf n rs) 0)
+
+Finals : ℕ → List ℕ → Out Kept → Type 0
+Finals i starts (ok k) = (length (k .starts) ≡ sheets) × ((n : ℕ) → getD (k .starts) n 0 ≡ startAfter i starts (k .rows) n)
+Finals i starts (refusal number line) = Unit {0}
+
+-- what a row does to the table
+data Tabled (i : ℕ) (starts : List ℕ) : Row → List ℕ → Type 0 where
+  opened : (n : ℕ) → n < length starts → isOpen starts n ≡ false → Tabled i starts (sheet n) (set starts n (i + 1))
+  kept : (r : Row) → isSheet r ≡ false → Tabled i starts r starts
+
+Stood : ℕ → List ℕ → Out (Row × Stand) → Type 0
+Stood i starts (ok rq) = Tabled i starts (rq .0) (rq .1 .starts) × (length (rq .1 .starts) ≡ sheets)
+Stood i starts (refusal number line) = Unit {0}
+
+module _ (i : ℕ) (starts events : List ℕ) (long : length starts ≡ sheets) where
+  Table : Row → Option Stand → Type 0
+  Table r none = Unit {0}
+  Table r (some q) = Tabled i starts r (q .starts) × (length (q .starts) ≡ sheets)
+
+  tabled : (r : Row) → Table r (movedTo i (record { starts = starts; events = events }) r)
+  unfolding movedTo mayOpen Table isSheet
+  tabled (sheet n) = go (ltb n sheets && not (isOpen starts n)) refl
+    where
+      go : (t : Bool) → (ltb n sheets && not (isOpen starts n)) ≡ t → Table (sheet n) (cond t (some (record { starts = set starts n (i + 1); events = [] })) none)
+      go true e =
+          let l : n < length starts = rw long (ltb-true n sheets (and-left (ltb n sheets) (not (isOpen starts n)) e)) in
+          (opened n l (not-true (isOpen starts n) (and-right (ltb n sheets) (not (isOpen starts n)) e)), length-set starts n (i + 1) ∙ long)
+      go false e = tt
+  tabled (message a b) = go (messageFits events a b)
+    where
+      go : (t : Bool) → Table (message a b) (cond t (some (record { starts = starts; events = events ++ (a ∷ b ∷ []) })) none)
+      go true = (kept (message a b) refl, long)
+      go false = tt
+  tabled (order x y) = go (orderFits events x y)
+    where
+      go : (t : Bool) → Table (order x y) (cond t (some (record { starts = starts; events = events })) none)
+      go true = (kept (order x y) refl, long)
+      go false = tt
+  tabled block = (kept block refl, long)
+  tabled (call n) = go (ltb n sheets)
+    where
+      go : (t : Bool) → Table (call n) (cond t (some (record { starts = starts; events = [] })) none)
+      go true = (kept (call n) refl, long)
+      go false = tt
+
+  tabled-stood : (r : Row) → Table r (stoodAt i (record { starts = starts; events = events }) r)
+  unfolding stoodAt Table
+  tabled-stood r = go (isSheet r || ltb 0 i) (movedTo i (record { starts = starts; events = events }) r) (tabled r)
+    where
+      go : (t : Bool) (q : Option Stand) → Table r q → Table r (cond t q none)
+      go true q h = h
+      go false q h = tt
+
+  tabled-judged : (c : Columns) (line : Line) → Stood i starts (judgedBy c i (record { starts = starts; events = events }) line)
+  unfolding judgedBy Table Stood
+  tabled-judged c line = form (cond (ltb i rowsMost) (rowOf c line) none)
+    where
+      stood : (r : Row) (q : Option Stand) → Table r q → Stood i starts (elim q [ none ↦ refusal placeRefusal (lineOf i) | some x ↦ ok (r, x) ])
+      stood r none h = tt
+      stood r (some q) h = h
+
+      form : (o : Option Row)
+          → Stood i starts (elim o [ none ↦ refusal rowRefusal (lineOf i) | some r ↦ elim (stoodAt i (record { starts = starts; events = events }) r) [ none ↦ refusal placeRefusal (lineOf i) | some q ↦ ok (r, q) ] ])
+      form none = tt
+      form (some r) = stood r (stoodAt i (record { starts = starts; events = events }) r) (tabled-stood r)
+
+start-here : (n : ℕ) (rs : List Row) → startOf n (sheet n ∷ rs) ≡ 1
+unfolding startOf
+start-here n rs = rw (eq-eqb n n refl, startOf)
+
+start-there : (m n : ℕ) (rs : List Row) → (m ≡ n → ⊥) → startOf m (sheet n ∷ rs) ≡ suc (startOf m rs)
+unfolding startOf
+start-there m n rs h = rw (ne-eqb n m (λ e. h (sym e)), startOf)
+
+after-same : (i : ℕ) (starts : List ℕ) (rs : List Row) (n : ℕ) → n < length starts → isOpen starts n ≡ false
+    → startAfter (suc i) (set starts n (i + 1)) rs n ≡ startAfter i starts (sheet n ∷ rs) n
+unfolding startAfter opens among
+after-same i starts rs n l h =
+    rw (open-set starts n i l, getD-set-same starts n (i + 1) 0 l, h, eq-eqb n n refl, start-here n rs)
+
+after-other : (i : ℕ) (starts : List ℕ) (rs : List Row) (m n : ℕ) → (m ≡ n → ⊥)
+    → startAfter (suc i) (set starts n (i + 1)) rs m ≡ startAfter i starts (sheet n ∷ rs) m
+unfolding startAfter opens among
+after-other i starts rs m n h =
+    let k : suc i + startOf m rs ≡ i + suc (startOf m rs) = omega arith in
+    rw (open-other starts n i m h, getD-set-other starts n m (i + 1) 0 h, ne-eqb m n h, start-there m n rs h, k)
+
+-- the table behind a row and those behind it
+module _ (i : ℕ) (starts : List ℕ) (rs : List Row) (m : ℕ) where
+  one-more : (x : ℕ) → suc i + x ≡ i + suc x
+  one-more x = omega arith
+
+  after-kept : (r : Row) → isSheet r ≡ false → startAfter (suc i) starts rs m ≡ startAfter i starts (r ∷ rs) m
+  unfolding startAfter opens startOf isSheet
+  after-kept (sheet n) e = not-both true refl e
+  after-kept (message a b) e = rw (one-more (startOf m rs))
+  after-kept (order x y) e = rw (one-more (startOf m rs))
+  after-kept block e = rw (one-more (startOf m rs))
+  after-kept (call n) e = rw (one-more (startOf m rs))
+
+  after-opened : (n : ℕ) → n < length starts → isOpen starts n ≡ false
+      → startAfter (suc i) (set starts n (i + 1)) rs m ≡ startAfter i starts (sheet n ∷ rs) m
+  after-opened n l h = go (eqb m n) refl
+    where
+      go : (t : Bool) → eqb m n ≡ t → startAfter (suc i) (set starts n (i + 1)) rs m ≡ startAfter i starts (sheet n ∷ rs) m
+      go true e =
+          subst (λ (x : ℕ). startAfter (suc i) (set starts n (i + 1)) rs x ≡ startAfter i starts (sheet n ∷ rs) x) (sym (eqb-true m n e))
+          (after-same i starts rs n l h)
+      go false e = after-other i starts rs m n (eqb-false m n e)
+
+finals-ahead : (i : ℕ) (starts starts′ : List ℕ) (r : Row) (o : Out Kept) → Tabled i starts r starts′ → Finals (suc i) starts′ o → Finals i starts (aheadOf r o)
+unfolding Finals aheadOf
+finals-ahead i starts starts′ r (refusal number line) t f = tt
+finals-ahead i starts starts′ r (ok k) (opened n l h) f = (f .0, λ m. f .1 m ∙ after-opened i starts (k .rows) m n l h)
+finals-ahead i starts starts′ r (ok k) (kept q h) f = (f .0, λ m. f .1 m ∙ after-kept i starts (k .rows) m q h)
+
+unopened : (starts : List ℕ) (n : ℕ) → isOpen starts n ≡ false → getD starts n 0 ≡ 0
+unfolding isOpen
+unopened starts n h = eqb-true (getD starts n 0) 0 (not-false (eqb (getD starts n 0) 0) h)
+
+nothing-more : (i : ℕ) (starts : List ℕ) (n : ℕ) → getD starts n 0 ≡ startAfter i starts [] n
+unfolding startAfter opens among
+nothing-more i starts n = go (isOpen starts n) refl
+  where
+    go : (t : Bool) → isOpen starts n ≡ t → getD starts n 0 ≡ cond t (getD starts n 0) 0
+    go true e = refl
+    go false e = unopened starts n e
+
+finals : (c : Columns) (ls : List Line) (i : ℕ) (starts events : List ℕ) → length starts ≡ sheets
+    → Finals i starts (readFrom c i (record { starts = starts; events = events }) ls)
+unfolding readFrom Finals Stood
+finals c [] i starts events l = (l, λ n. nothing-more i starts n)
+finals c (line ∷ ls) i starts events l =
+    go (judgedBy c i (record { starts = starts; events = events }) line) (tabled-judged i starts events l c line) refl
+    (λ s e. finals c ls (suc i) s e)
+  where
+    go : (x : Out (Row × Stand)) → Stood i starts x → judgedBy c i (record { starts = starts; events = events }) line ≡ x
+        → ((s e : List ℕ) → length s ≡ sheets → Finals (suc i) s (readFrom c (suc i) (record { starts = s; events = e }) ls))
+        → Finals i starts (readFrom c i (record { starts = starts; events = events }) (line ∷ ls))
+    go (refusal number line′) t e rest = rw (e, readFrom) tt
+    go (ok rq) t e rest =
+        rw (e, readFrom)
+        (finals-ahead i starts (rq .1 .starts) (rq .0) (readFrom c (suc i) (rq .1) ls) (t .0) (rest (rq .1 .starts) (rq .1 .events) (t .1)))
+
+-- the table of the whole file
+fresh-open : (n : ℕ) → isOpen (replicate sheets 0) n ≡ false
+unfolding isOpen
+fresh-open n = rw (zeros (ltb n sheets) refl)
+  where
+    zeros : (t : Bool) → ltb n sheets ≡ t → _≡_ {A = ℕ} (getD (replicate sheets 0) n 0) 0
+    zeros true e = getD-replicate {A = ℕ} sheets n 0 0 (ltb-true n sheets e)
+    zeros false e = List·getD-eq-default (replicate sheets 0) 0 {n = n} (rw (length-replicate {A = ℕ} sheets 0) (ltb-false n sheets e))
+
+starts-at : (rs : List Row) (n : ℕ) → startAfter 0 (replicate sheets 0) rs n ≡ startIn rs n
+unfolding startAfter startIn
+starts-at rs n = rw (fresh-open n, zero-add (startOf n rs))
+
+module _ (k : Kept) (f : Finals 0 (replicate sheets 0) (ok k)) where
+  long : length (k .starts) ≡ sheets
+  unfolding Finals
+  long = f .0
+
+  start-is : (n : ℕ) → getD (k .starts) n 0 ≡ startIn (k .rows) n
+  unfolding Finals
+  start-is n = f .1 n ∙ starts-at (k .rows) n
+
+  starts-of : k .starts ≡ startsOf (k .rows)
+  starts-of =
+      ext-getD 0 (k .starts) (startsOf (k .rows)) (long ∙ sym (cells-length sheets (startIn (k .rows))))
+      (λ i h. start-is i ∙ sym (start-at (k .rows) i (rw long at h)))
+
+  some-start : (rs : List Row) (n : ℕ) → among n (opens rs) ≡ true → startOf n rs ≡ 0 → ⊥
+  unfolding among opens startOf
+  some-start [] n h e = not-both false h refl
+  some-start (sheet m ∷ rs) n h e = go (eqb m n) e
+    where
+      go : (t : Bool) → _≡_ {A = ℕ} (elim t [ true ↦ 1 | false ↦ suc (startOf n rs) ]) 0 → ⊥
+      go true z = omega arith
+      go false z = omega arith
+  some-start (message a b ∷ rs) n h e = omega arith
+  some-start (order x y ∷ rs) n h e = omega arith
+  some-start (block ∷ rs) n h e = omega arith
+  some-start (call m ∷ rs) n h e = omega arith
+
+  open-is : (n : ℕ) → isOpen (k .starts) n ≡ among n (opens (k .rows))
+  unfolding isOpen startIn
+  open-is n = rw (start-is n) (go (among n (opens (k .rows))) refl)
+    where
+      go : (t : Bool) → among n (opens (k .rows)) ≡ t → not (eqb (cond t (startOf n (k .rows)) 0) 0) ≡ t
+      go true e = rw (ne-eqb (startOf n (k .rows)) 0 (some-start (k .rows) n e))
+      go false e = refl
+
+stray-same : (starts present : List ℕ) → ((n : ℕ) → isOpen starts n ≡ among n present) → (rs : List Row) (i : ℕ)
+    → strayCall present i rs ≡ strayFrom starts i rs
+unfolding strayCall strayFrom
+stray-same starts present h [] i = refl
+stray-same starts present h (sheet n ∷ rs) i = stray-same starts present h rs (suc i)
+stray-same starts present h (message a b ∷ rs) i = stray-same starts present h rs (suc i)
+stray-same starts present h (order x y ∷ rs) i = stray-same starts present h rs (suc i)
+stray-same starts present h (block ∷ rs) i = stray-same starts present h rs (suc i)
+stray-same starts present h (call n ∷ rs) i = rw (h n, stray-same starts present h rs (suc i))
+
+complete-same : (k : Kept) → Finals 0 (replicate sheets 0) (ok k) → complete (k .rows) ≡ completed k
+unfolding complete completed
+complete-same k f =
+    rw (← open-is k f 0, stray-same (k .starts) (opens (k .rows)) (open-is k f) (k .rows) 0)
+
+empty : (n : ℕ) → false ≡ among n []
+unfolding among
+empty n = refl
+
+-- the twin's reading is the model's
+pub read-same : (c : Columns) (ls : List Line) → andThen (rowsFrom c 0 outside ls) complete ≡ andThen (readFrom c 0 fresh ls) completed
+unfolding andThen rowsKept
+read-same c ls =
+    ap (λ (o : Out (List Row)). andThen o complete)
+    (rows-same c ls 0 [] (replicate sheets 0) [] (λ n. fresh-open n ∙ empty n) (length-replicate {A = ℕ} sheets 0) refl)
+    ∙ go (readFrom c 0 fresh ls) (finals c ls 0 (replicate sheets 0) [] (length-replicate {A = ℕ} sheets 0))
+  where
+    go : (o : Out Kept) → Finals 0 (replicate sheets 0) o → andThen (rowsKept o) complete ≡ andThen o completed
+    go (ok k) f = complete-same k f
+    go (refusal number line) f = refl
+
+-- and where it has rows, its table has their starts
+pub starts-same : (c : Columns) (ls : List Line) (k : Kept) → readFrom c 0 fresh ls ≡ ok k → k .starts ≡ startsOf (k .rows)
+starts-same c ls k e =
+    starts-of k (subst (λ (o : Out Kept). Finals 0 (replicate sheets 0) o) e (finals c ls 0 (replicate sheets 0) [] (length-replicate {A = ℕ} sheets 0)))

@@ -1,0 +1,179 @@
+// A line's three fields, where they stand in the text, and the numbers that they hold.
+use crate::limits::NUMBER_MOST;
+ghost use mathlib.Core.Path.{_≡_};
+ghost use Prim.Native.Nat.{_≤_, _<_};
+ghost use lib.ListN.{length, drop};
+ghost use lib.Seq.{slice};
+ghost use Rattle.model.specs.Bounded.{same};
+ghost use Rattle.model.specs.Text.{numberOf};
+ghost use Rattle.sheet.specs.Scan.{beginsWith, numeral};
+ghost use Rattle.sheet.specs.Fields.{FieldEnd, InText, bytesOf, spanOf, SplitAs, numberFrom};
+
+// Byte 10 ends a line, and byte 32 stands between two fields.
+pub const LINE_END: u8 = 10;
+
+pub const SPACE: u8 = 32;
+
+// A field: the bytes from `from` up to `to`.
+pub struct Span {
+    pub from: usize,
+    pub to: usize,
+}
+
+// A line of three fields, from `at`: the places of its two spaces and of its end.
+pub struct Cuts {
+    pub at: usize,
+    pub first: usize,
+    pub second: usize,
+    pub end: usize,
+}
+
+pub enum Split {
+    Three(Cuts),
+    Other,
+}
+
+pub enum Number {
+    Is(u8),
+    Bad,
+}
+
+// Where the field that begins at `at` ends: at a space, a line end, or the end of the text.
+pub fn field_end(text: &[u8], at: usize) -> usize
+    requires { ⌜ at ≤ length (now text) ⌝ }
+    ensures { λ r. ⌜ FieldEnd (now (text .entry)) at r ⌝ }
+{
+    let mut i = at;
+    while i < text.len() {
+        let b = text[i];
+        if b == SPACE {
+            return i;
+        }
+        if b == LINE_END {
+            return i;
+        }
+        i += 1;
+    }
+    i
+}
+
+// The line that begins at `at`, if it has its end and three fields.
+pub fn cut(text: &[u8], at: usize) -> Split
+    requires { ⌜ at ≤ length (now text) ⌝ }
+    ensures { λ r. ⌜ SplitAs (now (text .entry)) at r ⌝ }
+{
+    let first = field_end(text, at);
+    if !is_byte(text, first, SPACE) {
+        return Split::Other;
+    }
+    let second = field_end(text, first + 1);
+    if !is_byte(text, second, SPACE) {
+        return Split::Other;
+    }
+    let end = field_end(text, second + 1);
+    if !is_byte(text, end, LINE_END) {
+        return Split::Other;
+    }
+    Split::Three(Cuts {
+        at,
+        first,
+        second,
+        end,
+    })
+}
+
+// The byte at `at` is there, and is `b`.
+pub fn is_byte(text: &[u8], at: usize, b: u8) -> bool
+    ensures { λ r. ⌜ r ≡ beginsWith b (drop at (now (text .entry))) ⌝ }
+{
+    if at < text.len() {
+        text[at] == b
+    } else {
+        false
+    }
+}
+
+// The field with the number `place`, from 0, of the three.
+pub fn field(cuts: Cuts, place: usize) -> Span
+    requires { ⌜ (cuts .first < cuts .second) × (cuts .second < cuts .end) ⌝ }
+    ensures { λ r. ⌜ r ≡ spanOf cuts place ⌝ }
+{
+    if place == 0 {
+        return Span {
+            from: cuts.at,
+            to: cuts.first,
+        };
+    }
+    if place == 1 {
+        return Span {
+            from: cuts.first + 1,
+            to: cuts.second,
+        };
+    }
+    Span {
+        from: cuts.second + 1,
+        to: cuts.end,
+    }
+}
+
+// The number that a field holds: decimal, without leading zeros.
+pub fn number_in(text: &[u8], span: Span) -> Number
+    requires { ⌜ InText (now text) span ⌝ }
+    ensures { λ r. ⌜ numberFrom r ≡ numberOf (bytesOf (now (text .entry)) span) ⌝ }
+{
+    let from = span.from;
+    let to = span.to;
+    if from == to {
+        return Number::Bad;
+    }
+    if text[from] == b'0' {
+        if from + 1 < to {
+            return Number::Bad;
+        }
+    }
+    digits(text, from, to)
+}
+
+// The value of the digits from `from` up to `to`.
+pub fn digits(text: &[u8], from: usize, to: usize) -> Number
+    requires { ⌜ (from ≤ to) × (to ≤ length (now text)) ⌝ }
+    ensures { λ r. ⌜ numberFrom r ≡ numeral 0 (slice from to (now (text .entry))) ⌝ }
+{
+    let mut value: u32 = 0;
+    let mut i = from;
+    while i < to {
+        let b = text[i];
+        if b < 48 {
+            return Number::Bad;
+        }
+        if 57 < b {
+            return Number::Bad;
+        }
+        value = value * 10 + (b - 48) as u32;
+        if NUMBER_MOST < value {
+            return Number::Bad;
+        }
+        i += 1;
+    }
+    Number::Is(value as u8)
+}
+
+// A field is the given name.
+pub fn is_name(text: &[u8], span: Span, name: &[u8]) -> bool
+    requires { ⌜ InText (now text) span ⌝ }
+    ensures { λ r. ⌜ r ≡ same (now (name .entry)) (bytesOf (now (text .entry)) span) ⌝ }
+{
+    let from = span.from;
+    let to = span.to;
+    if to - from != name.len() {
+        return false;
+    }
+    let mut i = 0;
+    while i < name.len() {
+        if name[i] != text[from + i] {
+            return false;
+        }
+        i += 1;
+    }
+    true
+}

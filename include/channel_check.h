@@ -1,0 +1,50 @@
+/* channel_check.h: the proved channel check, for C.
+ *
+ * Link libchannel_check.a (`rt staticlib channel_check` writes it, for x86-64). The library uses no heap, no global state and
+ * no function of the C library but memcpy and memset.
+ */
+#ifndef CHANNEL_CHECK_H
+#define CHANNEL_CHECK_H
+
+#include <stddef.h>
+#include <stdint.h>
+
+#ifdef __cplusplus
+extern "C" {
+#endif
+
+/* The least lengths of the two buffers lent. A shorter one is refusal 2. */
+#define CHANNEL_CHECK_SCRATCH_WORDS 2048
+#define CHANNEL_CHECK_TRACE_BYTES 768
+
+/* word: 0 free, 1 locked, 2 refused.
+ * free:    one, two and three are 0.
+ * locked:  one is the race's message, two its event (message m has the send 2m and the receive 2m + 1), three the number of
+ *          steps in the trace.
+ * refused: one is the refusal's number, 1 to 11; two its line, 0 where the table gives none; three is 0. */
+typedef struct {
+    uint32_t word, one, two, three;
+} channel_check_answer;
+
+/* Says whether some timing that the channel allows can stop the boards of a message sheet.
+ *
+ * text, text_len        the sheet file's bytes; only read. Any bytes and any length are taken.
+ * code                  the channel, 0 to 5. Any number is taken; one above 5 is refusal 1.
+ * scratch, scratch_len  64-bit words, aligned as uint64_t, to work in. Their contents do not matter.
+ *                       After refusals 1 and 2 they are untouched. After every other call the first 2,048 are zero and the
+ *                       rest unchanged.
+ * trace, trace_len      bytes for the steps. They change only where the answer is locked, and then only the first
+ *                       2 * three of them: two for each step, 0 send, 1 deliver, 2 consume, and then the message.
+ *
+ * The three buffers do not overlap. A pointer is valid for its length; with length 0 any pointer but NULL is taken.
+ * The function always returns, stays inside the buffers, keeps nothing between calls, and may be called from several threads
+ * at a time with buffers of their own.
+ */
+channel_check_answer channel_check(const uint8_t *text, size_t text_len, uint32_t code, uint64_t *scratch, size_t scratch_len,
+                                   uint8_t *trace, size_t trace_len);
+
+#ifdef __cplusplus
+}
+#endif
+
+#endif

@@ -1,0 +1,370 @@
+//! The paper, written plainly and slowly in Rust, with nothing of crates/ in it: the reader, the expansion, the causal order,
+//! the races, the step rules and the schedule. The differential test holds the proved check to it.
+
+use std::collections::BTreeSet;
+
+#[derive(Clone, Copy, PartialEq, Eq, Debug)]
+pub enum Row {
+    Sheet(usize),
+    Message(usize, usize),
+    Order(usize, usize),
+    Block,
+    Call(usize),
+}
+
+/// A refusal: its number and its line.
+pub type Refusal = (u32, u32);
+
+#[derive(Clone, PartialEq, Eq, Debug)]
+pub enum Answer {
+    Free,
+    Locked { e: usize, x: usize, steps: Vec<Step> },
+    Refused(Refusal),
+}
+
+#[derive(Clone, Copy, PartialEq, Eq, Debug)]
+pub enum Step {
+    Send(usize),
+    Deliver(usize),
+    Consume(usize),
+}
+
+pub const TRACE_LEAST: usize = 768;
+pub const SCRATCH_LEAST: usize = 2048;
+
+// ---------------------------------------------------------------- the sheet file
+
+fn number(field: &[u8]) -> Option<usize> {
+    if field.is_empty() || !field.iter().all(|b| b.is_ascii_digit()) || (field.len() > 1 && field[0] == b'0') {
+        return None;
+    }
+    if field.len() > 3 {
+        return None;
+    }
+    let value = field.iter().fold(0usize, |n, b| n * 10 + usize::from(b - b'0'));
+    (value <= 255).then_some(value)
+}
+
+/// The lines without their ends, and whether each has its end.
+fn lines(text: &[u8]) -> Vec<(&[u8], bool)> {
+    let mut out = Vec::new();
+    let mut from = 0;
+    for (i, b) in text.iter().enumerate() {
+        if *b == 10 {
+            out.push((&text[from..i], true));
+            from = i + 1;
+        }
+    }
+    if from < text.len() {
+        out.push((&text[from..], false));
+    }
+    out
+}
+
+fn heading(line: (&[u8], bool)) -> Option<[usize; 3]> {
+    if !line.1 {
+        return None;
+    }
+    let fields: Vec<&[u8]> = line.0.split(|b| *b == 32).collect();
+    if fields.len() != 3 {
+        return None;
+    }
+    let at = |name: &[u8]| fields.iter().position(|f| *f == name);
+    Some([at(b"kind")?, at(b"one")?, at(b"two")?])
+}
+
+fn row(columns: [usize; 3], line: (&[u8], bool)) -> Option<Row> {
+    if !line.1 {
+        return None;
+    }
+    let fields: Vec<&[u8]> = line.0.split(|b| *b == 32).collect();
+    if fields.len() != 3 || fields[columns[0]].len() != 1 {
+        return None;
+    }
+    let (one, two) = (number(fields[columns[1]])?, number(fields[columns[2]])?);
+    match (fields[columns[0]][0], one, two) {
+        (b'S', n, 0) => Some(Row::Sheet(n)),
+        (b'M', a, b) => Some(Row::Message(a, b)),
+        (b'P', x, y) => Some(Row::Order(x, y)),
+        (b'B', 0, 0) => Some(Row::Block),
+        (b'C', n, 0) => Some(Row::Call(n)),
+        _ => None,
+    }
+}
+
+pub fn read(text: &[u8]) -> Result<Vec<Row>, Refusal> {
+    if text.is_empty() || text.len() > 8192 {
+        return Err((3, 0));
+    }
+    let lines = lines(text);
+    let Some(columns) = heading(lines[0]) else { return Err((4, 1)) };
+    let mut rows = Vec::new();
+    let mut opened = BTreeSet::new();
+    let mut open: Vec<(usize, usize)> = Vec::new();
+    for (i, line) in lines[1..].iter().enumerate() {
+        let at = i as u32 + 2;
+        let Some(r) = row(columns, *line) else { return Err((5, at)) };
+        if i >= 512 {
+            return Err((5, at));
+        }
+        let board = |x: usize| if x % 2 == 0 { open[x / 2].0 } else { open[x / 2].1 };
+        let placed = match r {
+            Row::Sheet(n) => n <= 31 && opened.insert(n),
+            _ if opened.is_empty() => false,
+            Row::Message(a, b) => a <= 15 && b <= 15 && open.len() < 128,
+            Row::Order(x, y) => x / 2 < open.len() && y / 2 < open.len() && x != y && board(x) == board(y),
+            Row::Block => true,
+            Row::Call(n) => n <= 31,
+        };
+        if !placed {
+            return Err((6, at));
+        }
+        match r {
+            Row::Message(a, b) => open.push((a, b)),
+            Row::Order(..) => {}
+            _ => open.clear(),
+        }
+        rows.push(r);
+    }
+    if !opened.contains(&0) {
+        return Err((7, 0));
+    }
+    for (i, r) in rows.iter().enumerate() {
+        if let Row::Call(n) = r {
+            if !opened.contains(n) {
+                return Err((7, i as u32 + 2));
+            }
+        }
+    }
+    Ok(rows)
+}
+
+// ---------------------------------------------------------------- expansion
+
+#[derive(Default)]
+struct Walk {
+    calls: usize,
+    block: usize,
+    /// source, target and block of each message
+    messages: Vec<(usize, usize, usize)>,
+    orders: BTreeSet<(usize, usize)>,
+}
+
+fn walk(rows: &[Row], sheet: usize, level: usize, w: &mut Walk) -> Result<(), Refusal> {
+    let start = rows.iter().position(|r| *r == Row::Sheet(sheet)).unwrap() + 1;
+    let mut first = w.messages.len();
+    for (i, r) in rows.iter().enumerate().skip(start) {
+        let line = i as u32 + 2;
+        match *r {
+            Row::Sheet(_) => break,
+            Row::Message(a, b) => {
+                if w.messages.len() == 128 {
+                    return Err((10, line));
+                }
+                w.messages.push((a, b, w.block));
+            }
+            Row::Order(x, y) => {
+                w.orders.insert((2 * first + x, 2 * first + y));
+            }
+            Row::Block => {
+                w.block += 1;
+                first = w.messages.len();
+            }
+            Row::Call(n) => {
+                if level == 8 {
+                    return Err((8, line));
+                }
+                if w.calls == 1024 {
+                    return Err((9, line));
+                }
+                w.calls += 1;
+                w.block += 1;
+                walk(rows, n, level + 1, w)?;
+                w.block += 1;
+                first = w.messages.len();
+            }
+        }
+    }
+    Ok(())
+}
+
+pub struct Scenario {
+    pub messages: Vec<(usize, usize)>,
+    /// before[x][y]: event x is before event y
+    pub before: Vec<Vec<bool>>,
+}
+
+pub fn expand(rows: &[Row]) -> Result<Scenario, Refusal> {
+    let mut w = Walk::default();
+    walk(rows, 0, 0, &mut w)?;
+    let n = 2 * w.messages.len();
+    let board = |x: usize| if x % 2 == 0 { w.messages[x / 2].0 } else { w.messages[x / 2].1 };
+    let mut before = vec![vec![false; n]; n];
+    for x in 0..n {
+        for y in 0..n {
+            before[x][y] = w.orders.contains(&(x, y))
+                || (x % 2 == 0 && y == x + 1)
+                || (board(x) == board(y) && w.messages[x / 2].2 < w.messages[y / 2].2);
+        }
+    }
+    for k in 0..n {
+        let through = before[k].clone();
+        for x in 0..n {
+            if before[x][k] {
+                for y in 0..n {
+                    before[x][y] |= through[y];
+                }
+            }
+        }
+    }
+    if (0..n).any(|x| before[x][x]) {
+        return Err((11, 0));
+    }
+    let messages = w.messages.iter().map(|m| (m.0, m.1)).collect();
+    Ok(Scenario { messages, before })
+}
+
+impl Scenario {
+    pub fn board(&self, x: usize) -> usize {
+        let m = self.messages[x / 2];
+        if x % 2 == 0 { m.0 } else { m.1 }
+    }
+
+    fn at_or_before(&self, x: usize, y: usize) -> bool {
+        x == y || self.before[x][y]
+    }
+
+    fn is_race(&self, code: u32, e: usize, x: usize) -> bool {
+        let origin = if x % 2 == 0 { x } else { x - 1 };
+        self.board(x) == self.messages[e].1
+            && self.before[x][2 * e + 1]
+            && match code {
+                0 => !self.at_or_before(x, 2 * e),
+                2 | 4 | 5 => !self.at_or_before(origin, 2 * e),
+                _ => false,
+            }
+    }
+}
+
+// ---------------------------------------------------------------- steps of a run
+
+#[derive(Clone)]
+pub struct State {
+    pub done: Vec<bool>,
+    pub under_way: BTreeSet<usize>,
+    pub buffers: Vec<BTreeSet<usize>>,
+}
+
+impl State {
+    pub fn start(s: &Scenario) -> State {
+        State { done: vec![false; 2 * s.messages.len()], under_way: BTreeSet::new(), buffers: vec![BTreeSet::new(); 16] }
+    }
+
+    fn ready(&self, s: &Scenario, x: usize) -> bool {
+        !self.done[x] && (0..self.done.len()).all(|y| !(s.before[y][x] && s.board(y) == s.board(x)) || self.done[y])
+    }
+
+    pub fn allowed(&self, s: &Scenario, code: u32, step: Step) -> bool {
+        let eager = code != 1 && code != 3;
+        match step {
+            Step::Send(m) => {
+                m < s.messages.len()
+                    && self.ready(s, 2 * m)
+                    && (!eager || self.buffers[s.messages[m].0].is_empty())
+                    && match code {
+                        4 => !self.under_way.iter().any(|f| s.before[2 * f][2 * m + 1]),
+                        5 => self.under_way.is_empty(),
+                        _ => true,
+                    }
+            }
+            Step::Deliver(m) => {
+                let to = |f: usize| s.messages[f].1;
+                self.under_way.contains(&m)
+                    && (!eager || self.buffers[to(m)].is_empty())
+                    && match code {
+                        2 | 3 => !self.under_way.iter().any(|f| *f != m && to(*f) == to(m) && s.before[2 * f][2 * m]),
+                        5 => self.under_way.len() == 1,
+                        _ => true,
+                    }
+            }
+            Step::Consume(m) => m < s.messages.len() && self.buffers[s.messages[m].1].contains(&m) && self.ready(s, 2 * m + 1),
+        }
+    }
+
+    pub fn take(&mut self, s: &Scenario, step: Step) {
+        match step {
+            Step::Send(m) => {
+                self.done[2 * m] = true;
+                self.under_way.insert(m);
+            }
+            Step::Deliver(m) => {
+                self.under_way.remove(&m);
+                self.buffers[s.messages[m].1].insert(m);
+            }
+            Step::Consume(m) => {
+                self.buffers[s.messages[m].1].remove(&m);
+                self.done[2 * m + 1] = true;
+            }
+        }
+    }
+
+    pub fn finished(&self) -> bool {
+        self.done.iter().all(|d| *d)
+    }
+
+    pub fn steps(&self, s: &Scenario, code: u32) -> Vec<Step> {
+        let n = s.messages.len();
+        let all = (0..n).flat_map(|m| [Step::Send(m), Step::Deliver(m), Step::Consume(m)]);
+        all.filter(|t| self.allowed(s, code, *t)).collect()
+    }
+}
+
+pub fn schedule(s: &Scenario, code: u32, e: usize) -> Vec<Step> {
+    let n = s.messages.len();
+    let mut state = State::start(s);
+    let mut out = Vec::new();
+    loop {
+        let may = |t: &Step| state.allowed(s, code, *t);
+        let next = (0..n)
+            .map(Step::Consume)
+            .find(may)
+            .or_else(|| Some(Step::Deliver(e)).filter(may))
+            .or_else(|| (0..n).filter(|m| s.before[2 * m + 1][2 * e]).map(Step::Deliver).find(may))
+            .or_else(|| (0..n).filter(|m| s.at_or_before(2 * m, 2 * e)).map(Step::Send).find(may))
+            .or_else(|| (0..n).map(Step::Deliver).find(may))
+            .or_else(|| (0..n).map(Step::Send).find(may));
+        let Some(step) = next else { return out };
+        state.take(s, step);
+        out.push(step);
+    }
+}
+
+// ---------------------------------------------------------------- the answer
+
+pub fn sheet(text: &[u8]) -> Result<Scenario, Refusal> {
+    expand(&read(text)?)
+}
+
+pub fn verdict(s: &Scenario, code: u32) -> Answer {
+    for e in 0..s.messages.len() {
+        for x in 0..2 * s.messages.len() {
+            if s.is_race(code, e, x) {
+                return Answer::Locked { e, x, steps: schedule(s, code, e) };
+            }
+        }
+    }
+    Answer::Free
+}
+
+pub fn answer(sheet: &Result<Scenario, Refusal>, code: u32, scratch: usize, trace: usize) -> Answer {
+    if code > 5 {
+        return Answer::Refused((1, 0));
+    }
+    if scratch < SCRATCH_LEAST || trace < TRACE_LEAST {
+        return Answer::Refused((2, 0));
+    }
+    match sheet {
+        Err(refusal) => Answer::Refused(*refusal),
+        Ok(s) => verdict(s, code),
+    }
+}

@@ -6,7 +6,7 @@ use mathlib.Core.List.{List, _∷_}
 use lib.ListN.{length, getD, take, length-take}
 use lib.Seq.{getD-take}
 use Rattle.model.specs.Rows.{Row}
-use Rattle.expansion.specs.Bridge.{rowFrom, rowsAt, rowsOf, startsOf}
+use Rattle.sheet.specs.Bridge.{rowFrom, rowsAt, rowsOf, startsOf}
 use Rattle.expansion.specs.Lent.{AreRead, RowsRead}
 
 rows-alike : (kind kind′ one two : List ℕ) (i n : ℕ) → ((j : ℕ) → j < i + n → getD kind j 0 ≡ getD kind′ j 0)

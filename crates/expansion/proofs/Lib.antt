@@ -7,6 +7,7 @@ mod Twin
 mod Scenarios
 mod Turns
 mod Parts
-mod Reading
+pub mod Reading
+mod Cut
 mod Walking
 mod Whole

@@ -8,8 +8,6 @@ use mathlib.Core.Bool.{Bool, true, false, cond}
 use mathlib.Core.List.{List, [], _∷_}
 use lib.Dec.{eqb}
 use lib.ListN.{length, getD, set, length-set}
-use mir.Syntax.{w64}
-use mir.Val.{Fits}
 use borrow.Author.Tests.{eq-eqb, ne-eqb, lt-ltb, le-ltb}
 use Rattle.model.specs.Limits.{boards, messagesMost, callsMost}
 use Rattle.model.specs.Refusal.{Out, ok, refusal, depthRefusal, callsRefusal, messagesRefusal}
@@ -125,14 +123,6 @@ module _ (letter one two : ℕ) where
   order-asks first count h e a =
       let p : (one < 2 * (count - first)) × (two < 2 * (count - first)) = subst (Stands (2 * (count - first))) (row-is-order e) a in
       (omega (arith, p .0), omega (arith, p .1))
-
-  -- so the events of a P row are numbers that fit
-  module _ (first count : ℕ) (t : Store) (e : letter ≡ 80) (a : Stands (2 * (count - first)) (rowFrom letter one two)) (r : Room first count t) where
-    pub first-fits : Fits w64 (2 * first + one)
-    first-fits = record { fits = omega (arith, order-asks first count (r .firstMost) e a .0, r .countMost) }
-
-    pub second-fits : Fits w64 (2 * first + two)
-    second-fits = record { fits = omega (arith, order-asks first count (r .firstMost) e a .1, r .countMost) }
 
   module _ (w : Walk) (line : ℕ) where
     pub row-refused : (t t′ : Store) → letter ≡ 77 → messagesMost ≤ w .count

@@ -2,7 +2,7 @@
 use Prim.Native.Nat.{ℕ, _-_, _*_}
 use native.Mathlib.Omega.{arith}
 use mathlib.Core.Path.{_≡_, refl, sym, _∙_, ap, subst}
-use mathlib.Core.Bool.{Bool, true, false}
+use mathlib.Core.Bool.{Bool, true, false, cond}
 use mathlib.Core.List.{List}
 use lib.ListN.{length, getD, drop, replicate}
 use Rattle.model.specs.Limits.{boards, messagesMost, levels}
@@ -19,7 +19,10 @@ use Rattle.expansion.specs.Store.{Store, zeros, freshStore, storeOps}
 use Rattle.sheet.specs.Bridge.{rowsOf}
 use Rattle.expansion.specs.Lent.{rowsFrom, RowsRead}
 use Rattle.expansion.specs.Room.{storeOf}
+use Rattle.expansion.specs.Outcome.{outcomeOf, concludedAs}
 use Rattle.expansion.specs.Parts.{fresh, stateOf, Leaves, rowsWalked, AllStand, Ready}
+use Rattle.expansion.specs.declared.Expanded.{Expanded}
+use Rattle.expansion.specs.declared.Expanded.the-variants.{Messages, Refused}
 use Rattle.expansion.specs.declared.Walk.{Walk}
 use Rattle.expansion.specs.declared.Walked.the-variants.{Going, Stopped}
 use Rattle.expansion.proofs.Sim.{zeros-length, zeros-at}
@@ -39,6 +42,14 @@ pub cleared-all : (events words words₀ : List ℕ) → events ≡ zeros (2 * m
 unfolding zeros
 cleared-all events words words₀ e f l =
     record { eventsZero = e; wordsZero = f ∙ cleared-zeros (2 * messagesMost * width) words₀ l; pastZero = refl }
+
+-- the circle test, by what the code's branch learned
+module _ (words : List ℕ) (count : ℕ) (r : Bool) (test : r ≡ anyOwn width words (2 * count)) where
+  pub circle-found : r ≡ true → Refused circleRefusal 0 ≡ concludedAs (anyOwn width words (2 * count)) count
+  circle-found e = rw (sym test ∙ e)
+
+  pub circle-none : r ≡ false → Messages count ≡ concludedAs (anyOwn width words (2 * count)) count
+  circle-none e = rw (sym test ∙ e)
 
 module _ (kind one two : List ℕ) (count : ℕ) (start : List ℕ) (lent : RowsRead kind one two count start) (events words past : List ℕ)
     (z : Cleared events words past) (w : Walk) (begins : w ≡ fresh) where
@@ -90,12 +101,17 @@ module _ (kind one two : List ℕ) (count : ℕ) (start : List ℕ) (lent : Rows
   unfolding andThen
   answer-stopped number line t l = answer (refusal number line) (l .exact)
 
-  module _ (v : Walk) (events′ words′ past′ : List ℕ) (l : Leaves (Going v) (storeOf events′ words′ past′) walked) (r : Bool)
-      (test : r ≡ anyOwn width words′ (2 * v .count)) where
-    pub answer-circle : r ≡ true → refusal circleRefusal 0 ≡ expandedOf file
-    unfolding andThen
-    answer-circle e = rw (sym test ∙ e) at (answer (ok (stateOf v (storeOf events′ words′ past′))) (l .exact))
-
-    pub answer-messages : r ≡ false → ok (scenarioIn (v .count) events′ words′) ≡ expandedOf file
-    unfolding andThen
-    answer-messages e = rw (sym test ∙ e) at (answer (ok (stateOf v (storeOf events′ words′ past′))) (l .exact))
+  pub answer-going : (v : Walk) (events′ words′ past′ : List ℕ) → Leaves (Going v) (storeOf events′ words′ past′) walked
+      → (r : Expanded)
+      → r ≡ concludedAs (anyOwn width words′ (2 * v .count)) (v .count)
+      → outcomeOf r events′ words′ ≡ expandedOf file
+  unfolding andThen
+  answer-going v events′ words′ past′ l r e =
+      ap (λ (x : Expanded). outcomeOf x events′ words′) e
+      ∙ by-test (anyOwn width words′ (2 * v .count))
+      ∙ answer (ok (stateOf v (storeOf events′ words′ past′))) (l .exact)
+    where
+      by-test : (t : Bool) → outcomeOf (concludedAs t (v .count)) events′ words′
+          ≡ cond t (refusal circleRefusal 0) (ok (scenarioIn (v .count) events′ words′))
+      by-test true = refl
+      by-test false = refl

@@ -1,8 +1,9 @@
 -- What the answer says: the scenario that boards and words hold, or the refusal's number and line.
 -- Assumes nothing.
 use Prim.Native.Nat.{ℕ}
+use mathlib.Core.Bool.{Bool, true, false}
 use mathlib.Core.List.{List}
-use Rattle.model.specs.Refusal.{Out, ok, refusal}
+use Rattle.model.specs.Refusal.{Out, ok, refusal, circleRefusal}
 use Rattle.model.specs.Order.{Scenario}
 use Rattle.relation.specs.Scenario.{scenarioIn}
 use Rattle.expansion.specs.declared.Expanded.{Expanded}
@@ -11,3 +12,8 @@ use Rattle.expansion.specs.declared.Expanded.the-variants.{Messages, Ref
 abbrev pub outcomeOf : Expanded → List ℕ → List ℕ → Out Scenario
 outcomeOf (Messages count) events words = ok (scenarioIn count events words)
 outcomeOf (Refused number line) events words = refusal number line
+
+-- the answer for a walk that is over, by whether an event is before itself (refusal 11)
+abbrev pub concludedAs : Bool → ℕ → Expanded
+concludedAs true count = Refused circleRefusal 0
+concludedAs false count = Messages count

@@ -1,16 +1,18 @@
 // The expansion of calls: rows in; the messages that the walk meets and their causal order in words, or refusal 8 to 11, out.
 use relation::WIDTH;
 ghost use mathlib.Core.Path.{_≡_};
-ghost use Prim.Native.Nat.{_-_, _*_, _<_};
+ghost use Prim.Native.Nat.{_-_, _*_, _<_, _≤_};
 ghost use lib.ListN.{length};
-ghost use Rattle.model.specs.Limits.{boards as boardsMost, messagesMost};
+ghost use Rattle.model.specs.Limits.{boards as boardsMost, messagesMost, rowsMost};
+ghost use Rattle.model.specs.Place.{lineOf};
 ghost use Rattle.model.specs.Answer.{expandedOf};
 ghost use Rattle.relation.specs.Width.{width};
+ghost use Rattle.relation.specs.Rows.{anyOwn};
 ghost use Rattle.expansion.specs.Store.{zeros, seated, added, passed};
 ghost use Rattle.sheet.specs.Bridge.{rowFrom, rowsOf};
 ghost use Rattle.expansion.specs.Lent.{RowsRead};
 ghost use Rattle.expansion.specs.Room.{storeOf, Room};
-ghost use Rattle.expansion.specs.Outcome.{outcomeOf};
+ghost use Rattle.expansion.specs.Outcome.{outcomeOf, concludedAs};
 ghost use Rattle.expansion.specs.Parts.{fresh, stateOf, Opens, Leaves, Ready, Calls, Stands, rowMet, callEntered, rowsWalked, callWalked};
 
 // How far a walk is: calls made, the number of the open block's first message, and messages met.
@@ -114,9 +116,9 @@ fn open_block(boards: &[u8], words: &[u64], past: &mut [u64], walk: Walk) -> Wal
 // A row of a block: a message, a P row, or the next block. Refusal 10 at message 129.
 fn row_met(
     letter: u8,
-    one: usize,
-    two: usize,
-    line: usize,
+    one: u8,
+    two: u8,
+    row: usize,
     boards: &mut [u8],
     words: &mut [u64],
     past: &mut [u64],
@@ -124,15 +126,16 @@ fn row_met(
 ) -> Walked
     requires { ⌜ Room (walk .first) (walk .count) (storeOf (now boards) (now words) (now past)) ⌝ }
     requires { ⌜ Stands (2 * (walk .count - walk .first)) (rowFrom letter one two) ⌝ }
-    ensures { λ r. ⌜ Leaves r (storeOf (now (boards .exit)) (now (words .exit)) (now (past .exit))) (rowMet (rowFrom letter one two) line (stateOf walk (storeOf (now (boards .entry)) (now (words .entry)) (now (past .entry))))) ⌝ }
+    requires { ⌜ row < rowsMost ⌝ }
+    ensures { λ r. ⌜ Leaves r (storeOf (now (boards .exit)) (now (words .exit)) (now (past .exit))) (rowMet (rowFrom letter one two) (lineOf row) (stateOf walk (storeOf (now (boards .entry)) (now (words .entry)) (now (past .entry))))) ⌝ }
 {
     let first = walk.first;
     let count = walk.count;
     if letter == b'M' {
         if Walk::MESSAGES_MOST <= count {
-            return Walked::Stopped(model::MESSAGES, line);
+            return Walked::Stopped(model::MESSAGES, row + FIRST_LINE);
         }
-        add_message(boards, words, past, count, one, two);
+        add_message(boards, words, past, count, one as usize, two as usize);
         return Walked::Going(Walk {
             calls: walk.calls,
             first,
@@ -141,7 +144,9 @@ fn row_met(
     }
     if letter == b'P' {
         let base = 2 * first;
-        relation::insert(words, base + one, base + two, base, 2 * count);
+        let x = base + one as usize;
+        let y = base + two as usize;
+        relation::insert(words, x, y, base, 2 * count);
         return Walked::Going(walk);
     }
     Walked::Going(open_block(boards, words, past, walk))
@@ -179,37 +184,25 @@ fn walk_call(
     kind: &[u8],
     one: &[u8],
     two: &[u8],
-    count: usize,
     start: &[u16],
     boards: &mut [u8],
     words: &mut [u64],
     past: &mut [u64],
     left: usize,
-    row: usize,
+    at: usize,
     walk: Walk,
 ) -> Walked
-    requires { ⌜ RowsRead (now kind) (now one) (now two) count (now start) ⌝ }
-    requires { ⌜ Calls (now kind) (now one) (now two) count row (walk .first) (walk .count) (storeOf (now boards) (now words) (now past)) ⌝ }
-    ensures { λ r. ⌜ Leaves r (storeOf (now (boards .exit)) (now (words .exit)) (now (past .exit))) (callWalked (now (kind .entry)) (now (one .entry)) (now (two .entry)) count left row (stateOf walk (storeOf (now (boards .entry)) (now (words .entry)) (now (past .entry))))) ⌝ }
+    requires { ⌜ RowsRead (now kind) (now one) (now two) (length (now kind)) (now start) ⌝ }
+    requires { ⌜ Calls (now kind) (now one) (now two) (length (now kind)) at (walk .first) (walk .count) (storeOf (now boards) (now words) (now past)) ⌝ }
+    ensures { λ r. ⌜ Leaves r (storeOf (now (boards .exit)) (now (words .exit)) (now (past .exit))) (callWalked (now (kind .entry)) (now (one .entry)) (now (two .entry)) (length (now (kind .entry))) left at (stateOf walk (storeOf (now (boards .entry)) (now (words .entry)) (now (past .entry))))) ⌝ }
 {
-    let sheet = one[row] as usize;
-    let begin = start[sheet] as usize;
-    match open_call(boards, words, past, left, row + FIRST_LINE, walk) {
+    let sheet = one[at] as usize;
+    let row = start[sheet] as usize;
+    match open_call(boards, words, past, left, at + FIRST_LINE, walk) {
         Walked::Stopped(number, line) => Walked::Stopped(number, line),
-        Walked::Going(opened) => {
-            match walk_rows(
-                kind,
-                one,
-                two,
-                count,
-                start,
-                boards,
-                words,
-                past,
-                left - 1,
-                begin,
-                opened,
-            ) {
+        Walked::Going(into) => {
+            let down = left - 1;
+            match walk_rows(kind, one, two, start, boards, words, past, down, row, into) {
                 Walked::Stopped(number, line) => Walked::Stopped(number, line),
                 Walked::Going(back) => Walked::Going(open_block(boards, words, past, back)),
             }
@@ -222,7 +215,6 @@ fn walk_rows(
     kind: &[u8],
     one: &[u8],
     two: &[u8],
-    count: usize,
     start: &[u16],
     boards: &mut [u8],
     words: &mut [u64],
@@ -231,42 +223,21 @@ fn walk_rows(
     row: usize,
     walk: Walk,
 ) -> Walked
-    requires { ⌜ RowsRead (now kind) (now one) (now two) count (now start) ⌝ }
-    requires { ⌜ Ready (now kind) (now one) (now two) count row (walk .first) (walk .count) (storeOf (now boards) (now words) (now past)) ⌝ }
-    ensures { λ r. ⌜ Leaves r (storeOf (now (boards .exit)) (now (words .exit)) (now (past .exit))) (rowsWalked (now (kind .entry)) (now (one .entry)) (now (two .entry)) count left row (stateOf walk (storeOf (now (boards .entry)) (now (words .entry)) (now (past .entry))))) ⌝ }
+    requires { ⌜ RowsRead (now kind) (now one) (now two) (length (now kind)) (now start) ⌝ }
+    requires { ⌜ Ready (now kind) (now one) (now two) (length (now kind)) row (walk .first) (walk .count) (storeOf (now boards) (now words) (now past)) ⌝ }
+    ensures { λ r. ⌜ Leaves r (storeOf (now (boards .exit)) (now (words .exit)) (now (past .exit))) (rowsWalked (now (kind .entry)) (now (one .entry)) (now (two .entry)) (length (now (kind .entry))) left row (stateOf walk (storeOf (now (boards .entry)) (now (words .entry)) (now (past .entry))))) ⌝ }
 {
     let mut at = row;
     let mut here = walk;
-    while at < count {
+    while at < kind.len() {
         let letter = kind[at];
         if letter == b'S' {
             return Walked::Going(here);
         }
         let met = if letter == b'C' {
-            walk_call(
-                kind,
-                one,
-                two,
-                count,
-                start,
-                boards,
-                words,
-                past,
-                left,
-                at,
-                here,
-            )
+            walk_call(kind, one, two, start, boards, words, past, left, at, here)
         } else {
-            row_met(
-                letter,
-                one[at] as usize,
-                two[at] as usize,
-                at + FIRST_LINE,
-                boards,
-                words,
-                past,
-                here,
-            )
+            row_met(letter, one[at], two[at], at, boards, words, past, here)
         };
         match met {
             Walked::Stopped(number, line) => return Walked::Stopped(number, line),
@@ -275,6 +246,18 @@ fn walk_rows(
         at += 1;
     }
     Walked::Going(here)
+}
+
+// The messages of a walk that is over, unless an event is before itself: refusal 11.
+fn without_circle(words: &[u64], count: usize) -> Expanded
+    requires { ⌜ length (now words) ≡ 2 * messagesMost * width ⌝ }
+    requires { ⌜ count ≤ messagesMost ⌝ }
+    ensures { λ r. ⌜ r ≡ concludedAs (anyOwn width (now (words .entry)) (2 * count)) count ⌝ }
+{
+    if relation::circle(words, 2 * count) {
+        return Expanded::Refused(model::CIRCLE, 0);
+    }
+    Expanded::Messages(count)
 }
 
 // The walk of sheet 0 and of all that it calls: the scenario in boards and words, or refusal 8 to 11.
@@ -297,10 +280,9 @@ pub fn expand(
     let mut past = [0u64; PAST];
     let row = start[0] as usize;
     match walk_rows(
-        kind,
+        &kind[..count],
         one,
         two,
-        count,
         start,
         boards,
         words,
@@ -310,13 +292,6 @@ pub fn expand(
         Walk::fresh(),
     ) {
         Walked::Stopped(number, line) => Expanded::Refused(number, line),
-        Walked::Going(walk) => {
-            let met = walk.count;
-            if relation::circle(words, 2 * met) {
-                Expanded::Refused(model::CIRCLE, 0)
-            } else {
-                Expanded::Messages(met)
-            }
-        }
+        Walked::Going(walk) => without_circle(words, walk.count),
     }
 }

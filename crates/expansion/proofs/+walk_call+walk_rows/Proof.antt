@@ -9,7 +9,7 @@ use borrow.Author.Needs.{needs}
 use borrow.Fn.Kinds.{In}
 use borrow.Fn.PlainCycle.{Measures, is, falls, and}
 use Rattle.expansion.specs.Room.{storeOf}
-use Rattle.expansion.proofs.Reading.{start-long}
+use Rattle.expansion.proofs.Reading.{rows-few, start-long}
 use Rattle.expansion.proofs.Walking.{leaves-as, leaves-at, Walking, walking-start, walking-end, walking-sheet, row-stands, call-stands, plain-stopped, plain-going, call-stopped, call-going, enter-stopped, entered-left, entered-ready, rows-stopped, rows-going}
 use Rattle.expansion.proofs.walk_call.Reads as walk-call
 use Rattle.expansion.proofs.walk_call.Kinds as walk-call-kinds
@@ -24,10 +24,10 @@ use Rattle.expansion.proofs.+walk_call+walk_rows.{statement}
 use Rattle.expansion.proofs.+walk_call+walk_rows.Tie.{close}
 
 abbrev μ-call : Measures 7 walk-call-kinds.ps ℕ
-μ-call κs a = 2 * a .1 .1 .1 .1 .1 .1 .1 .1 .0
+μ-call κs a = 2 * a .1 .1 .1 .1 .1 .1 .1 .0
 
 abbrev μ-rows : Measures 7 walk-rows-kinds.ps ℕ
-μ-rows κs a = 2 * a .1 .1 .1 .1 .1 .1 .1 .1 .0 + 1
+μ-rows κs a = 2 * a .1 .1 .1 .1 .1 .1 .1 .0 + 1
 
 abbrev call-at : ℕ → In 7 walk-call-kinds.ps
 call-at t = and 7 walk-call-kinds.ps (is 7 walk-call-kinds.ps μ-call t) walk-call.Pre
@@ -53,25 +53,25 @@ rows-claims t = (
   row-met-reads.Learnt,
 )
 
-call-shared-slice-read-begin : (t : ℕ) → call-lts.Need-shared-slice-read-begin (call-claims t) (call-at t) walk-call.Post
-call-shared-slice-read-begin t c =
+call-shared-slice-read-row : (t : ℕ) → call-lts.Need-shared-slice-read-row (call-claims t) (call-at t) walk-call.Post
+call-shared-slice-read-row t c =
     let s = c .before .before .before .before .before .before .before .before .before in
     omega (arith, start-long _ _ _ _ _ (s .pre .1 .0), s .pre .1 .1 .known)
 
-call-cast-begin : (t : ℕ) → call-lts.Need-cast-begin (call-claims t) (call-at t) walk-call.Post
-call-cast-begin t c =
+call-cast-row : (t : ℕ) → call-lts.Need-cast-row (call-claims t) (call-at t) walk-call.Post
+call-cast-row t c =
     let s = c .before .before .before .before .before .before .before .before .before in
-    omega (arith, c .shared-slice-known6 .given (getD (s .args .one .now) (s .args .row) 0))
+    omega (arith, c .shared-slice-known6 .given (getD (s .args .one .now) (s .args .at) 0))
 
-call-sub-walk-rows : (t : ℕ) → call-lts.Need-sub-walk-rows (call-claims t) (call-at t) walk-call.Post
-call-sub-walk-rows t c =
-    let s = c .before .before .before .before .before .before .before .before .before .before .before .before .before .before .before .before .before .before .before .before .before in
-    entered-left _ _ _ _ _ (s .pre .1 .0) _ _ _ _ (s .pre .1 .1) _ _ (leaves-as (c .before .before .before .before .opened .given .1) (c .before .before .before .before .before .before .before .before .open-call .ensures))
+call-sub-down : (t : ℕ) → call-lts.Need-sub-down (call-claims t) (call-at t) walk-call.Post
+call-sub-down t c =
+    let s = c .before .before .before .before .before .before .before .before .before .before .before .before .before .before .before .before .before .before in
+    omega (arith, entered-left _ _ _ _ _ (s .pre .1 .0) _ _ _ _ (s .pre .1 .1) _ _ (leaves-as (c .before .into .given .1) (c .before .before .before .before .before .open-call .ensures)))
 
 call-walk-rows-requires : (t : ℕ) → call-lts.Need-walk-rows-requires (call-claims t) (call-at t) walk-call.Post
 call-walk-rows-requires t c κs =
     let s = c .before .before .before .before .before .before .before .before .before .before .before .before .before .before .before .before .before .before .before .before .before in
-    let e = leaves-as (c .before .before .before .before .opened .given .1) (c .before .before .before .before .before .before .before .before .open-call .ensures) in
+    let e = leaves-as (c .before .before .before .before .into .given .1) (c .before .before .before .before .before .before .before .before .open-call .ensures) in
     (omega (arith, entered-left _ _ _ _ _ (s .pre .1 .0) _ _ _ _ (s .pre .1 .1) _ _ e, s .pre .0), (s .pre .1 .0, entered-ready _ _ _ _ _ (s .pre .1 .0) _ _ _ _ (s .pre .1 .1) _ _ e))
 
 call-open-block-requires : (t : ℕ) → call-lts.Need-open-block-requires (call-claims t) (call-at t) walk-call.Post
@@ -86,21 +86,21 @@ call-returns t c =
 call-returns-2 : (t : ℕ) → call-lts.Need-returns-2 (call-claims t) (call-at t) walk-call.Post
 call-returns-2 t c =
     let s = c .before .before .before .before .before .before .before .before .before .before .before .before .before .before .before .before .before .before .before .before .before .before .before .before .before .before .before .before .before .before .before in
-    rows-stopped _ _ _ _ _ (s .pre .1 .0) _ _ _ _ (s .pre .1 .1) _ _ (leaves-as (c .before .before .before .before .before .before .before .before .before .before .before .before .before .before .opened .given .1) (c .before .before .before .before .before .before .before .before .before .before .before .before .before .before .before .before .before .before .open-call .ensures)) _ _ _
+    rows-stopped _ _ _ _ _ (s .pre .1 .0) _ _ _ _ (s .pre .1 .1) _ _ (leaves-as (c .before .before .before .before .before .before .before .before .before .before .before .before .before .before .into .given .1) (c .before .before .before .before .before .before .before .before .before .before .before .before .before .before .before .before .before .before .open-call .ensures)) _ _ _
     (leaves-as (c .before .number2 .given .1) (c .before .before .before .before .before .before .before .before .before .walk-rows .ensures))
 
 call-returns-3 : (t : ℕ) → call-lts.Need-returns-3 (call-claims t) (call-at t) walk-call.Post
 call-returns-3 t c =
     let s = c .before .before .before .before .before .before .before .before .before .before .before .before .before .before .before .before .before .before .before .before .before .before .before .before .before .before .before .before .before .before .before .before .before .before .before .before .before in
-    rows-going _ _ _ _ _ (s .pre .1 .0) _ _ _ _ (s .pre .1 .1) _ _ (leaves-as (c .before .before .before .before .before .before .before .before .before .before .before .before .before .before .before .before .before .before .before .before .opened .given .1) (c .before .before .before .before .before .before .before .before .before .before .before .before .before .before .before .before .before .before .before .before .before .before .before .before .open-call .ensures)) _ _ _ _
+    rows-going _ _ _ _ _ (s .pre .1 .0) _ _ _ _ (s .pre .1 .1) _ _ (leaves-as (c .before .before .before .before .before .before .before .before .before .before .before .before .before .before .before .before .before .before .before .before .into .given .1) (c .before .before .before .before .before .before .before .before .before .before .before .before .before .before .before .before .before .before .before .before .before .before .before .before .open-call .ensures)) _ _ _ _
     (leaves-as (c .before .before .before .before .before .before .before .back .given .1) (c .before .before .before .before .before .before .before .before .before .before .before .before .before .before .before .walk-rows .ensures)) (c .before .before .open-block .ensures)
 
 abbrev Inv-loop : rows-lts.InvT-loop
-Inv-loop kind one two count start boards₀ words₀ past₀ left row at₀ here₀ boards words past at here =
-    Walking kind one two count left row here₀ (storeOf boards₀ words₀ past₀) at here (storeOf boards words past)
+Inv-loop kind one two start boards₀ words₀ past₀ left row at₀ here₀ boards words past at here =
+    Walking kind one two (length kind) left row here₀ (storeOf boards₀ words₀ past₀) at here (storeOf boards words past)
 
 abbrev μ-loop : rows-lts.MeasureT-loop
-μ-loop kind one two count start boards₀ words₀ past₀ left row at₀ here₀ boards words past at here = count - at
+μ-loop kind one two start boards₀ words₀ past₀ left row at₀ here₀ boards words past at here = length kind - at
 
 rows-loop-holds : (t : ℕ) → rows-lts.Need-loop-holds (rows-claims t) (rows-at t) walk-rows.Post Inv-loop μ-loop
 rows-loop-holds t c =
@@ -115,18 +115,12 @@ rows-walk-call-requires t c κs =
     let s = c .before .before .before .before .before .before .before .before .before .before .before .before .before .before .before in
     (omega (arith, s .pre .0), (s .pre .1 .0, call-stands _ _ _ _ _ _ _ _ _ _ _ (c .before .before .before .before .before .before .before .loop .inv) (c .before .before .before .before .before .before .loop-test .taken) (c .before .before .before .if2 .taken)))
 
-rows-cast-row-met : (t : ℕ) → rows-lts.Need-cast-row-met (rows-claims t) (rows-at t) walk-rows.Post Inv-loop μ-loop
-rows-cast-row-met t c =
-    omega (arith, c .shared-slice-known6 .given (c .before .before .before .before .before .loop .at))
-
-rows-cast-row-met-2 : (t : ℕ) → rows-lts.Need-cast-row-met-2 (rows-claims t) (rows-at t) walk-rows.Post Inv-loop μ-loop
-rows-cast-row-met-2 t c =
-    omega (arith, c .shared-slice-known7 .given (c .before .before .before .before .before .before .loop .at))
-
 rows-row-met-requires : (t : ℕ) → rows-lts.Need-row-met-requires (rows-claims t) (rows-at t) walk-rows.Post Inv-loop μ-loop
 rows-row-met-requires t c κs =
+    let s = c .before .before .before .before .before .before .before .before .before .before .before .before .before .before .before .before .before in
     let j = c .before .before .before .before .before .before .before .before .before .loop .inv in
-    (j .ready .room, row-stands _ _ _ _ _ _ _ _ _ _ _ j (c .before .before .before .before .before .before .before .before .loop-test .taken))
+    let h = c .before .before .before .before .before .before .before .before .loop-test .taken in
+    (j .ready .room, (row-stands _ _ _ _ _ _ _ _ _ _ _ j h, omega (arith, rows-few _ _ _ _ (s .pre .1 .0 .read))))
 
 rows-same-length-4 : (t : ℕ) → rows-lts.Need-same-length-4 (rows-claims t) (rows-at t) walk-rows.Post Inv-loop μ-loop
 rows-same-length-4 t c =
@@ -171,13 +165,13 @@ pub +walk-call+walk-rows-spec : {M : Type 1} → statement M
     (λ c. search needs)
     (λ c. search needs)
     (λ c. search needs)
-    (call-shared-slice-read-begin t)
-    (call-cast-begin t)
+    (call-shared-slice-read-row t)
+    (call-cast-row t)
     (λ c. search needs)
-    (λ c. λ κs. search needs)
+    (λ c κs. search needs)
     (λ c. search needs)
     (λ c. search needs)
-    (call-sub-walk-rows t)
+    (call-sub-down t)
     (call-walk-rows-requires t)
     (λ c. search needs)
     (λ c. search needs)
@@ -203,9 +197,6 @@ pub +walk-call+walk-rows-spec : {M : Type 1} → statement M
     (rows-returns t)
     (rows-walk-call-requires t)
     (λ c. search needs)
-    (rows-cast-row-met t)
-    (λ c. search needs)
-    (rows-cast-row-met-2 t)
     (λ c. search needs)
     (rows-row-met-requires t)
     (λ c. search needs)

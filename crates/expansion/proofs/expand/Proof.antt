@@ -1,10 +1,13 @@
 -- `expansion::expand` meets its contract: the walk begins with nothing met, and what it leaves comes to the paper's answer.
 -- Assumes nothing.
 use native.Mathlib.Omega.{arith}
+use mathlib.Core.Path.{_∙_, ap}
 use borrow.Author.Needs.{needs}
+use Rattle.model.specs.Answer.{expandedOf}
 use Rattle.expansion.proofs.Reading.{start-long}
+use Rattle.expansion.proofs.Cut.{cut-length, cut-rows, cut-read}
 use Rattle.expansion.proofs.Walking.{leaves-as}
-use Rattle.expansion.proofs.Whole.{cleared-all, fresh-ready, answer-stopped, answer-circle, answer-messages}
+use Rattle.expansion.proofs.Whole.{cleared-all, fresh-ready, answer-stopped, answer-going}
 use Rattle.expansion.proofs.expand.Statement.{statement}
 use Rattle.expansion.proofs.expand.Tie as tie
 
@@ -26,16 +29,21 @@ cast-row c =
     omega (arith, c .shared-slice-known5 .given 0)
 
 slice-aggregate-walk-rows : tie.Need-slice-aggregate-walk-rows
-slice-aggregate-walk-rows c = search needs
+slice-aggregate-walk-rows c =
+    cut-length _ _ _ _ _ (c .before .before .before .before .before .before .before .before .before .before .before .before .before .before .before .before .pre .0)
+
+slice-aggregate-walk-rows-2 : tie.Need-slice-aggregate-walk-rows-2
+slice-aggregate-walk-rows-2 c = search needs
 
 fresh-requires : tie.Need-fresh-requires
 fresh-requires c κs = search needs
 
 walk-rows-requires : tie.Need-walk-rows-requires
 walk-rows-requires c κs =
-    let s = c .before .before .before .before .before .before .before .before .before .before .before .before .before .before .before .before .before .before .before in
-    let z = cleared-all _ _ _ (c .before .before .before .before .before .before .before .before .before .before .before .clear-boards .ensures) (c .before .before .before .before .before .before .before .clear .ensures) (s .pre .1 .1) in
-    (s .pre .0, fresh-ready _ _ _ _ _ (s .pre .0) _ _ _ z _ (c .fresh .ensures))
+    let s = c .before .before .before .before .before .before .before .before .before .before .before .before .before .before .before .before .before .before .before .before in
+    let z = cleared-all _ _ _ (c .before .before .before .before .before .before .before .before .before .before .before .before .clear-boards .ensures) (c .before .before .before .before .before .before .before .before .clear .ensures) (s .pre .1 .1) in
+    let l = cut-read _ _ _ _ _ (s .pre .0) in
+    (l, fresh-ready _ _ _ _ _ l _ _ _ z _ (c .fresh .ensures))
 
 enum-known-number : tie.Need-enum-known-number
 enum-known-number c = search needs
@@ -43,15 +51,10 @@ enum-known-number c = search needs
 enum-known-walk : tie.Need-enum-known-walk
 enum-known-walk c = search needs
 
-mul-circle : tie.Need-mul-circle
-mul-circle c =
+without-circle-requires : tie.Need-without-circle-requires
+without-circle-requires c κs =
     let r = leaves-as (c .before .before .walk .given .1) (c .before .before .before .before .before .before .before .before .before .walk-rows .ensures) .room in
-    record { fits = omega (arith, r .countMost) }
-
-circle-requires : tie.Need-circle-requires
-circle-requires c κs =
-    let r = leaves-as (c .before .before .walk .given .1) (c .before .before .before .before .before .before .before .before .before .walk-rows .ensures) .room in
-    (omega (arith, r .countMost, r .wordsLong), omega (arith, r .countMost))
+    (r .wordsLong, r .countMost)
 
 same-length : tie.Need-same-length
 same-length c = search needs
@@ -61,9 +64,11 @@ same-length-2 c = search needs
 
 returns : tie.Need-returns
 returns c =
-    let s = c .before .before .before .before .before .before .before .before .before .before .before .before .before .before .before .before .before .before .before .before .before .before .before .before .before .before .before .before in
-    let z = cleared-all _ _ _ (c .before .before .before .before .before .before .before .before .before .before .before .before .before .before .before .before .before .before .before .before .clear-boards .ensures) (c .before .before .before .before .before .before .before .before .before .before .before .before .before .before .before .before .clear .ensures) (s .pre .1 .1) in
-    answer-stopped _ _ _ _ _ (s .pre .0) _ _ _ z _ (c .before .before .before .before .before .before .before .before .before .fresh .ensures) _ _ _ (leaves-as (c .before .number .given .1) (c .before .before .before .before .before .before .before .before .walk-rows .ensures))
+    let s = c .before .before .before .before .before .before .before .before .before .before .before .before .before .before .before .before .before .before .before .before .before .before .before .before .before .before .before .before .before in
+    let z = cleared-all _ _ _ (c .before .before .before .before .before .before .before .before .before .before .before .before .before .before .before .before .before .before .before .before .before .clear-boards .ensures) (c .before .before .before .before .before .before .before .before .before .before .before .before .before .before .before .before .before .clear .ensures) (s .pre .1 .1) in
+    answer-stopped _ _ _ _ _ (cut-read _ _ _ _ _ (s .pre .0)) _ _ _ z _ (c .before .before .before .before .before .before .before .before .before .fresh .ensures) _ _ _
+    (leaves-as (c .before .number .given .1) (c .before .before .before .before .before .before .before .before .walk-rows .ensures))
+    ∙ ap expandedOf (cut-rows _ _ _ _ _ (s .pre .0))
 
 same-length-3 : tie.Need-same-length-3
 same-length-3 c = search needs
@@ -75,19 +80,9 @@ returns-2 : tie.Need-returns-2
 returns-2 c =
     let s = c .before .before .before .before .before .before .before .before .before .before .before .before .before .before .before .before .before .before .before .before .before .before .before .before .before .before .before .before .before .before .before in
     let z = cleared-all _ _ _ (c .before .before .before .before .before .before .before .before .before .before .before .before .before .before .before .before .before .before .before .before .before .before .before .clear-boards .ensures) (c .before .before .before .before .before .before .before .before .before .before .before .before .before .before .before .before .before .before .before .clear .ensures) (s .pre .1 .1) in
-    answer-circle _ _ _ _ _ (s .pre .0) _ _ _ z _ (c .before .before .before .before .before .before .before .before .before .before .before .before .fresh .ensures) _ _ _ _ (leaves-as (c .before .before .before .before .walk .given .1) (c .before .before .before .before .before .before .before .before .before .before .before .walk-rows .ensures)) _ (c .before .circle .ensures) (c .if1 .taken)
-
-same-length-5 : tie.Need-same-length-5
-same-length-5 c = search needs
-
-same-length-6 : tie.Need-same-length-6
-same-length-6 c = search needs
-
-returns-3 : tie.Need-returns-3
-returns-3 c =
-    let s = c .before .before .before .before .before .before .before .before .before .before .before .before .before .before .before .before .before .before .before .before .before .before .before .before .before .before .before .before .before .before .before in
-    let z = cleared-all _ _ _ (c .before .before .before .before .before .before .before .before .before .before .before .before .before .before .before .before .before .before .before .before .before .before .before .clear-boards .ensures) (c .before .before .before .before .before .before .before .before .before .before .before .before .before .before .before .before .before .before .before .clear .ensures) (s .pre .1 .1) in
-    answer-messages _ _ _ _ _ (s .pre .0) _ _ _ z _ (c .before .before .before .before .before .before .before .before .before .before .before .before .fresh .ensures) _ _ _ _ (leaves-as (c .before .before .before .before .walk .given .1) (c .before .before .before .before .before .before .before .before .before .before .before .walk-rows .ensures)) _ (c .before .circle .ensures) (c .if1 .left)
+    answer-going _ _ _ _ _ (cut-read _ _ _ _ _ (s .pre .0)) _ _ _ z _ (c .before .before .before .before .before .before .before .before .before .before .before .fresh .ensures) _ _ _ _
+    (leaves-as (c .before .before .before .walk .given .1) (c .before .before .before .before .before .before .before .before .before .before .walk-rows .ensures)) _ (c .without-circle .ensures)
+    ∙ ap expandedOf (cut-rows _ _ _ _ _ (s .pre .0))
 
 pub expand-spec : {M : Type 1} → statement M
 expand-spec =
@@ -99,18 +94,15 @@ expand-spec =
     shared-slice-read-row
     cast-row
     slice-aggregate-walk-rows
+    slice-aggregate-walk-rows-2
     fresh-requires
     walk-rows-requires
     enum-known-number
     enum-known-walk
-    mul-circle
-    circle-requires
+    without-circle-requires
     same-length
     same-length-2
     returns
     same-length-3
     same-length-4
-    returns-2
-    same-length-5
-    same-length-6
-    returns-3)
+    returns-2)

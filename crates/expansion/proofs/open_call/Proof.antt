@@ -1,4 +1,5 @@
 -- `expansion::open_call` meets its contract, one law for each return. Assumes nothing.
+use native.Mathlib.Omega.{arith}
 use borrow.Author.Needs.{needs}
 use Rattle.expansion.proofs.Parts.{call-too-deep, call-too-many, call-entered}
 use Rattle.expansion.proofs.open_call.Statement.{statement}
@@ -8,7 +9,7 @@ returns : tie.Need-returns
 returns c = search call-too-deep
 
 returns-2 : tie.Need-returns-2
-returns-2 c = search call-too-many
+returns-2 c = call-too-many _ _ _ _ _ (omega arith) (c .before .if1 .left)
 
 add-t10 : tie.Need-add-t10
 add-t10 c = search needs
@@ -20,7 +21,8 @@ same-length : tie.Need-same-length
 same-length c = search needs
 
 returns-3 : tie.Need-returns-3
-returns-3 c = search call-entered
+returns-3 c =
+    call-entered _ _ _ _ _ _ (c .before .before .open-block .ensures) (omega arith) (c .before .before .before .before .before .if1 .left)
 
 pub open-call-spec : {M : Type 1} → statement M
 open-call-spec =

@@ -143,11 +143,11 @@ fn numbers(answer: Answer) -> ChannelCheckAnswer
             two: 0,
             three: 0,
         },
-        Answer::Locked(e, x, steps) => {
+        Answer::Locked(message, event, steps) => {
             ChannelCheckAnswer {
                 word: 1,
-                one: e as u32,
-                two: x as u32,
+                one: message as u32,
+                two: event as u32,
                 three: steps as u32,
             }
         }

@@ -10,4 +10,5 @@ mod Parts
 pub mod Reading
 mod Cut
 mod Walking
+mod Levels
 mod Whole

@@ -1,5 +1,5 @@
 -- The whole expansion: the walk begins with nothing met, and what it leaves is the paper's answer. Assumes nothing.
-use Prim.Native.Nat.{ℕ, _-_, _*_}
+use Prim.Native.Nat.{ℕ, _*_}
 use native.Mathlib.Omega.{arith}
 use mathlib.Core.Path.{_≡_, refl, sym, _∙_, ap, subst}
 use mathlib.Core.Bool.{Bool, true, false, cond}
@@ -17,7 +17,7 @@ use Rattle.relation.specs.Rows.{cleared, anyOwn}
 use Rattle.relation.specs.Scenario.{scenarioIn}
 use Rattle.expansion.specs.Store.{Store, zeros, freshStore, storeOps}
 use Rattle.sheet.specs.Bridge.{rowsOf}
-use Rattle.expansion.specs.Lent.{rowsFrom, RowsRead}
+use Rattle.expansion.specs.Lent.{RowsRead}
 use Rattle.expansion.specs.Room.{storeOf}
 use Rattle.expansion.specs.Outcome.{outcomeOf, concludedAs}
 use Rattle.expansion.specs.Parts.{fresh, stateOf, Leaves, rowsWalked, AllStand, Ready}
@@ -52,16 +52,13 @@ module _ (words : List ℕ) (count : ℕ) (r : Bool) (test : r ≡ anyOwn width 
   circle-none e = rw (sym test ∙ e)
 
 module _ (kind one two : List ℕ) (count : ℕ) (start : List ℕ) (lent : RowsRead kind one two count start) (events words past : List ℕ)
-    (z : Cleared events words past) (w : Walk) (begins : w ≡ fresh) where
+    (z : Cleared events words past) where
   abbrev file : List Row
   file = rowsOf kind one two count
 
   -- the walk begins at sheet 0's first row, in an empty block
-  pub fresh-ready : Ready kind one two count (getD start 0 0) (w .first) (w .count) (storeOf events words past)
+  pub fresh-ready : Ready kind one two count (getD start 0 0) 0 0 (storeOf events words past)
   fresh-ready =
-      let f : w .first ≡ 0 = ap (λ (v : Walk). v .first) begins in
-      let c : w .count ≡ 0 = ap (λ (v : Walk). v .count) begins in
-      let none : 0 ≡ 2 * (w .count - w .first) = omega arith in
       record {
         room = record {
           eventsLong = ap length (z .eventsZero) ∙ zeros-length (2 * messagesMost);
@@ -72,20 +69,18 @@ module _ (kind one two : List ℕ) (count : ℕ) (start : List ℕ) (lent : Rows
           boardsMost = λ k. omega (arith, ap (λ (l : List ℕ). getD l k 0) (z .eventsZero), zeros-at (2 * messagesMost) k);
         };
         stand =
-            subst (λ (n : ℕ). AllStand (opens file) n (rowsFrom kind one two count (getD start 0 0))) none
-            (subst (λ (rs : List Row). AllStand (opens file) 0 rs) (rows-drop kind one two count (getD start 0 0))
+            subst (λ (rs : List Row). AllStand (opens file) 0 rs) (rows-drop kind one two count (getD start 0 0))
             (subst (λ (i : ℕ). AllStand (opens file) 0 (drop i file)) (sym (start-zero kind one two count start lent))
-            (start-stand kind one two count start lent 0)));
+            (start-stand kind one two count start lent 0));
       }
 
   abbrev walked : Out (Progress Store)
-  walked = rowsWalked kind one two count levels (getD start 0 0) (stateOf w (storeOf events words past))
+  walked = rowsWalked kind one two count levels (getD start 0 0) (stateOf fresh (storeOf events words past))
 
   fresh-walked : walked ≡ expand storeOps file freshStore
   unfolding expand
   fresh-walked =
-      ap (λ (v : Walk). rowsWalked kind one two count levels (getD start 0 0) (stateOf v (storeOf events words past))) begins
-      ∙ rw (z .eventsZero, z .wordsZero, z .pastZero)
+      rw (z .eventsZero, z .wordsZero, z .pastZero)
       (ap (λ (rs : List Row). walkRows storeOps (callAt storeOps levels file) rs (lineOf (getD start 0 0)) (record { walk = freshWalk; kept = freshStore }))
       (sym (rows-drop kind one two count (getD start 0 0)))
       ∙ ap (λ (i : ℕ). walkRows storeOps (callAt storeOps levels file) (drop i file) (lineOf i) (record { walk = freshWalk; kept = freshStore }))

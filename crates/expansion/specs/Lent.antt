@@ -4,6 +4,7 @@ use Prim.Native.Nat.{ℕ, _-_, _≤_}
 use mathlib.Core.Path.{_≡_}
 use mathlib.Core.List.{List}
 use lib.ListN.{length}
+use Rattle.model.specs.Limits.{rowsMost}
 use Rattle.model.specs.Refusal.{ok}
 use Rattle.model.specs.Rows.{Row}
 use Rattle.model.specs.Place.{readOf}
@@ -24,3 +25,9 @@ pub record RowsRead (kind one two : List ℕ) (count : ℕ) (start : List ℕ) :
   pub kindLong : count ≤ length kind
   pub oneLong : count ≤ length one
   pub twoLong : count ≤ length two
+
+-- a part of the walk reads as many rows as the first column has, and they are few
+pub record RowsFew (kind one two : List ℕ) : Type 0 where
+  pub few : length kind ≤ rowsMost
+  pub oneLong : length kind ≤ length one
+  pub twoLong : length kind ≤ length two

@@ -1,6 +1,6 @@
 -- What the parts of the walk leave, in the model's words, and what a row asks of the walk that comes to it.
 -- Assumes nothing.
-use Prim.Native.Nat.{ℕ, _+_, _-_, _*_, _<_}
+use Prim.Native.Nat.{ℕ, _+_, _-_, _*_, _<_, _≤_}
 use mathlib.Core.Path.{_≡_}
 use mathlib.Core.Bool.{true, false, cond}
 use mathlib.Core.List.{List, [], _∷_}
@@ -11,7 +11,7 @@ use Rattle.model.specs.Bounded.{among}
 use Rattle.model.specs.Refusal.{Out, ok, refusal, andThen, depthRefusal, callsRefusal, messagesRefusal}
 use Rattle.model.specs.Rows.{Row, sheet, message, order, block, call}
 use Rattle.model.specs.Place.{lineOf, opens}
-use Rattle.model.specs.Expansion.{Progress, blockOpened, callMade, messageMet, orderMet, walkRows, callAt}
+use Rattle.model.specs.Expansion.{Progress, startOf, blockOpened, callMade, messageMet, orderMet, walkRows, callAt}
 use Rattle.expansion.specs.Store.{Store, storeOps}
 use Rattle.sheet.specs.Bridge.{rowsOf}
 use Rattle.expansion.specs.Lent.{rowsFrom}
@@ -19,6 +19,8 @@ use Rattle.expansion.specs.Room.{Room}
 use Rattle.expansion.specs.declared.Walk.{Walk}
 use Rattle.expansion.specs.declared.Walked.{Walked}
 use Rattle.expansion.specs.declared.Walked.the-variants.{Going, Stopped}
+use Rattle.expansion.specs.declared.Reached.{Reached}
+use Rattle.expansion.specs.declared.Reached.the-variants as reached
 
 -- a walk that has met nothing yet
 abbrev pub fresh : Walk
@@ -61,14 +63,16 @@ callEntered left line s =
     cond (eqb left 0) (refusal depthRefusal line)
     (cond (ltb (s .walk .calls) callsMost) (ok (blockOpened storeOps (callMade storeOps s))) (refusal callsRefusal line))
 
--- the rows from row i on, walked with so many levels left; and the call at row i, with the block opened behind it
+-- the rows from row i on, walked with so many levels left
 abbrev pub rowsWalked : List ℕ → List ℕ → List ℕ → ℕ → ℕ → ℕ → Progress Store → Out (Progress Store)
 rowsWalked kind one two count left i s =
     walkRows storeOps (callAt storeOps left (rowsOf kind one two count)) (rowsFrom kind one two count i) (lineOf i) s
 
-abbrev pub callWalked : List ℕ → List ℕ → List ℕ → ℕ → ℕ → ℕ → Progress Store → Out (Progress Store)
-callWalked kind one two count left i s =
-    andThen (callAt storeOps left (rowsOf kind one two count) (getD one i 0) (lineOf i) s) (λ s′. ok (blockOpened storeOps s′))
+-- what is left to walk where the call at row i is entered: its sheet, one level down, then a block and the rows behind the call
+abbrev pub callRest : List ℕ → List ℕ → List ℕ → ℕ → ℕ → ℕ → Progress Store → Out (Progress Store)
+callRest kind one two count left i s =
+    andThen (rowsWalked kind one two count (left - 1) (startOf (getD one i 0) (rowsOf kind one two count)) s)
+    (λ s′. rowsWalked kind one two count left (i + 1) (blockOpened storeOps s′))
 
 -- a row of a block that has n events: its boards are boards, and its events are there
 abbrev pub Stands : ℕ → Row → Type 0
@@ -103,9 +107,35 @@ pub record Ready (kind one two : List ℕ) (count i first met : ℕ) (t : Store)
   pub room : Room first met t
   pub stand : AllStand (opens (rowsOf kind one two count)) (2 * (met - first)) (rowsFrom kind one two count i)
 
--- a walk that comes to a C row has room, and its sheet is there
-pub record Calls (kind one two : List ℕ) (count i first met : ℕ) (t : Store) : Type 0 where
-  pub room : Room first met t
+-- where the call at a row was entered, or the refusal
+abbrev pub Enters : ℕ → Reached → Store → Out (Progress Store) → Type 0
+Enters row (reached.Call i w) t o = (i ≡ row) × Leaves (Going w) t o
+Enters row (reached.End w) t o = ⊥
+Enters row (reached.Stopped number line) t o = Leaves (Stopped number line) t o
+
+-- The call at row i is entered: the block is new, its sheet is there, and the rows behind it stand.
+pub record Entered (kind one two : List ℕ) (count left calls i : ℕ) (w : Walk) (t : Store) : Type 0 where
+  pub room : Room (w .first) (w .count) t
+  pub empty : w .first ≡ w .count
+  pub counted : w .calls ≡ calls + 1
+  pub few : w .calls ≤ callsMost
+  pub below : 1 ≤ left
   pub inside : i < count
   pub known : getD one i 0 < sheets
   pub present : among (getD one i 0) (opens (rowsOf kind one two count)) ≡ true
+  pub behind : AllStand (opens (rowsOf kind one two count)) 0 (rowsFrom kind one two count (i + 1))
+
+-- what is left to walk, and what stands, where the rows of a sheet were left
+abbrev pub reachedOf : List ℕ → List ℕ → List ℕ → ℕ → ℕ → Reached → Store → Out (Progress Store)
+reachedOf kind one two count left (reached.Call i w) t = callRest kind one two count left i (stateOf w t)
+reachedOf kind one two count left (reached.End w) t = ok (stateOf w t)
+reachedOf kind one two count left (reached.Stopped number line) t = refusal number line
+
+abbrev pub ReachedStands : List ℕ → List ℕ → List ℕ → ℕ → ℕ → ℕ → Reached → Store → Type 0
+ReachedStands kind one two count left calls (reached.Call i w) t = Entered kind one two count left calls i w t
+ReachedStands kind one two count left calls (reached.End w) t = Room (w .first) (w .count) t × (w .calls ≡ calls)
+ReachedStands kind one two count left calls (reached.Stopped number line) t = Unit {0}
+
+pub record Reaches (kind one two : List ℕ) (count left : ℕ) (r : Reached) (t : Store) (row : ℕ) (s : Progress Store) : Type 0 where
+  pub exact : reachedOf kind one two count left r t ≡ rowsWalked kind one two count left row s
+  pub stands : ReachedStands kind one two count left (s .walk .calls) r t

@@ -2,18 +2,18 @@
 use relation::WIDTH;
 ghost use mathlib.Core.Path.{_≡_};
 ghost use Prim.Native.Nat.{_-_, _*_, _<_, _≤_};
-ghost use lib.ListN.{length};
-ghost use Rattle.model.specs.Limits.{boards as boardsMost, messagesMost, rowsMost};
+ghost use lib.ListN.{length, getD};
+ghost use Rattle.model.specs.Limits.{boards as boardsMost, messagesMost, rowsMost, levels};
 ghost use Rattle.model.specs.Place.{lineOf};
 ghost use Rattle.model.specs.Answer.{expandedOf};
 ghost use Rattle.relation.specs.Width.{width};
 ghost use Rattle.relation.specs.Rows.{anyOwn};
 ghost use Rattle.expansion.specs.Store.{zeros, seated, added, passed};
 ghost use Rattle.sheet.specs.Bridge.{rowFrom, rowsOf};
-ghost use Rattle.expansion.specs.Lent.{RowsRead};
+ghost use Rattle.expansion.specs.Lent.{RowsRead, RowsFew};
 ghost use Rattle.expansion.specs.Room.{storeOf, Room};
 ghost use Rattle.expansion.specs.Outcome.{outcomeOf, concludedAs};
-ghost use Rattle.expansion.specs.Parts.{fresh, stateOf, Opens, Leaves, Ready, Calls, Stands, rowMet, callEntered, rowsWalked, callWalked};
+ghost use Rattle.expansion.specs.Parts.{fresh, stateOf, Opens, Leaves, Enters, Reaches, Ready, Stands, rowMet, callEntered, rowsWalked};
 
 // How far a walk is: calls made, the number of the open block's first message, and messages met.
 pub struct Walk {
@@ -48,6 +48,13 @@ pub enum Expanded {
 // What a part of the walk leaves: the walk, or the refusal's number and line.
 enum Walked {
     Going(Walk),
+    Stopped(u8, usize),
+}
+
+// Where the rows of one sheet were left: at a call that is entered, at the sheet's end, or at a refusal's number and line.
+enum Reached {
+    Call(usize, Walk),
+    End(Walk),
     Stopped(u8, usize),
 }
 
@@ -152,100 +159,118 @@ fn row_met(
     Walked::Going(open_block(boards, words, past, walk))
 }
 
-// A call with so many levels left: refusal 8 at level 8, else 9 at call 1,025, else the called sheet's first block is open.
+// The call at a row, with so many levels left: refusal 8 at level 8, else 9 at call 1,025, else the called sheet's first block
+// is open.
 fn open_call(
     boards: &[u8],
     words: &[u64],
     past: &mut [u64],
     left: usize,
-    line: usize,
+    row: usize,
     walk: Walk,
-) -> Walked
+) -> Reached
     requires { ⌜ Room (walk .first) (walk .count) (storeOf (now boards) (now words) (now past)) ⌝ }
-    ensures { λ r. ⌜ Leaves r (storeOf (now (boards .entry)) (now (words .entry)) (now (past .exit))) (callEntered left line (stateOf walk (storeOf (now (boards .entry)) (now (words .entry)) (now (past .entry))))) ⌝ }
+    requires { ⌜ row < rowsMost ⌝ }
+    ensures { λ r. ⌜ Enters row r (storeOf (now (boards .entry)) (now (words .entry)) (now (past .exit))) (callEntered left (lineOf row) (stateOf walk (storeOf (now (boards .entry)) (now (words .entry)) (now (past .entry))))) ⌝ }
 {
     if left == 0 {
-        return Walked::Stopped(model::DEPTH, line);
+        return Reached::Stopped(model::DEPTH, row + FIRST_LINE);
     }
     let calls = walk.calls;
     if Walk::CALLS_MOST <= calls {
-        return Walked::Stopped(model::CALLS, line);
+        return Reached::Stopped(model::CALLS, row + FIRST_LINE);
     }
     let called = Walk {
         calls: calls + 1,
         first: walk.first,
         count: walk.count,
     };
-    Walked::Going(open_block(boards, words, past, called))
+    Reached::Call(row, open_block(boards, words, past, called))
 }
 
-// The call at a row: its sheet is walked in full, one level down, and the next block opens behind it.
-fn walk_call(
-    kind: &[u8],
-    one: &[u8],
-    two: &[u8],
-    start: &[u16],
-    boards: &mut [u8],
-    words: &mut [u64],
-    past: &mut [u64],
-    left: usize,
-    at: usize,
-    walk: Walk,
-) -> Walked
-    requires { ⌜ RowsRead (now kind) (now one) (now two) (length (now kind)) (now start) ⌝ }
-    requires { ⌜ Calls (now kind) (now one) (now two) (length (now kind)) at (walk .first) (walk .count) (storeOf (now boards) (now words) (now past)) ⌝ }
-    ensures { λ r. ⌜ Leaves r (storeOf (now (boards .exit)) (now (words .exit)) (now (past .exit))) (callWalked (now (kind .entry)) (now (one .entry)) (now (two .entry)) (length (now (kind .entry))) left at (stateOf walk (storeOf (now (boards .entry)) (now (words .entry)) (now (past .entry))))) ⌝ }
-{
-    let sheet = one[at] as usize;
-    let row = start[sheet] as usize;
-    match open_call(boards, words, past, left, at + FIRST_LINE, walk) {
-        Walked::Stopped(number, line) => Walked::Stopped(number, line),
-        Walked::Going(into) => {
-            let down = left - 1;
-            match walk_rows(kind, one, two, start, boards, words, past, down, row, into) {
-                Walked::Stopped(number, line) => Walked::Stopped(number, line),
-                Walked::Going(back) => Walked::Going(open_block(boards, words, past, back)),
-            }
-        }
-    }
-}
-
-// The rows of one sheet from a row on, in file order up to the next S row.
+// The rows of one sheet from a row on, in file order, up to the next call or to the sheet's end, which is the next S row.
 fn walk_rows(
     kind: &[u8],
     one: &[u8],
     two: &[u8],
-    start: &[u16],
     boards: &mut [u8],
     words: &mut [u64],
     past: &mut [u64],
     left: usize,
     row: usize,
     walk: Walk,
-) -> Walked
-    requires { ⌜ RowsRead (now kind) (now one) (now two) (length (now kind)) (now start) ⌝ }
+) -> Reached
+    requires { ⌜ RowsFew (now kind) (now one) (now two) ⌝ }
     requires { ⌜ Ready (now kind) (now one) (now two) (length (now kind)) row (walk .first) (walk .count) (storeOf (now boards) (now words) (now past)) ⌝ }
-    ensures { λ r. ⌜ Leaves r (storeOf (now (boards .exit)) (now (words .exit)) (now (past .exit))) (rowsWalked (now (kind .entry)) (now (one .entry)) (now (two .entry)) (length (now (kind .entry))) left row (stateOf walk (storeOf (now (boards .entry)) (now (words .entry)) (now (past .entry))))) ⌝ }
+    ensures { λ r. ⌜ Reaches (now (kind .entry)) (now (one .entry)) (now (two .entry)) (length (now (kind .entry))) left r (storeOf (now (boards .exit)) (now (words .exit)) (now (past .exit))) row (stateOf walk (storeOf (now (boards .entry)) (now (words .entry)) (now (past .entry)))) ⌝ }
 {
     let mut at = row;
     let mut here = walk;
     while at < kind.len() {
         let letter = kind[at];
         if letter == b'S' {
-            return Walked::Going(here);
+            return Reached::End(here);
         }
-        let met = if letter == b'C' {
-            walk_call(kind, one, two, start, boards, words, past, left, at, here)
-        } else {
-            row_met(letter, one[at], two[at], at, boards, words, past, here)
-        };
-        match met {
-            Walked::Stopped(number, line) => return Walked::Stopped(number, line),
+        if letter == b'C' {
+            return open_call(boards, words, past, left, at, here);
+        }
+        match row_met(letter, one[at], two[at], at, boards, words, past, here) {
+            Walked::Stopped(number, line) => return Reached::Stopped(number, line),
             Walked::Going(next) => here = next,
         }
         at += 1;
     }
-    Walked::Going(here)
+    Reached::End(here)
+}
+
+// The row behind the S row of the sheet that is called at a row.
+fn called_row(one: &[u8], start: &[u16], row: usize) -> usize
+    requires { ⌜ (row < length (now one)) × (getD (now one) row 0 < length (now start)) ⌝ }
+    ensures { λ r. ⌜ r ≡ getD (now (start .entry)) (getD (now (one .entry)) row 0) 0 ⌝ }
+{
+    let sheet = one[row] as usize;
+    start[sheet] as usize
+}
+
+// The walk from a row of sheet 0 on: each call is walked in full, one level down, and the next block opens behind it.
+fn walk_levels(
+    kind: &[u8],
+    one: &[u8],
+    two: &[u8],
+    start: &[u16],
+    boards: &mut [u8],
+    words: &mut [u64],
+    past: &mut [u64],
+    row: usize,
+) -> Walked
+    requires { ⌜ RowsRead (now kind) (now one) (now two) (length (now kind)) (now start) ⌝ }
+    requires { ⌜ Ready (now kind) (now one) (now two) (length (now kind)) row 0 0 (storeOf (now boards) (now words) (now past)) ⌝ }
+    ensures { λ r. ⌜ Leaves r (storeOf (now (boards .exit)) (now (words .exit)) (now (past .exit))) (rowsWalked (now (kind .entry)) (now (one .entry)) (now (two .entry)) (length (now (kind .entry))) levels row (stateOf fresh (storeOf (now (boards .entry)) (now (words .entry)) (now (past .entry))))) ⌝ }
+{
+    let mut from = [0usize; model::LEVELS];
+    let mut level = 0;
+    let mut at = row;
+    let mut here = Walk::fresh();
+    loop {
+        let left = model::LEVELS - level;
+        match walk_rows(kind, one, two, boards, words, past, left, at, here) {
+            Reached::Stopped(number, line) => return Walked::Stopped(number, line),
+            Reached::Call(call, into) => {
+                from[level] = call;
+                level += 1;
+                at = called_row(one, start, call);
+                here = into;
+            }
+            Reached::End(last) => {
+                if level == 0 {
+                    return Walked::Going(last);
+                }
+                level -= 1;
+                at = from[level] + 1;
+                here = open_block(boards, words, past, last);
+            }
+        }
+    }
 }
 
 // The messages of a walk that is over, unless an event is before itself: refusal 11.
@@ -279,7 +304,7 @@ pub fn expand(
     relation::clear(words, model::EVENTS_MOST * WIDTH);
     let mut past = [0u64; PAST];
     let row = start[0] as usize;
-    match walk_rows(
+    match walk_levels(
         &kind[..count],
         one,
         two,
@@ -287,9 +312,7 @@ pub fn expand(
         boards,
         words,
         &mut past,
-        model::LEVELS,
         row,
-        Walk::fresh(),
     ) {
         Walked::Stopped(number, line) => Expanded::Refused(number, line),
         Walked::Going(walk) => without_circle(words, walk.count),

@@ -28,22 +28,19 @@ cast-row : tie.Need-cast-row
 cast-row c =
     omega (arith, c .shared-slice-known5 .given 0)
 
-slice-aggregate-walk-rows : tie.Need-slice-aggregate-walk-rows
-slice-aggregate-walk-rows c =
+slice-aggregate-walk-levels : tie.Need-slice-aggregate-walk-levels
+slice-aggregate-walk-levels c =
     cut-length _ _ _ _ _ (c .before .before .before .before .before .before .before .before .before .before .before .before .before .before .before .before .pre .0)
 
-slice-aggregate-walk-rows-2 : tie.Need-slice-aggregate-walk-rows-2
-slice-aggregate-walk-rows-2 c = search needs
+slice-aggregate-walk-levels-2 : tie.Need-slice-aggregate-walk-levels-2
+slice-aggregate-walk-levels-2 c = search needs
 
-fresh-requires : tie.Need-fresh-requires
-fresh-requires c κs = search needs
-
-walk-rows-requires : tie.Need-walk-rows-requires
-walk-rows-requires c κs =
-    let s = c .before .before .before .before .before .before .before .before .before .before .before .before .before .before .before .before .before .before .before .before in
-    let z = cleared-all _ _ _ (c .before .before .before .before .before .before .before .before .before .before .before .before .clear-boards .ensures) (c .before .before .before .before .before .before .before .before .clear .ensures) (s .pre .1 .1) in
+walk-levels-requires : tie.Need-walk-levels-requires
+walk-levels-requires c κs =
+    let s = c .before .before .before .before .before .before .before .before .before .before .before .before .before .before .before .before .before .before .before in
+    let z = cleared-all _ _ _ (c .before .before .before .before .before .before .before .before .before .before .before .clear-boards .ensures) (c .before .before .before .before .before .before .before .clear .ensures) (s .pre .1 .1) in
     let l = cut-read _ _ _ _ _ (s .pre .0) in
-    (l, fresh-ready _ _ _ _ _ l _ _ _ z _ (c .fresh .ensures))
+    (l, fresh-ready _ _ _ _ _ l _ _ _ z)
 
 enum-known-number : tie.Need-enum-known-number
 enum-known-number c = search needs
@@ -53,7 +50,7 @@ enum-known-walk c = search needs
 
 without-circle-requires : tie.Need-without-circle-requires
 without-circle-requires c κs =
-    let r = leaves-as (c .before .before .walk .given .1) (c .before .before .before .before .before .before .before .before .before .walk-rows .ensures) .room in
+    let r = leaves-as (c .before .before .walk .given .1) (c .before .before .before .before .before .before .before .before .before .walk-levels .ensures) .room in
     (r .wordsLong, r .countMost)
 
 same-length : tie.Need-same-length
@@ -64,10 +61,9 @@ same-length-2 c = search needs
 
 returns : tie.Need-returns
 returns c =
-    let s = c .before .before .before .before .before .before .before .before .before .before .before .before .before .before .before .before .before .before .before .before .before .before .before .before .before .before .before .before .before in
-    let z = cleared-all _ _ _ (c .before .before .before .before .before .before .before .before .before .before .before .before .before .before .before .before .before .before .before .before .before .clear-boards .ensures) (c .before .before .before .before .before .before .before .before .before .before .before .before .before .before .before .before .before .clear .ensures) (s .pre .1 .1) in
-    answer-stopped _ _ _ _ _ (cut-read _ _ _ _ _ (s .pre .0)) _ _ _ z _ (c .before .before .before .before .before .before .before .before .before .fresh .ensures) _ _ _
-    (leaves-as (c .before .number .given .1) (c .before .before .before .before .before .before .before .before .walk-rows .ensures))
+    let s = c .before .before .before .before .before .before .before .before .before .before .before .before .before .before .before .before .before .before .before .before .before .before .before .before .before .before .before .before in
+    let z = cleared-all _ _ _ (c .before .before .before .before .before .before .before .before .before .before .before .before .before .before .before .before .before .before .before .before .clear-boards .ensures) (c .before .before .before .before .before .before .before .before .before .before .before .before .before .before .before .before .clear .ensures) (s .pre .1 .1) in
+    answer-stopped _ _ _ _ _ (cut-read _ _ _ _ _ (s .pre .0)) _ _ _ z _ _ _ (leaves-as (c .before .number .given .1) (c .before .before .before .before .before .before .before .before .walk-levels .ensures))
     ∙ ap expandedOf (cut-rows _ _ _ _ _ (s .pre .0))
 
 same-length-3 : tie.Need-same-length-3
@@ -78,10 +74,10 @@ same-length-4 c = search needs
 
 returns-2 : tie.Need-returns-2
 returns-2 c =
-    let s = c .before .before .before .before .before .before .before .before .before .before .before .before .before .before .before .before .before .before .before .before .before .before .before .before .before .before .before .before .before .before .before in
-    let z = cleared-all _ _ _ (c .before .before .before .before .before .before .before .before .before .before .before .before .before .before .before .before .before .before .before .before .before .before .before .clear-boards .ensures) (c .before .before .before .before .before .before .before .before .before .before .before .before .before .before .before .before .before .before .before .clear .ensures) (s .pre .1 .1) in
-    answer-going _ _ _ _ _ (cut-read _ _ _ _ _ (s .pre .0)) _ _ _ z _ (c .before .before .before .before .before .before .before .before .before .before .before .fresh .ensures) _ _ _ _
-    (leaves-as (c .before .before .before .walk .given .1) (c .before .before .before .before .before .before .before .before .before .before .walk-rows .ensures)) _ (c .without-circle .ensures)
+    let s = c .before .before .before .before .before .before .before .before .before .before .before .before .before .before .before .before .before .before .before .before .before .before .before .before .before .before .before .before .before .before in
+    let z = cleared-all _ _ _ (c .before .before .before .before .before .before .before .before .before .before .before .before .before .before .before .before .before .before .before .before .before .before .clear-boards .ensures) (c .before .before .before .before .before .before .before .before .before .before .before .before .before .before .before .before .before .before .clear .ensures) (s .pre .1 .1) in
+    answer-going _ _ _ _ _ (cut-read _ _ _ _ _ (s .pre .0)) _ _ _ z _ _ _ _ (leaves-as (c .before .before .before .walk .given .1) (c .before .before .before .before .before .before .before .before .before .before .walk-levels .ensures)) _
+    (c .without-circle .ensures)
     ∙ ap expandedOf (cut-rows _ _ _ _ _ (s .pre .0))
 
 pub expand-spec : {M : Type 1} → statement M
@@ -93,10 +89,9 @@ expand-spec =
     clear-requires
     shared-slice-read-row
     cast-row
-    slice-aggregate-walk-rows
-    slice-aggregate-walk-rows-2
-    fresh-requires
-    walk-rows-requires
+    slice-aggregate-walk-levels
+    slice-aggregate-walk-levels-2
+    walk-levels-requires
     enum-known-number
     enum-known-walk
     without-circle-requires

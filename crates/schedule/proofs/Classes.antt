@@ -4,9 +4,9 @@ use mathlib.Core.Bool.{Bool, true, false, not, _&&_}
 use borrow.Author.Tests.{not-true, not-false}
 use mathlib.Core.Option.{none, some}
 use mathlib.Core.List.{List}
-use Prim.Native.Nat.{ℕ, _+_, _*_, _<_, _≤_}
+use Prim.Native.Nat.{ℕ, zero, suc, _+_, _*_, _<_, _≤_}
 use native.Mathlib.Omega.{arith}
-use native.Mathlib.Numerals.{add-one}
+use native.Mathlib.Decide.{ℕ-discrete, decLt}
 use lib.ListN.{length, getD, set}
 use lib.Dec.{eqb}
 use Rattle.model.specs.Bounded.{lowest}
@@ -14,7 +14,7 @@ use Rattle.model.specs.Limits.{messagesMost}
 use Rattle.model.specs.Run.{send, deliver, consume, allowed}
 use Rattle.model.proofs.Bounded.{lowest-hit, lowest-miss}
 use Rattle.model.specs.Order.{sendOf, receiveOf, event, atOrBefore}
-use Rattle.relation.specs.Width.{width}
+use Rattle.relation.specs.Width.{width, wordBits}
 use Rattle.relation.specs.Rows.{holds}
 use Rattle.relation.specs.Scenario.{scenarioIn}
 use Rattle.relation.proofs.Scenario.{before-at}
@@ -30,7 +30,7 @@ use Rattle.schedule.specs.declared.Class.{Class}
 use Rattle.schedule.specs.declared.Class.the-variants.{AnyConsume, DeliveryOf, NeededDelivery, NeededSend, AnyDelivery, AnySend}
 use Rattle.schedule.specs.declared.Choice.{Choice}
 use Rattle.schedule.specs.declared.Choice.the-variants as choice
-use Rattle.schedule.specs.Bridge.{classIn, SaysStep, SaysFits, fits, stepIn, Below, kindIn, messageIn, Moved}
+use Rattle.schedule.specs.Bridge.{classIn, eventIn, SaysStep, SaysFits, fits, Candidates, NoneAhead, stepIn, Below, kindIn, messageIn, Moved}
 
 module _ (count : ℕ) (boards words : List ℕ) (e : ℕ) (q : Class) (m : ℕ) where
   pub takes-one : q ≡ DeliveryOf → eqb m e ≡ (classIn (scenarioIn count boards words) e q) .takes m
@@ -50,75 +50,96 @@ module _ (count : ℕ) (boards words : List ℕ) (e : ℕ) (q : Class) (m : ℕ)
       ∙ ap (λ k. (classIn (scenarioIn count boards words) e k) .takes m) (sym i)
 
 -- What each return of `may` is to show: the class's step is the one tested.
-module _ (count : ℕ) (boards words : List ℕ) (c : Channel) (done way : List ℕ) (source target : Buffer) (q : Class) (m : ℕ) (r : Bool) where
-  pub says-consume : q ≡ AnyConsume → SaysConsume count boards words done target m r → SaysStep count boards words c done way source target q m r
-  says-consume i h = λ run d w s t e. rw i (h c run d t)
+module _ (count : ℕ) (boards words : List ℕ) (c : Channel) (done way : List ℕ) (buffer : Buffer) (q : Class) (m : ℕ) (r : Bool) where
+  of-class : (k : Class) → q ≡ k → SaysStep count boards words c done way buffer k m r → SaysStep count boards words c done way buffer q m r
+  of-class k i h = subst⁻¹ (λ (j : Class). SaysStep count boards words c done way buffer j m r) i h
 
-  pub says-one : q ≡ DeliveryOf → SaysDeliver count boards words c way target m r → SaysStep count boards words c done way source target q m r
-  says-one i h = λ run d w s t e. rw i (h run w t)
+  pub says-consume : q ≡ AnyConsume → SaysConsume count boards words done buffer m r → SaysStep count boards words c done way buffer q m r
+  says-consume i h = of-class AnyConsume i (λ run d w b e. h c run d b)
 
-  pub says-needed-delivery : q ≡ NeededDelivery → SaysDeliver count boards words c way target m r
-      → SaysStep count boards words c done way source target q m r
-  says-needed-delivery i h = λ run d w s t e. rw i (h run w t)
+  pub says-one : q ≡ DeliveryOf → SaysDeliver count boards words c way buffer m r → SaysStep count boards words c done way buffer q m r
+  says-one i h = of-class DeliveryOf i (λ run d w b e. h run w b)
 
-  pub says-delivery : q ≡ AnyDelivery → SaysDeliver count boards words c way target m r
-      → SaysStep count boards words c done way source target q m r
-  says-delivery i h = λ run d w s t e. rw i (h run w t)
+  pub says-needed-delivery : q ≡ NeededDelivery → SaysDeliver count boards words c way buffer m r
+      → SaysStep count boards words c done way buffer q m r
+  says-needed-delivery i h = of-class NeededDelivery i (λ run d w b e. h run w b)
 
-  pub says-needed-send : q ≡ NeededSend → SaysSend count boards words c done way source m r
-      → SaysStep count boards words c done way source target q m r
-  says-needed-send i h = λ run d w s t e. rw i (h run d w s)
+  pub says-delivery : q ≡ AnyDelivery → SaysDeliver count boards words c way buffer m r
+      → SaysStep count boards words c done way buffer q m r
+  says-delivery i h = of-class AnyDelivery i (λ run d w b e. h run w b)
 
-  pub says-send : q ≡ AnySend → SaysSend count boards words c done way source m r → SaysStep count boards words c done way source target q m r
-  says-send i h = λ run d w s t e. rw i (h run d w s)
+  pub says-needed-send : q ≡ NeededSend → SaysSend count boards words c done way buffer m r
+      → SaysStep count boards words c done way buffer q m r
+  says-needed-send i h = of-class NeededSend i (λ run d w b e. h run d w b)
 
--- The search of a class: no message below m fits.
+  pub says-send : q ≡ AnySend → SaysSend count boards words c done way buffer m r → SaysStep count boards words c done way buffer q m r
+  says-send i h = of-class AnySend i (λ run d w b e. h run d w b)
+
+-- The search of a class: no message below m fits, of those that there are.
 module _ (count : ℕ) (boards words : List ℕ) (c : Channel) (run : Run) (e : ℕ) (q : Class) where
   pub record Passed (m : ℕ) : Type 0 where
-    pub within : m ≤ count
-    pub passed : lowest m (fits count boards words c run e q) ≡ none
+    pub passed : (j : ℕ) → j < m → j < count → fits count boards words c run e q j ≡ false
+    pub within : m ≤ count + wordBits
 
   pub search-begins : Passed 0
+  search-begins = record { passed = λ j h l. absurd (omega arith); within = omega arith }
+
+  -- none of the messages below m is the lowest
+  none-below : (m : ℕ) → m ≤ count → ((j : ℕ) → j < m → j < count → fits count boards words c run e q j ≡ false)
+      → lowest m (fits count boards words c run e q) ≡ none
   unfolding lowest
-  search-begins = record { within = omega arith; passed = refl }
+  none-below zero h p = refl
+  none-below (suc m) h p =
+      lowest-miss m (fits count boards words c run e q) (none-below m (omega arith) (λ j l. p j (omega arith))) (p m (omega arith) (omega arith))
 
-  goes-on : (m : ℕ) → Passed m → fits count boards words c run e q m ≡ false → m < count → Passed (m + 1)
-  goes-on m p f l = record { within = omega arith; passed = rw add-one (lowest-miss m (fits count boards words c run e q) (p .passed) f) }
-
-  pub misses : (m : ℕ) (u : Bool) (done way : List ℕ) (from into : Buffer) → Passed m → u ≡ false
-      → SaysFits count boards words c done way from into e q m u
-      → run .done ≡ done → run .way ≡ way → bufferOf run (getD boards (2 * m) 0) ≡ from → bufferOf run (getD boards (2 * m + 1) 0) ≡ into
+  pub misses : (m : ℕ) (u : Bool) (done way : List ℕ) (buffer : Buffer) → Passed m → u ≡ false
+      → SaysFits count boards words c done way buffer e q m u
+      → run .done ≡ done → run .way ≡ way → bufferOf run (getD boards (eventIn q m) 0) ≡ buffer
       → m < count → Passed (m + 1)
-  misses m u done way from into p f s d w a b l = goes-on m p (sym (s run d w a b) ∙ f) l
+  misses m u done way buffer p f s d w b l =
+      record { passed = λ j h i. go j h i (ℕ-discrete j m); within = omega arith }
+    where
+      go : (j : ℕ) → j < m + 1 → j < count → Dec (j ≡ m) → fits count boards words c run e q j ≡ false
+      go j h i (yes same) = rw same (sym (s run d w b) ∙ f)
+      go j h i (no other) = p .passed j (omega arith) i
 
-  pub finds : (m : ℕ) (u : Bool) (done way : List ℕ) (from into : Buffer) → Passed m → u ≡ true
-      → SaysFits count boards words c done way from into e q m u
-      → run .done ≡ done → run .way ≡ way → bufferOf run (getD boards (2 * m) 0) ≡ from → bufferOf run (getD boards (2 * m + 1) 0) ≡ into
+  -- no candidate is among the messages skipped
+  pub skips : (m r : ℕ) (row : List ℕ) → Passed m → NoneAhead row m r → Candidates words run e q row → count ≤ messagesMost → m < count
+      → Passed (m + r)
+  skips m r row p n all few l =
+      record { passed = λ j h i. go j h i (decLt j m); within = omega (arith, n .few) }
+    where
+      go : (j : ℕ) → j < m + r → j < count → Dec (j < m) → fits count boards words c run e q j ≡ false
+      go j h i (yes b) = p .passed j b i
+      go j h i (no b) = all j (omega arith) (n .absent j (omega arith) h) count boards c
+
+  pub finds : (m : ℕ) (u : Bool) (done way : List ℕ) (buffer : Buffer) → Passed m → u ≡ true
+      → SaysFits count boards words c done way buffer e q m u
+      → run .done ≡ done → run .way ≡ way → bufferOf run (getD boards (eventIn q m) 0) ≡ buffer
       → m < count → some m ≡ lowest count (fits count boards words c run e q)
-  finds m u done way from into p v s d w a b l =
-      sym (lowest-hit count m (fits count boards words c run e q) (p .passed) (sym (s run d w a b) ∙ v) l)
+  finds m u done way buffer p v s d w b l =
+      sym (lowest-hit count m (fits count boards words c run e q) (none-below m (omega arith) (p .passed)) (sym (s run d w b) ∙ v) l)
 
   pub finds-nothing : (m : ℕ) → Passed m → count ≤ m → none ≡ lowest count (fits count boards words c run e q)
-  finds-nothing m p l =
-      let i : m ≡ count = omega (arith, p .within) in
-      sym (subst (λ (k : ℕ). lowest k (fits count boards words c run e q) ≡ none) i (p .passed))
+  finds-nothing m p l = sym (none-below count (omega arith) (λ j h. p .passed j (omega arith)))
 
 -- What each return of `fits_class` is to show.
-module _ (count : ℕ) (boards words : List ℕ) (c : Channel) (done way : List ℕ) (source target : Buffer) (e : ℕ) (q : Class) (m : ℕ) where
+module _ (count : ℕ) (boards words : List ℕ) (c : Channel) (done way : List ℕ) (buffer : Buffer) (e : ℕ) (q : Class) (m : ℕ) where
   pub other-class : (t : Bool) → not t ≡ true → t ≡ (classIn (scenarioIn count boards words) e q) .takes m
-      → SaysFits count boards words c done way source target e q m false
-  other-class t f h = λ run d w s g.
+      → SaysFits count boards words c done way buffer e q m false
+  other-class t f h = λ run d w s.
       ap (λ b. b && allowed (scenarioIn count boards words) (channelIn c) (stateOf run) ((classIn (scenarioIn count boards words) e q) .step m)) (sym (not-true t f) ∙ h)
 
   pub in-class : (t u : Bool) → not t ≡ false → t ≡ (classIn (scenarioIn count boards words) e q) .takes m
-      → SaysStep count boards words c done way source target q m u → SaysFits count boards words c done way source target e q m u
-  in-class t u f h s = λ run d w a b.
-      s run d w a b e
+      → SaysStep count boards words c done way buffer q m u → SaysFits count boards words c done way buffer e q m u
+  in-class t u f h s = λ run d w b.
+      s run d w b e
       ∙ ap (λ k. k && allowed (scenarioIn count boards words) (channelIn c) (stateOf run) ((classIn (scenarioIn count boards words) e q) .step m)) (sym (not-false t f) ∙ h)
 
--- the buffer of one board, named in two ways
-pub same-buffer : (run : Run) (k b : ℕ) → k ≡ b → bufferOf run b ≡ bufferOf run k
-same-buffer run k b i = ap (bufferOf run) (sym i)
+-- the buffer of the board of the class's step, as it is looked up
+pub own-buffer : (run : Run) (boards : List ℕ) (q : Class) (m x b : ℕ) → x ≡ eventIn q m → b ≡ getD boards x 0
+    → bufferOf run (getD boards (eventIn q m) 0) ≡ bufferOf run b
+own-buffer run boards q m x b i j = ap (bufferOf run) (sym (j ∙ ap (λ (k : ℕ). getD boards k 0) i))
 
 -- What each return of `step_of` is to show.
 module _ (q : Class) (m : ℕ) where
@@ -139,6 +160,35 @@ module _ (q : Class) (m : ℕ) where
 
   pub step-send : q ≡ AnySend → choice.Send m ≡ stepIn q m
   step-send i = rw i
+
+-- What each return of `event_of` is to show.
+module _ (q : Class) (m : ℕ) where
+  pub event-consume : q ≡ AnyConsume → 2 * m + 1 ≡ eventIn q m
+  event-consume i = rw i
+
+  pub event-one : q ≡ DeliveryOf → 2 * m + 1 ≡ eventIn q m
+  event-one i = rw i
+
+  pub event-needed-delivery : q ≡ NeededDelivery → 2 * m + 1 ≡ eventIn q m
+  event-needed-delivery i = rw i
+
+  pub event-needed-send : q ≡ NeededSend → 2 * m ≡ eventIn q m
+  event-needed-send i = rw i
+
+  pub event-delivery : q ≡ AnyDelivery → 2 * m + 1 ≡ eventIn q m
+  event-delivery i = rw i
+
+  pub event-send : q ≡ AnySend → 2 * m ≡ eventIn q m
+  event-send i = rw i
+
+-- the event of a message of the scenario is one of its events
+pub event-below : (q : Class) (m count : ℕ) → m < count → eventIn q m < 2 * count
+event-below AnyConsume m count l = omega arith
+event-below DeliveryOf m count l = omega arith
+event-below NeededDelivery m count l = omega arith
+event-below NeededSend m count l = omega arith
+event-below AnyDelivery m count l = omega arith
+event-below AnySend m count l = omega arith
 
 -- the message of a step chosen is below the count
 pub below-send : (count : ℕ) (r : Choice) (m : ℕ) → r ≡ choice.Send m → Below count r → m < count

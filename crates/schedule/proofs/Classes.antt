@@ -2,18 +2,20 @@
 use mathlib.Core.Path.{_≡_, refl, sym, _∙_, ap, ap₂, subst, subst⁻¹}
 use mathlib.Core.Bool.{Bool, true, false, not, _&&_}
 use borrow.Author.Tests.{not-true, not-false}
+use mathlib.Core.Logic.{_⊎_, ⊎-elim}
 use mathlib.Core.Option.{none, some}
-use mathlib.Core.List.{List}
+use mathlib.Core.List.{List, [], _∷_}
 use Prim.Native.Nat.{ℕ, zero, suc, _+_, _*_, _<_, _≤_}
 use native.Mathlib.Omega.{arith}
 use native.Mathlib.Decide.{ℕ-discrete, decLt}
 use lib.ListN.{length, getD, set}
 use lib.Dec.{eqb}
+use denote.Enum.Declared.{tagOf}
 use Rattle.model.specs.Bounded.{lowest}
 use Rattle.model.specs.Limits.{messagesMost}
 use Rattle.model.specs.Run.{send, deliver, consume, allowed}
 use Rattle.model.proofs.Bounded.{lowest-hit, lowest-miss}
-use Rattle.model.specs.Order.{sendOf, receiveOf, event, atOrBefore}
+use Rattle.model.specs.Order.{event, atOrBefore}
 use Rattle.relation.specs.Width.{width, wordBits}
 use Rattle.relation.specs.Rows.{holds}
 use Rattle.relation.specs.Scenario.{scenarioIn}
@@ -26,6 +28,7 @@ use Rattle.channel.specs.Table.{channelIn}
 use Rattle.channel.specs.State.{bufferOf, stateOf, Follows}
 use Rattle.channel.specs.Masks.{boardsMost, BoardsBelow}
 use Rattle.channel.specs.Steps.{SaysSend, SaysDeliver, SaysConsume}
+use Rattle.schedule.proofs.Class.{the-type}
 use Rattle.schedule.specs.declared.Class.{Class}
 use Rattle.schedule.specs.declared.Class.the-variants.{AnyConsume, DeliveryOf, NeededDelivery, NeededSend, AnyDelivery, AnySend}
 use Rattle.schedule.specs.declared.Choice.{Choice}
@@ -49,31 +52,53 @@ module _ (count : ℕ) (boards words : List ℕ) (e : ℕ) (q : Class) (m : ℕ)
       h ∙ ap₂ (λ x y. atOrBefore (scenarioIn count boards words) x y) (send-event m) (send-event e)
       ∙ ap (λ k. (classIn (scenarioIn count boards words) e k) .takes m) (sym i)
 
+-- The arm of a match that several classes share: what holds of each of them holds of the class at hand.
+abbrev pub Delivers : Class → Type 0
+Delivers q = (tagOf the-type q ≡ 1) ⊎ ((tagOf the-type q ≡ 2) ⊎ (tagOf the-type q ≡ 4))
+
+abbrev pub Sends : Class → Type 0
+Sends q = (tagOf the-type q ≡ 3) ⊎ (tagOf the-type q ≡ 5)
+
+-- a class is known by its tag
+abbrev classAt : ℕ → Class
+classAt n = getD (AnyConsume ∷ DeliveryOf ∷ NeededDelivery ∷ NeededSend ∷ AnyDelivery ∷ AnySend ∷ []) n AnyConsume
+
+class-at : (q : Class) → classAt (tagOf the-type q) ≡ q
+class-at AnyConsume = refl
+class-at DeliveryOf = refl
+class-at NeededDelivery = refl
+class-at NeededSend = refl
+class-at AnyDelivery = refl
+class-at AnySend = refl
+
+class-of : (q k : Class) → tagOf the-type q ≡ tagOf the-type k → q ≡ k
+class-of q k t = sym (class-at q) ∙ ap classAt t ∙ class-at k
+
+module _ (P : Class → Type 0) (q : Class) where
+  of-tag : (k : Class) → P k → tagOf the-type q ≡ tagOf the-type k → P q
+  of-tag k p t = subst⁻¹ P (class-of q k t) p
+
+  pub if-delivers : P DeliveryOf → P NeededDelivery → P AnyDelivery → Delivers q → P q
+  if-delivers one needed other t =
+      ⊎-elim (of-tag DeliveryOf one) (⊎-elim (of-tag NeededDelivery needed) (of-tag AnyDelivery other)) t
+
+  pub if-sends : P NeededSend → P AnySend → Sends q → P q
+  if-sends needed other t = ⊎-elim (of-tag NeededSend needed) (of-tag AnySend other) t
+
 -- What each return of `may` is to show: the class's step is the one tested.
 module _ (count : ℕ) (boards words : List ℕ) (c : Channel) (done way : List ℕ) (buffer : Buffer) (q : Class) (m : ℕ) (r : Bool) where
-  of-class : (k : Class) → q ≡ k → SaysStep count boards words c done way buffer k m r → SaysStep count boards words c done way buffer q m r
-  of-class k i h = subst⁻¹ (λ (j : Class). SaysStep count boards words c done way buffer j m r) i h
+  abbrev Says : Class → Type 0
+  Says k = SaysStep count boards words c done way buffer k m r
 
   pub says-consume : q ≡ AnyConsume → SaysConsume count boards words done buffer m r → SaysStep count boards words c done way buffer q m r
-  says-consume i h = of-class AnyConsume i (λ run d w b e. h c run d b)
+  says-consume i h = subst⁻¹ Says i (λ run d w b e. h c run d b)
 
-  pub says-one : q ≡ DeliveryOf → SaysDeliver count boards words c way buffer m r → SaysStep count boards words c done way buffer q m r
-  says-one i h = of-class DeliveryOf i (λ run d w b e. h run w b)
+  pub says-deliver : Delivers q → SaysDeliver count boards words c way buffer m r → SaysStep count boards words c done way buffer q m r
+  says-deliver t h =
+      if-delivers Says q (λ run d w b e. h run w b) (λ run d w b e. h run w b) (λ run d w b e. h run w b) t
 
-  pub says-needed-delivery : q ≡ NeededDelivery → SaysDeliver count boards words c way buffer m r
-      → SaysStep count boards words c done way buffer q m r
-  says-needed-delivery i h = of-class NeededDelivery i (λ run d w b e. h run w b)
-
-  pub says-delivery : q ≡ AnyDelivery → SaysDeliver count boards words c way buffer m r
-      → SaysStep count boards words c done way buffer q m r
-  says-delivery i h = of-class AnyDelivery i (λ run d w b e. h run w b)
-
-  pub says-needed-send : q ≡ NeededSend → SaysSend count boards words c done way buffer m r
-      → SaysStep count boards words c done way buffer q m r
-  says-needed-send i h = of-class NeededSend i (λ run d w b e. h run d w b)
-
-  pub says-send : q ≡ AnySend → SaysSend count boards words c done way buffer m r → SaysStep count boards words c done way buffer q m r
-  says-send i h = of-class AnySend i (λ run d w b e. h run d w b)
+  pub says-send : Sends q → SaysSend count boards words c done way buffer m r → SaysStep count boards words c done way buffer q m r
+  says-send t h = if-sends Says q (λ run d w b e. h run d w b) (λ run d w b e. h run d w b) t
 
 -- The search of a class: no message below m fits, of those that there are.
 module _ (count : ℕ) (boards words : List ℕ) (c : Channel) (run : Run) (e : ℕ) (q : Class) where
@@ -146,40 +171,22 @@ module _ (q : Class) (m : ℕ) where
   pub step-consume : q ≡ AnyConsume → choice.Consume m ≡ stepIn q m
   step-consume i = rw i
 
-  pub step-one : q ≡ DeliveryOf → choice.Deliver m ≡ stepIn q m
-  step-one i = rw i
+  pub step-deliver : Delivers q → choice.Deliver m ≡ stepIn q m
+  step-deliver t = if-delivers (λ (k : Class). choice.Deliver m ≡ stepIn k m) q refl refl refl t
 
-  pub step-needed-delivery : q ≡ NeededDelivery → choice.Deliver m ≡ stepIn q m
-  step-needed-delivery i = rw i
-
-  pub step-needed-send : q ≡ NeededSend → choice.Send m ≡ stepIn q m
-  step-needed-send i = rw i
-
-  pub step-delivery : q ≡ AnyDelivery → choice.Deliver m ≡ stepIn q m
-  step-delivery i = rw i
-
-  pub step-send : q ≡ AnySend → choice.Send m ≡ stepIn q m
-  step-send i = rw i
+  pub step-send : Sends q → choice.Send m ≡ stepIn q m
+  step-send t = if-sends (λ (k : Class). choice.Send m ≡ stepIn k m) q refl refl t
 
 -- What each return of `event_of` is to show.
 module _ (q : Class) (m : ℕ) where
-  pub event-consume : q ≡ AnyConsume → 2 * m + 1 ≡ eventIn q m
-  event-consume i = rw i
+  pub event-receive : (tagOf the-type q ≡ 0) ⊎ Delivers q → 2 * m + 1 ≡ eventIn q m
+  event-receive t = ⊎-elim (of-tag Receives q AnyConsume refl) (if-delivers Receives q refl refl refl) t
+    where
+      Receives : Class → Type 0
+      Receives k = 2 * m + 1 ≡ eventIn k m
 
-  pub event-one : q ≡ DeliveryOf → 2 * m + 1 ≡ eventIn q m
-  event-one i = rw i
-
-  pub event-needed-delivery : q ≡ NeededDelivery → 2 * m + 1 ≡ eventIn q m
-  event-needed-delivery i = rw i
-
-  pub event-needed-send : q ≡ NeededSend → 2 * m ≡ eventIn q m
-  event-needed-send i = rw i
-
-  pub event-delivery : q ≡ AnyDelivery → 2 * m + 1 ≡ eventIn q m
-  event-delivery i = rw i
-
-  pub event-send : q ≡ AnySend → 2 * m ≡ eventIn q m
-  event-send i = rw i
+  pub event-send : Sends q → 2 * m ≡ eventIn q m
+  event-send t = if-sends (λ (k : Class). 2 * m ≡ eventIn k m) q refl refl t
 
 -- the event of a message of the scenario is one of its events
 pub event-below : (q : Class) (m count : ℕ) → m < count → eventIn q m < 2 * count

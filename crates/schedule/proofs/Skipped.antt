@@ -1,21 +1,21 @@
 -- The messages that the search of a class passes over: rows built word by word, and that a message which is not in the row of
 -- candidates has no allowed step. Assumes nothing.
 use mathlib.Core.Path.{_≡_, refl, sym, ap, _∙_, subst⁻¹}
-use mathlib.Core.Bool.{Bool, true, false, not, _&&_, _||_, and-false, or-false}
+use mathlib.Core.Bool.{Bool, true, false, not, _&&_, _||_, and-false}
 use mathlib.Core.List.{List, [], _∷_}
 use Prim.Native.Nat.{ℕ, zero, suc, _+_, _-_, _*_, _/_, _%_, _^_, _<_, _≤_}
-use native.Mathlib.Nat.{div-one, mod-lt, zero-lt-suc, not-suc-le-zero, le-of-suc-le-suc}
+use native.Mathlib.Nat.{div-one, not-suc-le-zero, le-of-suc-le-suc}
 use native.Mathlib.Decide.{ℕ-discrete, decLt}
 use native.Mathlib.Omega.{arith}
 use lib.Bits.{bitAnd}
 use lib.Count.{trailingZeros, under}
 use lib.Dec.{eqb}
-use lib.ListN.{length, getD, set, length-set, replicate}
+use lib.ListN.{length, getD, set, length-set}
 use lib.Pow.{shr-shr}
 use lib.Seq.{getD-set-same, getD-set-other}
 use borrow.Author.Tests.{eq-eqb, ne-eqb}
 use Rattle.model.specs.Limits.{boards, messagesMost}
-use Rattle.model.specs.Order.{sendOf, number, messageOf, atOrBefore, Scenario}
+use Rattle.model.specs.Order.{sendOf, number, atOrBefore, Scenario}
 use Rattle.model.specs.Run.{ready, allowed, send, deliver, consume}
 use Rattle.model.specs.Channel as model
 use Rattle.relation.specs.Width.{width, wordBits}
@@ -32,7 +32,8 @@ use Rattle.channel.specs.State.{inRow, bufferOf, stateOf}
 use Rattle.channel.proofs.Words.{has-and, has-not}
 use Rattle.channel.proofs.Rows.{alone-row}
 use Rattle.schedule.specs.declared.Class.{Class}
-use Rattle.schedule.specs.declared.Class.the-variants.{AnyConsume, DeliveryOf, NeededDelivery, NeededSend, AnyDelivery, AnySend}
+use Rattle.schedule.specs.declared.Class.the-variants.{AnyConsume, NeededSend, AnySend}
+use Rattle.schedule.proofs.Classes.{Delivers, if-delivers}
 use Rattle.schedule.specs.Bridge.{fits, HeldAnywhere, Undone, Needed, Candidates, NoneAhead}
 
 or-left-false : (a b : Bool) → (a || b) ≡ false → a ≡ false
@@ -225,16 +226,13 @@ module _ (words : List ℕ) (run : Run) (e : ℕ) (q : Class) (row : List ℕ) w
   candidates-held i h =
       of-class AnyConsume i (λ m l clear count on c. not-held (scenarioIn count on words) (channelIn c) m (h (2 * m) (omega arith) clear (getD on (2 * m + 1) 0)))
 
-  pub candidates-one : q ≡ DeliveryOf → row ≡ run .way → Candidates words run e q row
-  candidates-one i r =
-      of-class DeliveryOf i (λ m l clear count on c. rw (not-under-way r (scenarioIn count on words) (channelIn c) m clear, and-false))
-
-  pub candidates-needed-delivery : q ≡ NeededDelivery → row ≡ run .way → Candidates words run e q row
-  candidates-needed-delivery i r =
-      of-class NeededDelivery i (λ m l clear count on c. rw (not-under-way r (scenarioIn count on words) (channelIn c) m clear, and-false))
-
-  pub candidates-delivery : q ≡ AnyDelivery → row ≡ run .way → Candidates words run e q row
-  candidates-delivery i r = of-class AnyDelivery i (λ m l clear count on c. not-under-way r (scenarioIn count on words) (channelIn c) m clear)
+  pub candidates-delivery : Delivers q → row ≡ run .way → Candidates words run e q row
+  candidates-delivery t r =
+      if-delivers (λ (k : Class). Candidates words run e k row) q
+      (λ m l clear count on c. rw (not-under-way r (scenarioIn count on words) (channelIn c) m clear, and-false))
+      (λ m l clear count on c. rw (not-under-way r (scenarioIn count on words) (channelIn c) m clear, and-false))
+      (λ m l clear count on c. not-under-way r (scenarioIn count on words) (channelIn c) m clear)
+      t
 
   pub candidates-send : q ≡ AnySend → Undone (run .done) row → Candidates words run e q row
   candidates-send i u =

@@ -92,30 +92,12 @@ fn may<'a>(
 {
     match class {
         Class::AnyConsume => channel::may_consume(words, masks, boards, count, done, buffer, m),
-        Class::DeliveryOf => channel::may_deliver(words, masks, boards, count, c, way, buffer, m),
-        Class::NeededDelivery => channel::may_deliver(
-            words,
-            masks,
-            boards,
-            count,
-            c,
-            way,
-            buffer,
-            m,
-        ),
-        Class::NeededSend => channel::may_send(
-            words,
-            masks,
-            boards,
-            count,
-            c,
-            done,
-            way,
-            buffer,
-            m,
-        ),
-        Class::AnyDelivery => channel::may_deliver(words, masks, boards, count, c, way, buffer, m),
-        Class::AnySend => channel::may_send(words, masks, boards, count, c, done, way, buffer, m),
+        Class::DeliveryOf | Class::NeededDelivery | Class::AnyDelivery => {
+            channel::may_deliver(words, masks, boards, count, c, way, buffer, m)
+        }
+        Class::NeededSend | Class::AnySend => {
+            channel::may_send(words, masks, boards, count, c, done, way, buffer, m)
+        }
     }
 }
 
@@ -151,12 +133,9 @@ fn event_of(class: Class, m: usize) -> usize
     let send = 2 * m;
     let receive = send + 1;
     match class {
-        Class::AnyConsume => receive,
-        Class::DeliveryOf => receive,
-        Class::NeededDelivery => receive,
-        Class::NeededSend => send,
-        Class::AnyDelivery => receive,
-        Class::AnySend => send,
+        Class::AnyConsume | Class::DeliveryOf | Class::NeededDelivery | Class::AnyDelivery =>
+            receive,
+        Class::NeededSend | Class::AnySend => send,
     }
 }
 
@@ -224,10 +203,8 @@ fn candidates(words: &[u64], run: Run, e: usize, class: Class) -> [u64; WIDTH]
     let way = run.way;
     match class {
         Class::AnyConsume => held_anywhere(run),
-        Class::DeliveryOf => way,
-        Class::NeededDelivery => way,
+        Class::DeliveryOf | Class::NeededDelivery | Class::AnyDelivery => way,
         Class::NeededSend => needed(words, e, undone(done)),
-        Class::AnyDelivery => way,
         Class::AnySend => undone(done),
     }
 }
@@ -287,11 +264,8 @@ fn step_of(class: Class, m: usize) -> Choice
 {
     match class {
         Class::AnyConsume => Choice::Consume(m),
-        Class::DeliveryOf => Choice::Deliver(m),
-        Class::NeededDelivery => Choice::Deliver(m),
-        Class::NeededSend => Choice::Send(m),
-        Class::AnyDelivery => Choice::Deliver(m),
-        Class::AnySend => Choice::Send(m),
+        Class::DeliveryOf | Class::NeededDelivery | Class::AnyDelivery => Choice::Deliver(m),
+        Class::NeededSend | Class::AnySend => Choice::Send(m),
     }
 }
 

@@ -3,20 +3,23 @@ use mathlib.Core.Path.{_≡_}
 use mathlib.Core.Bool.{Bool, true, false, _&&_}
 use mathlib.Core.List.{List, _++_}
 use mathlib.Core.Option.{Option, none, some}
-use Prim.Native.Nat.{ℕ, _+_, _*_, _<_}
+use Prim.Native.Nat.{ℕ, _+_, _*_, _<_, _≤_}
 use lib.ListN.{length, drop, getD}
+use Rattle.model.specs.Limits.{messagesMost}
 use Rattle.model.specs.Bounded.{lowest}
 use Rattle.model.specs.Order.{Scenario}
 use Rattle.model.specs.Channel as model
 use Rattle.model.specs.Run.{Step, send, deliver, consume, allowed}
 use Rattle.model.specs.Schedule as plan
 use Rattle.model.specs.Schedule.{schedule, bytesOf}
+use Rattle.relation.specs.Width.{width, wordBits}
+use Rattle.relation.specs.Rows.{holds}
 use Rattle.relation.specs.Scenario.{scenarioIn}
 use Rattle.channel.specs.declared.Buffer.{Buffer}
 use Rattle.channel.specs.declared.Channel.{Channel}
 use Rattle.channel.specs.declared.Run.{Run}
 use Rattle.channel.specs.Table.{channelIn}
-use Rattle.channel.specs.State.{bufferOf, stateOf, Follows}
+use Rattle.channel.specs.State.{inRow, bufferOf, stateOf, Follows}
 use Rattle.schedule.specs.declared.Class.{Class}
 use Rattle.schedule.specs.declared.Class.the-variants.{AnyConsume, DeliveryOf, NeededDelivery, NeededSend, AnyDelivery, AnySend}
 use Rattle.schedule.specs.declared.Found.{Found}
@@ -50,11 +53,19 @@ Below count (choice.Deliver m) = m < count
 Below count (choice.Consume m) = m < count
 Below count choice.Nothing = Unit {0}
 
+-- the event of the class's step on message m
+abbrev pub eventIn : Class → ℕ → ℕ
+eventIn AnyConsume m = 2 * m + 1
+eventIn DeliveryOf m = 2 * m + 1
+eventIn NeededDelivery m = 2 * m + 1
+eventIn NeededSend m = 2 * m
+eventIn AnyDelivery m = 2 * m + 1
+eventIn AnySend m = 2 * m
+
 -- the class's step on message m is allowed, in the state of every run with these pieces
-abbrev pub SaysStep : ℕ → List ℕ → List ℕ → Channel → List ℕ → List ℕ → Buffer → Buffer → Class → ℕ → Bool → Type 0
-SaysStep count boards words c done way source target class m r =
-    (run : Run) → run .done ≡ done → run .way ≡ way → bufferOf run (getD boards (2 * m) 0) ≡ source
-    → bufferOf run (getD boards (2 * m + 1) 0) ≡ target → (e : ℕ)
+abbrev pub SaysStep : ℕ → List ℕ → List ℕ → Channel → List ℕ → List ℕ → Buffer → Class → ℕ → Bool → Type 0
+SaysStep count boards words c done way buffer class m r =
+    (run : Run) → run .done ≡ done → run .way ≡ way → bufferOf run (getD boards (eventIn class m) 0) ≡ buffer → (e : ℕ)
     → r ≡ allowed (scenarioIn count boards words) (channelIn c) (stateOf run) ((classIn (scenarioIn count boards words) e class) .step m)
 
 -- message m is of the class, and its step is allowed
@@ -64,10 +75,34 @@ fits count boards words c run e class m =
     && allowed (scenarioIn count boards words) (channelIn c) (stateOf run) ((classIn (scenarioIn count boards words) e class) .step m)
 
 -- the same, of every run with these pieces
-abbrev pub SaysFits : ℕ → List ℕ → List ℕ → Channel → List ℕ → List ℕ → Buffer → Buffer → ℕ → Class → ℕ → Bool → Type 0
-SaysFits count boards words c done way source target e class m r =
-    (run : Run) → run .done ≡ done → run .way ≡ way → bufferOf run (getD boards (2 * m) 0) ≡ source
-    → bufferOf run (getD boards (2 * m + 1) 0) ≡ target → r ≡ fits count boards words c run e class m
+abbrev pub SaysFits : ℕ → List ℕ → List ℕ → Channel → List ℕ → List ℕ → Buffer → ℕ → Class → ℕ → Bool → Type 0
+SaysFits count boards words c done way buffer e class m r =
+    (run : Run) → run .done ≡ done → run .way ≡ way → bufferOf run (getD boards (eventIn class m) 0) ≡ buffer
+    → r ≡ fits count boards words c run e class m
+
+-- an event that is not in the row is in no buffer
+abbrev pub HeldAnywhere : Run → List ℕ → Type 0
+HeldAnywhere run row = (k : ℕ) → k < wordBits * width → inRow row k ≡ false → (b : ℕ) → inRow (bufferOf run b .held) k ≡ false
+
+-- an event that is not in the row is done
+abbrev pub Undone : List ℕ → List ℕ → Type 0
+Undone done row = (k : ℕ) → k < wordBits * width → inRow row k ≡ false → inRow done k ≡ true
+
+-- an event that is not in the row kept was not in the row, or is neither e's send nor before it
+abbrev pub Needed : List ℕ → ℕ → List ℕ → List ℕ → Type 0
+Needed words e row kept =
+    (k : ℕ) → k < wordBits * width → inRow kept k ≡ false → ((inRow row k && holds width words (2 * e) k) ≡ false) × (k ≡ 2 * e → ⊥)
+
+-- a message that is not in the row has no allowed step of the class
+abbrev pub Candidates : List ℕ → Run → ℕ → Class → List ℕ → Type 0
+Candidates words run e class row =
+    (m : ℕ) → m < messagesMost → inRow row (2 * m) ≡ false
+    → (count : ℕ) (boards : List ℕ) (c : Channel) → fits count boards words c run e class m ≡ false
+
+-- none of the r messages from m on is in the row
+pub record NoneAhead (row : List ℕ) (m r : ℕ) : Type 0 where
+  pub few : r ≤ wordBits
+  pub absent : (j : ℕ) → m ≤ j → j < m + r → inRow row (2 * j) ≡ false
 
 -- the lowest message that does
 abbrev pub Lowest : ℕ → List ℕ → List ℕ → Channel → Run → ℕ → Class → Found → Type 0

@@ -2,11 +2,13 @@
 ghost use mathlib.Core.Path.{_≡_};
 ghost use Prim.Native.Nat.{_+_, _*_, _<_, _≤_};
 ghost use lib.ListN.{length, getD, set};
+ghost use Rattle.relation.specs.Width.{width};
+ghost use Rattle.relation.specs.Rows.{joinedFrom};
 ghost use Rattle.relation.specs.Scenario.{scenarioIn};
 ghost use Rattle.race.specs.Bridge.{Lent};
 ghost use Rattle.model.specs.Limits.{messagesMost};
 ghost use Rattle.channel.specs.Masks.{boardsMost, BoardsBelow, Standing};
-ghost use Rattle.schedule.specs.Bridge.{classIn, Lowest, SaysStep, SaysFits, stepIn, Below, Chosen, isNothing, kindIn, messageIn, Moved, Scheduled};
+ghost use Rattle.schedule.specs.Bridge.{classIn, eventIn, HeldAnywhere, Undone, Needed, Candidates, NoneAhead, Lowest, SaysStep, SaysFits, stepIn, Below, Chosen, isNothing, kindIn, messageIn, Moved, Scheduled};
 ghost use Rattle.channel.specs.Table.{channelIn};
 use channel::Buffer;
 use channel::Channel;
@@ -24,6 +26,9 @@ pub enum Class {
 }
 
 const CLASS_COUNT: usize = 6;
+
+// The bits of a word.
+const WORD_BITS: usize = 64;
 
 const CLASSES: [Class; CLASS_COUNT] = [
     Class::AnyConsume,
@@ -67,8 +72,8 @@ fn takes(words: &[u64], boards: &[u8], count: usize, e: usize, class: Class, m: 
     }
 }
 
-// Message m's step of the class is allowed. It reads the pieces of a run: what is done, what is under way, and the buffers of
-// the message's two boards.
+// Message m's step of the class is allowed. It reads the pieces of a run: what is done, what is under way, and the buffer of
+// the step's board.
 fn may<'a>(
     words: &[u64],
     masks: &[u64],
@@ -77,41 +82,22 @@ fn may<'a>(
     c: Channel,
     done: &'a [u64; WIDTH],
     way: &'a [u64; WIDTH],
-    source: Buffer,
-    target: Buffer,
+    buffer: Buffer,
     class: Class,
     m: usize,
 ) -> bool
     requires { ⌜ Standing count (now boards) (now words) (now masks) ⌝ }
     requires { ⌜ m < count ⌝ }
-    ensures { λ r. ⌜ SaysStep count (now (boards .entry)) (now (words .entry)) c (now (done .entry)) (now (way .entry)) source target class m r ⌝ }
+    ensures { λ r. ⌜ SaysStep count (now (boards .entry)) (now (words .entry)) c (now (done .entry)) (now (way .entry)) buffer class m r ⌝ }
 {
     match class {
-        Class::AnyConsume => channel::may_consume(words, masks, boards, count, done, target, m),
-        Class::DeliveryOf => channel::may_deliver(words, masks, boards, count, c, way, target, m),
-        Class::NeededDelivery => channel::may_deliver(
-            words,
-            masks,
-            boards,
-            count,
-            c,
-            way,
-            target,
-            m,
-        ),
-        Class::NeededSend => channel::may_send(
-            words,
-            masks,
-            boards,
-            count,
-            c,
-            done,
-            way,
-            source,
-            m,
-        ),
-        Class::AnyDelivery => channel::may_deliver(words, masks, boards, count, c, way, target, m),
-        Class::AnySend => channel::may_send(words, masks, boards, count, c, done, way, source, m),
+        Class::AnyConsume => channel::may_consume(words, masks, boards, count, done, buffer, m),
+        Class::DeliveryOf | Class::NeededDelivery | Class::AnyDelivery => {
+            channel::may_deliver(words, masks, boards, count, c, way, buffer, m)
+        }
+        Class::NeededSend | Class::AnySend => {
+            channel::may_send(words, masks, boards, count, c, done, way, buffer, m)
+        }
     }
 }
 
@@ -124,32 +110,33 @@ fn fits_class<'a>(
     c: Channel,
     done: &'a [u64; WIDTH],
     way: &'a [u64; WIDTH],
-    source: Buffer,
-    target: Buffer,
+    buffer: Buffer,
     e: usize,
     class: Class,
     m: usize,
 ) -> bool
     requires { ⌜ Standing count (now boards) (now words) (now masks) ⌝ }
     requires { ⌜ (e < count) × (m < count) ⌝ }
-    ensures { λ r. ⌜ SaysFits count (now (boards .entry)) (now (words .entry)) c (now (done .entry)) (now (way .entry)) source target e class m r ⌝ }
+    ensures { λ r. ⌜ SaysFits count (now (boards .entry)) (now (words .entry)) c (now (done .entry)) (now (way .entry)) buffer e class m r ⌝ }
 {
     if !takes(words, boards, count, e, class, m) {
         return false;
     }
-    may(
-        words,
-        masks,
-        boards,
-        count,
-        c,
-        done,
-        way,
-        source,
-        target,
-        class,
-        m,
-    )
+    may(words, masks, boards, count, c, done, way, buffer, class, m)
+}
+
+// The event of the class's step on message m: its send, or, to deliver or to consume it, its receive.
+fn event_of(class: Class, m: usize) -> usize
+    requires { ⌜ m < messagesMost ⌝ }
+    ensures { λ r. ⌜ r ≡ eventIn class m ⌝ }
+{
+    let send = 2 * m;
+    let receive = send + 1;
+    match class {
+        Class::AnyConsume | Class::DeliveryOf | Class::NeededDelivery | Class::AnyDelivery =>
+            receive,
+        Class::NeededSend | Class::AnySend => send,
+    }
 }
 
 // The board of event x.
@@ -159,6 +146,80 @@ fn board_of(boards: &[u8], count: usize, x: usize) -> usize
     ensures { λ r. ⌜ (r ≡ getD (now (boards .entry)) x 0) × (r < boardsMost) ⌝ }
 {
     boards[x] as usize
+}
+
+// The row gains the messages of a buffer.
+fn join_held(row: &mut [u64; WIDTH], buffer: Buffer)
+    ensures { λ _. ⌜ now (row .exit) ≡ joinedFrom width (now (row .entry)) 0 (buffer .held) 0 ⌝ }
+{
+    relation::join_from(row, 0, &buffer.held, 0);
+}
+
+// The messages that some buffer holds.
+fn held_anywhere(run: Run) -> [u64; WIDTH]
+    ensures { λ r. ⌜ HeldAnywhere run r ⌝ }
+{
+    let mut held = [0u64; WIDTH];
+    for b in 0..model::BOARDS {
+        let buffer = run.buffers[b];
+        join_held(&mut held, buffer);
+    }
+    held
+}
+
+// The events that are not done.
+fn undone(done: [u64; WIDTH]) -> [u64; WIDTH]
+    ensures { λ r. ⌜ Undone done r ⌝ }
+{
+    let mut rest = done;
+    for i in 0..WIDTH {
+        rest[i] = !rest[i];
+    }
+    rest
+}
+
+// The events of a row that are before e's send, and e's send.
+fn needed(words: &[u64], e: usize, row: [u64; WIDTH]) -> [u64; WIDTH]
+    requires { ⌜ (e < messagesMost) × (2 * e * width + width ≤ length (now words)) ⌝ }
+    ensures { λ r. ⌜ Needed (now (words .entry)) e row r ⌝ }
+{
+    let send = 2 * e;
+    let from = send * WIDTH;
+    let mut kept = row;
+    for i in 0..WIDTH {
+        let at = from + i;
+        kept[i] = kept[i] & words[at];
+    }
+    relation::mark(&mut kept, 0, send);
+    kept
+}
+
+// The messages whose step of the class can be allowed at all, as bits of their sends: in a buffer, under way, or not yet sent.
+fn candidates(words: &[u64], run: Run, e: usize, class: Class) -> [u64; WIDTH]
+    requires { ⌜ (e < messagesMost) × (2 * e * width + width ≤ length (now words)) ⌝ }
+    ensures { λ r. ⌜ Candidates (now (words .entry)) run e class r ⌝ }
+{
+    let done = run.done;
+    let way = run.way;
+    match class {
+        Class::AnyConsume => held_anywhere(run),
+        Class::DeliveryOf | Class::NeededDelivery | Class::AnyDelivery => way,
+        Class::NeededSend => needed(words, e, undone(done)),
+        Class::AnySend => undone(done),
+    }
+}
+
+// How many messages from m on are none of the row's, as far as m's word tells.
+fn none_ahead(row: &[u64; WIDTH], m: usize) -> usize
+    requires { ⌜ m < messagesMost ⌝ }
+    ensures { λ r. ⌜ NoneAhead (now (row .entry)) m r ⌝ }
+{
+    let send = 2 * m;
+    let at = send / WORD_BITS;
+    let bit = send % WORD_BITS;
+    let clear = u64::trailing_zeros(row[at] >> bit) as usize;
+    let left = WORD_BITS - bit;
+    if clear < left { clear / 2 } else { left / 2 }
 }
 
 // The lowest message of the class whose step is allowed.
@@ -176,28 +237,22 @@ fn lowest(
     requires { ⌜ e < count ⌝ }
     ensures { λ r. ⌜ Lowest count (now (boards .entry)) (now (words .entry)) c run e class r ⌝ }
 {
-    for m in 0..count {
-        let send = 2 * m;
-        let receive = send + 1;
-        let source = board_of(boards, count, send);
-        let target = board_of(boards, count, receive);
-        let from = run.buffers[source];
-        let into = run.buffers[target];
-        if fits_class(
-            words,
-            masks,
-            boards,
-            count,
-            c,
-            &run.done,
-            &run.way,
-            from,
-            into,
-            e,
-            class,
-            m,
-        ) {
-            return Found::Message(m);
+    let done = run.done;
+    let way = run.way;
+    let among = candidates(words, run, e, class);
+    let mut m = 0;
+    while m < count {
+        let ahead = none_ahead(&among, m);
+        if ahead == 0 {
+            let x = event_of(class, m);
+            let board = board_of(boards, count, x);
+            let at = run.buffers[board];
+            if fits_class(words, masks, boards, count, c, &done, &way, at, e, class, m) {
+                return Found::Message(m);
+            }
+            m = m + 1;
+        } else {
+            m = m + ahead;
         }
     }
     Found::Nothing
@@ -209,11 +264,8 @@ fn step_of(class: Class, m: usize) -> Choice
 {
     match class {
         Class::AnyConsume => Choice::Consume(m),
-        Class::DeliveryOf => Choice::Deliver(m),
-        Class::NeededDelivery => Choice::Deliver(m),
-        Class::NeededSend => Choice::Send(m),
-        Class::AnyDelivery => Choice::Deliver(m),
-        Class::AnySend => Choice::Send(m),
+        Class::DeliveryOf | Class::NeededDelivery | Class::AnyDelivery => Choice::Deliver(m),
+        Class::NeededSend | Class::AnySend => Choice::Send(m),
     }
 }
 

@@ -1,58 +1,20 @@
 -- `schedule::step_of` meets its contract, class by class. Assumes nothing.
 use borrow.Author.Needs.{needs}
-use Rattle.schedule.proofs.Classes.{step-consume, step-one, step-needed-delivery, step-needed-send, step-delivery, step-send}
+use Rattle.schedule.proofs.Classes.{step-consume, step-deliver, step-send}
 use Rattle.schedule.proofs.step_of.Statement.{statement}
 use Rattle.schedule.proofs.step_of.Tie as tie
 
 enum-told : tie.Need-enum-told
 enum-told c = search needs
 
-enum-told-2 : tie.Need-enum-told-2
-enum-told-2 c = search needs
-
-enum-told-3 : tie.Need-enum-told-3
-enum-told-3 c = search needs
-
-enum-told-4 : tie.Need-enum-told-4
-enum-told-4 c = search needs
-
-enum-told-5 : tie.Need-enum-told-5
-enum-told-5 c = search needs
-
-enum-told-6 : tie.Need-enum-told-6
-enum-told-6 c = search needs
-
 returns : tie.Need-returns
 returns c = search step-consume
 
 returns-2 : tie.Need-returns-2
-returns-2 c = search step-one
+returns-2 c = search step-deliver
 
 returns-3 : tie.Need-returns-3
-returns-3 c = search step-needed-delivery
-
-returns-4 : tie.Need-returns-4
-returns-4 c = search step-needed-send
-
-returns-5 : tie.Need-returns-5
-returns-5 c = search step-delivery
-
-returns-6 : tie.Need-returns-6
-returns-6 c = search step-send
+returns-3 c = search step-send
 
 pub step-of-spec : {M : Type 1} → statement M
-step-of-spec =
-    tie.close
-    (tie.spec
-    enum-told
-    enum-told-2
-    enum-told-3
-    enum-told-4
-    enum-told-5
-    enum-told-6
-    returns
-    returns-2
-    returns-3
-    returns-4
-    returns-5
-    returns-6)
+step-of-spec = tie.close (tie.spec enum-told returns returns-2 returns-3)

@@ -75,10 +75,10 @@ trailing-clear (suc k) n i h = go (n % 2) refl i h (λ j g. trailing-clear k (n 
 pub none-ahead : (row : List ℕ) (m r : ℕ) → 2 * r ≤ trailingZeros wordBits (getD row (2 * m / wordBits) 0 / 2 ^ (2 * m % wordBits))
     → 2 * r ≤ wordBits - 2 * m % wordBits → NoneAhead row m r
 none-ahead row m r below inside =
-    record { few = omega arith; absent = λ j h l. absent j h l }
+    record { few = omega arith; absent = clear }
   where
-    absent : (j : ℕ) → m ≤ j → j < m + r → inRow row (2 * j) ≡ false
-    absent j h l =
+    clear : (j : ℕ) → m ≤ j → j < m + r → inRow row (2 * j) ≡ false
+    clear j h l =
         let word : 2 * j / wordBits ≡ 2 * m / wordBits = omega arith in
         let bit : 2 * j % wordBits ≡ 2 * m % wordBits + 2 * (j - m) = omega arith in
         alone-row width row (2 * j)

@@ -4,6 +4,7 @@ use lib.ListN.{getD}
 use borrow.Author.Needs.{needs}
 use native.Mathlib.Omega.{arith}
 use lib.Count.{trailing-le}
+use Rattle.relation.specs.Width.{wordBits}
 use Rattle.schedule.proofs.Skipped.{none-ahead}
 use Rattle.schedule.proofs.none_ahead.Statement.{statement}
 use Rattle.schedule.proofs.none_ahead.Tie as tie
@@ -22,7 +23,8 @@ shr-clear c = search needs
 
 cast-clear : tie.Need-cast-clear
 cast-clear c =
-    let few = trailing-le 64 (getD (c .before .args .row .now) (2 * c .before .args .m / 64) 0 / 2 ^ (2 * c .before .args .m % 64)) in
+    let a = c .before .args in
+    let few = trailing-le wordBits (getD (a .row .now) (2 * a .m / wordBits) 0 / 2 ^ (2 * a .m % wordBits)) in
     record { fits = omega arith }
 
 sub-left : tie.Need-sub-left

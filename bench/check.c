@@ -153,28 +153,38 @@ static void insert(walk *w, size_t x, size_t y) {
         }
 }
 
-static refusal walk_sheet(const sheet *s, size_t n, size_t left, walk *w) {
-    for (size_t row = s->start[n]; row < s->count && s->kind[row] != 'S'; row++) {
+static refusal walk_sheets(const sheet *s, walk *w) {
+    size_t from[LEVELS], level = 0;
+    for (size_t row = s->start[0];;) {
         uint32_t line = (uint32_t)row + 2;
-        switch (s->kind[row]) {
+        switch (row < s->count ? s->kind[row] : 'S') {
         case 'M':
             if (w->count == MESSAGES) return (refusal){10, line};
             message(w, s->one[row], s->two[row]);
+            row++;
             break;
-        case 'P': insert(w, 2 * w->first + s->one[row], 2 * w->first + s->two[row]); break;
-        case 'B': open_block(w); break;
-        default: {
-            if (left == 0) return (refusal){8, line};
+        case 'P':
+            insert(w, 2 * w->first + s->one[row], 2 * w->first + s->two[row]);
+            row++;
+            break;
+        case 'B':
+            open_block(w);
+            row++;
+            break;
+        case 'C':
+            if (level == LEVELS) return (refusal){8, line};
             if (w->calls == CALLS) return (refusal){9, line};
             w->calls++;
             open_block(w);
-            refusal r = walk_sheet(s, s->one[row], left - 1, w);
-            if (r.number) return r;
+            from[level++] = row;
+            row = s->start[s->one[row]];
+            break;
+        default:
+            if (level == 0) return (refusal){0, 0};
             open_block(w);
-        }
+            row = from[--level] + 1;
         }
     }
-    return (refusal){0, 0};
 }
 
 static refusal expand(const sheet *s, walk *w) {
@@ -182,7 +192,7 @@ static refusal expand(const sheet *s, walk *w) {
     memset(w->past, 0, sizeof w->past);
     memset(w->boards, 0, sizeof w->boards);
     w->calls = w->first = w->count = 0;
-    refusal r = walk_sheet(s, 0, LEVELS, w);
+    refusal r = walk_sheets(s, w);
     if (r.number) return r;
     for (size_t x = 0; x < 2 * w->count; x++)
         if (test(w->words, x, x)) return (refusal){11, 0};
@@ -266,24 +276,53 @@ static int may_consume(const walk *w, const masks *k, const run *r, size_t m) {
 
 /* ------------------------------------------------------------------ the schedule */
 
+/* the messages whose step of a class can be allowed at all, as bits of their sends */
+static const uint64_t sends = UINT64_C(0x5555555555555555);
+
+static void held_anywhere(const run *r, uint64_t row[W]) {
+    memset(row, 0, W * sizeof *row);
+    for (size_t b = 0; b < BOARDS; b++)
+        for (size_t i = 0; i < W; i++) row[i] |= r->held[b][i];
+}
+
+static void unsent(const run *r, uint64_t row[W]) {
+    for (size_t i = 0; i < W; i++) row[i] = ~r->done[i] & sends;
+}
+
+/* of those, the sends before e's, and e's */
+static void needed(const walk *w, size_t e, uint64_t row[W]) {
+    uint64_t own = row[2 * e / 64] & UINT64_C(1) << (2 * e % 64);
+    for (size_t i = 0; i < W; i++) row[i] &= w->words[2 * e * W + i];
+    row[2 * e / 64] |= own;
+}
+
 static int choose(const walk *w, const masks *k, channel c, const run *r, size_t e, uint8_t *kind, size_t *message) {
     size_t n = w->count, m;
+    uint64_t row[W];
+#define EACH(test) \
+    for (size_t i = 0; i < W; i++) \
+        for (uint64_t bits = row[i]; bits; bits &= bits - 1) { \
+            m = (64 * i + (size_t)__builtin_ctzll(bits)) / 2; \
+            if (m < n && (test)) return *message = m, 1; \
+        }
     *kind = 2;
-    for (m = 0; m < n; m++)
-        if (may_consume(w, k, r, m)) return *message = m, 1;
+    held_anywhere(r, row);
+    EACH(may_consume(w, k, r, m))
     *kind = 1;
     if (may_deliver(w, k, c, r, e)) return *message = e, 1;
-    for (m = 0; m < n; m++)
-        if (test(w->words, 2 * e, 2 * m + 1) && may_deliver(w, k, c, r, m)) return *message = m, 1;
+    memcpy(row, r->way, sizeof row);
+    EACH(test(w->words, 2 * e, 2 * m + 1) && may_deliver(w, k, c, r, m))
     *kind = 0;
-    for (m = 0; m < n; m++)
-        if (at_or_before(w, 2 * m, 2 * e) && may_send(w, k, c, r, m)) return *message = m, 1;
+    unsent(r, row);
+    needed(w, e, row);
+    EACH(may_send(w, k, c, r, m))
     *kind = 1;
-    for (m = 0; m < n; m++)
-        if (may_deliver(w, k, c, r, m)) return *message = m, 1;
+    memcpy(row, r->way, sizeof row);
+    EACH(may_deliver(w, k, c, r, m))
     *kind = 0;
-    for (m = 0; m < n; m++)
-        if (may_send(w, k, c, r, m)) return *message = m, 1;
+    unsent(r, row);
+    EACH(may_send(w, k, c, r, m))
+#undef EACH
     return 0;
 }
 

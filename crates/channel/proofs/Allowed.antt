@@ -14,8 +14,9 @@ use Rattle.model.specs.Bounded.{every}
 use Rattle.model.specs.Channel as model
 use Rattle.model.specs.Order.{Event, sendOf, receiveOf, number, event, messageOf, boardOf, board, Scenario}
 use Rattle.model.specs.Run.{everyEvent, isAhead, ready, bufferEmpty, boardFree, maySend, mayDeliver, send, allowed}
-use Rattle.model.proofs.Bounded.{and-left, and-right, and-both, every-at, every-from, which, not-is-true}
-use Rattle.model.proofs.Events.{event-number, number-event, below-number, below-event}
+use Rattle.model.proofs.Bounded.{and-left, and-right, every-at, every-from, which, not-is-true}
+use Rattle.model.proofs.Events.{event-number, number-event, send-event, receive-event, below-number, below-event}
+use Rattle.model.proofs.Rules.{everyEvent-at, everyEvent-from}
 use Rattle.relation.specs.Width.{width, wordBits}
 use Rattle.relation.specs.Rows.{holds}
 use Rattle.relation.specs.Scenario.{scenarioIn}
@@ -40,29 +41,20 @@ every-ext n p q h =
     (λ t. every-from n q (λ k l. sym (h k l) ∙ every-at n p t k l))
     (λ t. every-from n p (λ k l. h k l ∙ every-at n q t k l))
 
--- every event of the scenario, by its message
+-- every event of the scenario, by its number
 module _ (S : Scenario) (p : Event → Bool) where
-  everyEvent-at : everyEvent S p ≡ true → (x : Event) → messageOf x < S .count → p x ≡ true
-  unfolding everyEvent messageOf
-  everyEvent-at h (sendOf m) l = and-left (p (sendOf m)) (p (receiveOf m)) (every-at (S .count) _ h m l)
-  everyEvent-at h (receiveOf m) l = and-right (p (sendOf m)) (p (receiveOf m)) (every-at (S .count) _ h m l)
-
-  everyEvent-from : ((x : Event) → messageOf x < S .count → p x ≡ true) → everyEvent S p ≡ true
-  unfolding everyEvent messageOf
-  everyEvent-from h = every-from (S .count) _ (λ m l. and-both (p (sendOf m)) (p (receiveOf m)) (h (sendOf m) l) (h (receiveOf m) l))
-
   -- a test over n numbers that the events are among, and that no other number fails
   events-all : (n : ℕ) (q : ℕ → Bool) → 2 * S .count ≤ n → ((k : ℕ) → k < 2 * S .count → p (event k) ≡ q k)
       → ((k : ℕ) → 2 * S .count ≤ k → k < n → q k ≡ true) → everyEvent S p ≡ every n q
   events-all n q room agree rest =
       both-ways (everyEvent S p) (every n q)
       (λ t. every-from n q (λ k l. go t k l (decLt k (2 * S .count))))
-      (λ t. everyEvent-from (λ x l.
+      (λ t. everyEvent-from S p (λ x l.
       let b : number x < 2 * S .count = below-number x (S .count) .0 l in
       ap p (sym (event-number x)) ∙ agree (number x) b ∙ every-at n q t (number x) (omega arith)))
     where
       go : everyEvent S p ≡ true → (k : ℕ) → k < n → Dec (k < 2 * S .count) → q k ≡ true
-      go t k l (yes b) = sym (agree k b) ∙ everyEvent-at t (event k) (below-event k (S .count) b)
+      go t k l (yes b) = sym (agree k b) ∙ everyEvent-at S p t (event k) (below-event k (S .count) b)
       go t k l (no b) = rest k (omega arith) l
 
 -- a test over n numbers that only sends can fail, by messages
@@ -294,31 +286,23 @@ module _ (words masks : List ℕ) (rule : ToDeliver) (way : List ℕ) (target m 
 
 -- a step is allowed: the tests of the code, one behind the other
 module _ (count : ℕ) (on words masks : List ℕ) (standing : Standing count on words masks) (m : ℕ) (inside : m < count) where
-  send-event : event (2 * m) ≡ sendOf m
-  unfolding number
-  send-event = event-number (sendOf m)
-
-  receive-event : event (2 * m + 1) ≡ receiveOf m
-  unfolding number
-  receive-event = event-number (receiveOf m)
-
   module _ (c : Channel) (way : List ℕ) (buffer : Buffer) where
     module _ (done : List ℕ) where
       pub send-unready : (r : Bool) → r ≡ false → SaysReady count on words done (2 * m) r → SaysSend count on words c done way buffer m false
       unfolding allowed
-      send-unready r f h run d w b = rw (lt-ltb m count inside, ← send-event, ← h run d, f)
+      send-unready r f h run d w b = rw (lt-ltb m count inside, ← send-event m, ← h run d, f)
 
       pub send-unfree : (r t : Bool) → r ≡ true → t ≡ false → SaysReady count on words done (2 * m) r → t ≡ freeIn (c .eager) masks (buffer .held)
           → SaysSend count on words c done way buffer m false
       unfolding allowed
       send-unfree r t p f h g run d w b =
-          rw (lt-ltb m count inside, ← send-event, ← h run d, p, ← free-says count on words masks standing (channelIn c) run (getD on (2 * m) 0) buffer b, ← g, f)
+          rw (lt-ltb m count inside, ← send-event m, ← h run d, p, ← free-says count on words masks standing (channelIn c) run (getD on (2 * m) 0) buffer b, ← g, f)
 
       pub send-ruled : (r t u : Bool) → SaysSendRule words masks (c .«to_send») way m u → r ≡ true → t ≡ true
           → SaysReady count on words done (2 * m) r → t ≡ freeIn (c .eager) masks (buffer .held) → SaysSend count on words c done way buffer m u
       unfolding allowed
       send-ruled r t u k p q h g run d w b =
-          rw (lt-ltb m count inside, ← send-event, ← h run d, p, ← free-says count on words masks standing (channelIn c) run (getD on (2 * m) 0) buffer b, ← g, q)
+          rw (lt-ltb m count inside, ← send-event m, ← h run d, p, ← free-says count on words masks standing (channelIn c) run (getD on (2 * m) 0) buffer b, ← g, q)
           (k count on standing inside (channelIn c) run refl w)
 
     under : (run : Run) → run .way ≡ way → inRow (run .way) (2 * m) ≡ holds width way 0 (2 * m)
@@ -350,4 +334,4 @@ module _ (count : ℕ) (on words masks : List ℕ) (standing : Standing count on
     pub consume-ready : (r u : Bool) → SaysReady count on words done (2 * m + 1) u → r ≡ true → r ≡ holds width (buffer .held) 0 (2 * m)
         → SaysConsume count on words done buffer m u
     unfolding allowed
-    consume-ready r u h p e c run d b = rw (lt-ltb m count inside, b, ← e, p, ← receive-event) (h run d)
+    consume-ready r u h p e c run d b = rw (lt-ltb m count inside, b, ← e, p, ← receive-event m) (h run d)

@@ -15,11 +15,13 @@ use borrow.Author.Tests.{eq-eqb, ne-eqb}
 use Rattle.model.specs.Limits.{boards}
 use Rattle.model.specs.Order.{Event, sendOf, receiveOf, number}
 use Rattle.model.specs.Run.{start, send, deliver, consume, with, withDone, withHeld, next}
+use Rattle.model.proofs.Lists.{replicate-at}
 use Rattle.relation.specs.Width.{width, wordBits}
 use Rattle.relation.proofs.Bits.{has-zero}
 use Rattle.relation.proofs.Tests.{eqb-same}
 use Rattle.channel.specs.declared.Buffer.{Buffer}
 use Rattle.channel.specs.declared.Run.{Run}
+use Rattle.channel.specs.Masks.{Standing}
 use Rattle.channel.specs.State.{inRow, With, Without, bufferOf, stateOf, Follows}
 use Rattle.channel.proofs.Run.{the-row}
 use Rattle.channel.proofs.Rows.{alone-row}
@@ -110,14 +112,17 @@ module _ (run : Run) (m : ℕ) (on : List ℕ) (b : ℕ) (other : Buffer) (targe
         holds = held-set run b m false inside held (message-less (bufferOf run b .held) held m (rw (getD-inside (run .buffers) b (record { held = [] }) other inside) p)) i;
       })
 
--- rows of zeros, and buffers of them, hold nothing
-zeros : (n i : ℕ) → getD {A = ℕ} (replicate n 0) i 0 ≡ 0
-zeros zero i = refl
-zeros (suc n) zero = refl
-zeros (suc n) (suc i) = zeros n i
+-- the boards that message m leaves and reaches, as they are read, have a buffer
+module _ (count : ℕ) (on words masks : List ℕ) (m board : ℕ) where
+  pub sender-inside : board ≡ getD on (2 * m) 0 → Standing count on words masks → m < count → board < boards
+  sender-inside e s h = rw e (s .boardsBelow (2 * m) (omega arith))
 
+  pub receiver-inside : board ≡ getD on (2 * m + 1) 0 → Standing count on words masks → m < count → board < boards
+  receiver-inside e s h = rw e (s .boardsBelow (2 * m + 1) (omega arith))
+
+-- rows of zeros, and buffers of them, hold nothing
 zero-row : (n k : ℕ) → inRow (replicate n 0) k ≡ false
-zero-row n k = alone-row width (replicate n 0) k ∙ rw (zeros n (k / wordBits)) (has-zero (k % wordBits))
+zero-row n k = alone-row width (replicate n 0) k ∙ rw (replicate-at {A = ℕ} n (k / wordBits) 0) (has-zero (k % wordBits))
 
 zero-buffers : (n b k : ℕ) → inRow (getD {A = Buffer} (replicate n (record { held = replicate width 0 })) b (record { held = [] }) .held) k ≡ false
 zero-buffers zero b k = zero-row 0 k

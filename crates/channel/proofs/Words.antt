@@ -1,9 +1,9 @@
 -- The bits of a word: of an and, of a complement; and that a word is zero where none of its bits is set.
 -- Assumes nothing.
-use mathlib.Core.Path.{_≡_, refl, ap, _∙_}
+use mathlib.Core.Path.{_≡_, refl}
 use mathlib.Core.Bool.{Bool, true, false, not, _&&_}
 use Prim.Native.Nat.{ℕ, zero, suc, _+_, _-_, _*_, _/_, _%_, _^_, _<_}
-use native.Mathlib.Nat.{mod-lt, zero-lt-suc, lt-suc-self, le-step, pow-suc, div-one, div-lt-iff-lt-mul}
+use native.Mathlib.Nat.{lt-suc-self, le-step, pow-suc, div-one, div-lt-iff-lt-mul}
 use native.Mathlib.Omega.{arith}
 use lib.Arith.{lt-one}
 use lib.Bits.{bitAnd, and-shr, and-mod}
@@ -11,20 +11,10 @@ use lib.Dec.{eqb}
 use lib.Pow.{pow-pos, shr-shr}
 use borrow.Author.Tests.{eqb-false}
 use Rattle.relation.specs.Rows.{has}
-
-digits : (p q : ℕ) → p < 2 → q < 2 → eqb (bitAnd p q) 1 ≡ (eqb p 1 && eqb q 1)
-digits zero q h g = refl
-digits (suc zero) zero h g = refl
-digits (suc zero) (suc zero) h g = refl
-digits (suc zero) (suc (suc q)) h g = absurd (omega arith)
-digits (suc (suc p)) q h g = absurd (omega arith)
+use Rattle.relation.proofs.Bits.{by-digits}
 
 pub has-and : (u v k : ℕ) → has (bitAnd u v) k ≡ (has u k && has v k)
-unfolding has
-has-and u v k =
-    ap (λ (n : ℕ). eqb (n % 2) 1) (and-shr u v k)
-    ∙ ap (λ (n : ℕ). eqb n 1) (and-mod (u / 2 ^ k) (v / 2 ^ k) 1)
-    ∙ digits (u / 2 ^ k % 2) (v / 2 ^ k % 2) (mod-lt _ (zero-lt-suc 1)) (mod-lt _ (zero-lt-suc 1))
+has-and u v k = by-digits bitAnd _&&_ (refl, refl, refl, refl) u v k (and-shr u v k) (and-mod (u / 2 ^ k) (v / 2 ^ k) 1)
 
 -- of two digits that make one, one is set
 other : (p q : ℕ) → p + q ≡ 1 → eqb p 1 ≡ not (eqb q 1)

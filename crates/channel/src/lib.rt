@@ -201,7 +201,7 @@ impl Run {
 }
 
 // The masks, a row for each: the events on a board; behind those, the sends to a board; last, all sends.
-pub const MASK_ROWS: usize = 2 * model::BOARDS + 1;
+const MASK_ROWS: usize = 2 * model::BOARDS + 1;
 
 pub const MASK_WORDS: usize = MASK_ROWS * WIDTH;
 

@@ -1,6 +1,6 @@
 -- The whole promise, from what the parts of the check hand on. Assumes nothing.
 use mathlib.Core.Path.{_≡_, refl, sym, _∙_, ap, subst, subst⁻¹}
-use mathlib.Core.Bool.{Bool, true, false, cond, _||_}
+use mathlib.Core.Bool.{Bool, true, false, cond, _||_, or-true}
 use mathlib.Core.List.{List, [], _∷_, _++_}
 use mathlib.Core.Option.{Option, none, some}
 use mathlib.Core.Logic.{_⊎_, inl, inr, ⊎-elim}
@@ -52,9 +52,9 @@ pub short-scratch : (text : List ℕ) (code m n : ℕ) → code < channels → m
 unfolding answerOf answerFor acceptedOf
 short-scratch text code m n h l = rw (lt-ltb code channels h, lt-ltb m scratchLeast l)
 
-pub short-trace : (text : List ℕ) (code m n : ℕ) → code < channels → scratchLeast ≤ m → n < traceLeast → answerOf text code m n ≡ refused benchRefusal 0
+pub short-trace : (text : List ℕ) (code m n : ℕ) → code < channels → n < traceLeast → answerOf text code m n ≡ refused benchRefusal 0
 unfolding answerOf answerFor acceptedOf
-short-trace text code m n h l k = rw (lt-ltb code channels h, le-ltb m scratchLeast l, lt-ltb n traceLeast k)
+short-trace text code m n h k = rw (lt-ltb code channels h, lt-ltb n traceLeast k, or-true (ltb m scratchLeast))
 
 -- otherwise the sheet decides
 pub by-sheet : (text : List ℕ) (code m n : ℕ) → code < channels → scratchLeast ≤ m → traceLeast ≤ n → answerOf text code m n ≡ answerFor (sheetOf text) code
@@ -102,11 +102,11 @@ module _ (text : List ℕ) (code : ℕ) (scratch trace : List ℕ) where
   refuses-scratch h l =
       checked-from text code scratch scratch trace trace _ (refused benchRefusal 0) (short-scratch text code (length scratch) (length trace) h l) refl refl refl
 
-  pub refuses-trace : code < channels → scratchLeast ≤ length scratch → length trace < traceLeast
+  pub refuses-trace : code < channels → length trace < traceLeast
       → Checked text code scratch scratch trace trace (record { word = refusedWord; one = benchRefusal; two = 0; three = 0 })
   unfolding scratchAfter traceAfter
-  refuses-trace h l k =
-      checked-from text code scratch scratch trace trace _ (refused benchRefusal 0) (short-trace text code (length scratch) (length trace) h l k) refl refl refl
+  refuses-trace h l =
+      checked-from text code scratch scratch trace trace _ (refused benchRefusal 0) (short-trace text code (length scratch) (length trace) h l) refl refl refl
 
   pub answers : (scratchExit traceExit used : List ℕ) (n : ℕ) (r : answer-type.Answer) → code < channels → scratchLeast ≤ length scratch → traceLeast ≤ length trace
       → length used ≡ n → n ≤ scratchLeast → scratchExit ≡ cleared scratchLeast (used ++ drop n scratch) → Decides (sheetOf text) code trace traceExit r

@@ -16,7 +16,7 @@ use race::Lowest;
 use sheet::Verdict;
 
 // Free; locked, with the race's message and event and the number of steps in the trace; or refused, with number and line.
-pub enum Answer {
+enum Answer {
     Free,
     Locked(usize, usize, usize),
     Refused(u8, usize),
@@ -112,7 +112,7 @@ fn judge(text: &[u8], code: usize, words: &mut [u64], trace: &mut [u8]) -> Answe
 }
 
 // The check: refusals 1 and 2 touch nothing; behind every other answer the scratch is cleared.
-pub fn check(text: &[u8], code: u32, scratch: &mut [u64], trace: &mut [u8]) -> Answer
+fn check(text: &[u8], code: u32, scratch: &mut [u64], trace: &mut [u8]) -> Answer
     ensures { λ r. ⌜ Checked (now (text .entry)) code (now (scratch .entry)) (now (scratch .exit)) (now (trace .entry)) (now (trace .exit)) (numbersFor r) ⌝ }
 {
     let channel = code as usize;

@@ -21,6 +21,15 @@ event-number (receiveOf m) =
     let r : (2 * m + 1) % 2 ≡ 1 = omega arith in
     rw (r, d)
 
+-- the events of message m have the numbers 2m and 2m + 1
+pub send-event : (m : ℕ) → event (2 * m) ≡ sendOf m
+unfolding number
+send-event m = event-number (sendOf m)
+
+pub receive-event : (m : ℕ) → event (2 * m + 1) ≡ receiveOf m
+unfolding number
+receive-event m = event-number (receiveOf m)
+
 pub number-event : (k : ℕ) → number (event k) ≡ k
 unfolding event number
 number-event k = go (eqb (k % 2) 0) refl

@@ -1,3 +1,4 @@
+pub mod Lists
 pub mod Bounded
 pub mod Marked
 pub mod Events

@@ -1,35 +1,34 @@
 -- Point 3: for every text, code and pair of buffer lengths, the verdict on an accepted sheet is that of whole orders.
 -- Assumes nothing.
-use Prim.Native.Nat.{ℕ, zero, suc, _+_, _*_, _<_, _≤_}
+use Prim.Native.Nat.{ℕ, _*_, _<_, _≤_}
 use native.Mathlib.Omega.{arith}
-use mathlib.Core.Path.{_≡_, refl, sym, _∙_, ap, subst, subst⁻¹}
-use mathlib.Core.Logic.{_⊎_, inl, inr, ⊎-elim, _↔_}
+use mathlib.Core.Path.{_≡_, refl, subst, subst⁻¹}
+use mathlib.Core.Logic.{inl, inr, ⊎-elim}
 use mathlib.Core.Bool.{Bool, true, false, _&&_}
-use mathlib.Core.List.{List, [], _∷_, _++_}
+use mathlib.Core.List.{List, [], _∷_}
 use mathlib.Core.Option.{Option, none, some}
 use borrow.Author.Tests.{eqb-true}
 use lib.Dec.{eqb}
-use lib.ListN.{length, take, drop, length-append, length-drop}
+use lib.ListN.{length, drop, length-append, length-drop}
 use lib.Seq.{take-at}
 use Rattle.model.specs.Limits.{channels, messagesMost, traceLeast}
 use Rattle.model.specs.Bounded.{lowest}
 use Rattle.model.specs.Refusal.{Out, ok, refusal}
-use Rattle.model.specs.Order.{Event, sendOf, receiveOf, number, event, messageOf, Scenario, board, atOrBefore}
-use Rattle.model.specs.Channel.{Channel, channelOf}
-use Rattle.model.specs.Run.{State, start, Step, send, deliver, consume, next, allowed, isOrderFrom, after, finished, stuck, IsOrder, EndsStuck, EndsFinished, CanFinish}
-use Rattle.model.specs.Race.{RaceRule, byEvent, byOrigin, never, raceRuleOf, escapes, isRace, races, lowestEvent, lowestMessage, lowestRace}
+use Rattle.model.specs.Order.{Event, receiveOf, number, event, Scenario, board}
+use Rattle.model.specs.Channel.{channelOf}
+use Rattle.model.specs.Run.{State, start, Step, send, deliver, consume, next, allowed, isOrderFrom, after, finished, stuck, EndsStuck, CanFinish}
+use Rattle.model.specs.Race.{RaceRule, never, raceRuleOf, escapes, isRace, races, lowestEvent, lowestMessage, lowestRace}
 use Rattle.model.specs.Schedule.{schedule, scheduleFrom, bytesOf}
-use Rattle.model.specs.Answer.{Answer, free, locked, refused, acceptedOf, verdictOf, answerFor, answerOf, traceAfter, numbersOf}
+use Rattle.model.specs.Answer.{Answer, free, locked, acceptedOf, verdictOf, answerFor, answerOf, traceAfter, numbersOf}
 use Rattle.model.specs.Verdict.{LowestRace, Verdict, PointThree}
-use Rattle.model.proofs.Bounded.{and-left, and-right, which, not-both, any-from, any-some, any-none, IsLowest, Found, lowest-found}
+use Rattle.model.proofs.Bounded.{and-left, and-right, which, not-both, any-some, any-none, IsLowest, Found, lowest-found}
 use Rattle.model.proofs.Events.{event-number, below-number}
 use Rattle.model.proofs.Causal.{Causal}
 use Rattle.model.proofs.Accepted.{accepted-causal, accepted-code, accepted-count, accepted-lengths}
 use Rattle.model.proofs.Phases.{view, view-start}
-use Rattle.model.proofs.Rank.{rank}
 use Rattle.model.proofs.Rules.{stuck-unfinished, stuck-forbids}
 use Rattle.model.proofs.Invariants.{inv-start}
-use Rattle.model.proofs.Suited.{Suited, suited}
+use Rattle.model.proofs.Suited.{suited}
 use Rattle.model.proofs.Progress.{progress}
 use Rattle.model.proofs.Withholding.{schedule-order, schedule-stuck, course-start}
 use Rattle.model.proofs.Orders.{after-append, order-rest, reached-from-start, none-longer, finished-length, can-finish}
@@ -43,6 +42,14 @@ race-parts S r e x h =
     let b = S .before x (receiveOf e) in
     let both : (t && b) ≡ true = and-left (t && b) (escapes S r e x) h in
     (eqb-true (board S x) (S .target e) (and-left t b both), and-right t b both, and-right (t && b) (escapes S r e x) h)
+
+-- the two bytes of each step
+pub bytes-length : (ts : List Step) → length (bytesOf ts) ≡ 2 * length ts
+unfolding bytesOf
+bytes-length [] = refl
+bytes-length (send m ∷ ts) = omega (arith, bytes-length ts)
+bytes-length (deliver m ∷ ts) = omega (arith, bytes-length ts)
+bytes-length (consume m ∷ ts) = omega (arith, bytes-length ts)
 
 never-escapes : (S : Scenario) (e : ℕ) (x : Event) → escapes S never e x ≡ false
 unfolding escapes
@@ -116,14 +123,6 @@ module _ (S : Scenario) (C : Causal S) (code : ℕ) (known : code < channels) wh
           → Decided (elim o [ none ↦ free | some race ↦ locked (race .0) (race .1) (schedule S (channelOf code) (race .0)) ])
       go none quiet = isFree quiet
       go (some race) L = isLocked L
-
-  -- the two bytes of each step
-  bytes-length : (ts : List Step) → length (bytesOf ts) ≡ 2 * length ts
-  unfolding bytesOf
-  bytes-length [] = refl
-  bytes-length (send m ∷ ts) = omega (arith, bytes-length ts)
-  bytes-length (deliver m ∷ ts) = omega (arith, bytes-length ts)
-  bytes-length (consume m ∷ ts) = omega (arith, bytes-length ts)
 
   -- a stuck state allows no order but the empty one, and that does not finish
   stuck-goes-nowhere : (φ : ℕ → ℕ) → stuck S (channelOf code) (view S φ) ≡ true → (more : List Step)

@@ -1,18 +1,17 @@
 -- The step rules over phases: each step's test says exactly the facts that the paper's rule names. Assumes nothing.
-use Prim.Native.Nat.{ℕ, zero, suc, _+_, _*_, _<_, _≤_}
-use native.Mathlib.Omega.{arith}
-use mathlib.Core.Path.{_≡_, refl, sym, _∙_, ap, subst}
+use Prim.Native.Nat.{ℕ, _<_, _≤_}
+use mathlib.Core.Path.{_≡_, refl, sym}
 use mathlib.Core.Logic.{_⊎_, inl, inr, ⊎-elim}
-use mathlib.Core.Bool.{Bool, true, false, not, cond, _&&_, _||_}
-use borrow.Author.Tests.{eqb-true, eqb-false, leb-true, leb-false, ltb-true, lt-ltb, eq-eqb, ne-eqb, le-leb, lt-leb, not-true, not-false}
-use lib.Dec.{eqb, leb, ltb}
+use mathlib.Core.Bool.{Bool, true, false, not, _&&_, _||_}
+use borrow.Author.Tests.{eqb-true, leb-true, ltb-true, lt-ltb, eq-eqb, not-true}
+use lib.Dec.{eqb, ltb}
 use Rattle.model.specs.Bounded.{every}
-use Rattle.model.specs.Order.{Event, sendOf, receiveOf, number, messageOf, Scenario, board, boardOf}
+use Rattle.model.specs.Order.{Event, sendOf, receiveOf, number, messageOf, Scenario, board}
 use Rattle.model.specs.Channel.{Channel, ToSend, ToDeliver, noEarlierUnderWay, channelEmpty, inOrder, alone}
 use Rattle.model.specs.Run.{State, Step, send, deliver, consume, everyEvent, isAhead, ready, bufferEmpty, boardFree, maySend, mayDeliver, allowed, noStep, finished, stuck}
 use Rattle.model.proofs.Bounded.{and-left, and-right, and-both, or-cases, or-left, or-right, which, not-both, not-is-true, every-at, every-from, every-not}
 use Rattle.model.proofs.Causal.{Causal}
-use Rattle.model.proofs.Phases.{equal-or-not, doneAt, view, messageIn, phaseIn}
+use Rattle.model.proofs.Phases.{equal-or-not, doneAt, view, messageIn}
 
 -- a conjunction that fails, with its first half passed or not
 and-fails : (a b : Bool) → a ≡ true → (a && b) ≡ false → b ≡ false
@@ -62,12 +61,12 @@ others-from n m p h =
 
 module _ (S : Scenario) where
   -- every event of the scenario, by its message
-  everyEvent-at : (p : Event → Bool) → everyEvent S p ≡ true → (x : Event) → messageOf x < S .count → p x ≡ true
+  pub everyEvent-at : (p : Event → Bool) → everyEvent S p ≡ true → (x : Event) → messageOf x < S .count → p x ≡ true
   unfolding everyEvent messageOf
   everyEvent-at p h (sendOf m) l = and-left (p (sendOf m)) (p (receiveOf m)) (every-at (S .count) _ h m l)
   everyEvent-at p h (receiveOf m) l = and-right (p (sendOf m)) (p (receiveOf m)) (every-at (S .count) _ h m l)
 
-  everyEvent-from : (p : Event → Bool) → ((x : Event) → messageOf x < S .count → p x ≡ true) → everyEvent S p ≡ true
+  pub everyEvent-from : (p : Event → Bool) → ((x : Event) → messageOf x < S .count → p x ≡ true) → everyEvent S p ≡ true
   unfolding everyEvent messageOf
   everyEvent-from p h = every-from (S .count) _ (λ m l. and-both (p (sendOf m)) (p (receiveOf m)) (h (sendOf m) l) (h (receiveOf m) l))
 

@@ -4,16 +4,17 @@ use mathlib.Core.Logic.{⊎-elim}
 use mathlib.Core.Bool.{Bool, true, false, not, cond, _&&_, _||_}
 use mathlib.Core.List.{List}
 use mathlib.Core.Option.{Option, none, some}
-use Prim.Native.Nat.{ℕ, suc, _+_, _*_, _-_, _/_, _%_, _<_, _≤_}
+use Prim.Native.Nat.{ℕ, _+_, _*_, _-_, _/_, _%_, _<_, _≤_}
 use native.Mathlib.Omega.{arith}
 use native.Mathlib.Numerals.{add-one}
-use lib.Dec.{eqb, ltb}
+use lib.Dec.{eqb}
 use lib.ListN.{getD}
-use borrow.Author.Tests.{eqb-true, eqb-false, eq-eqb, ne-eqb, not-true, not-false}
-use Rattle.model.specs.Order.{Event, sendOf, receiveOf, number, event, Scenario, board, boardOf, atOrBefore}
-use Rattle.model.specs.Race.{RaceRule, byEvent, byOrigin, never, origin, escapes, isRace, races, lowestEvent, lowestMessage, lowestRace}
-use Rattle.model.specs.Bounded.{lowest, any}
-use Rattle.model.proofs.Events.{number-event, event-number, at-or-before-same}
+use borrow.Author.Tests.{eq-eqb, ne-eqb, not-true, not-false}
+use Rattle.model.specs.Order.{Event, sendOf, receiveOf, number, event, atOrBefore}
+use Rattle.model.specs.Race.{RaceRule, byEvent, byOrigin, origin, escapes, isRace, races, lowestEvent, lowestMessage, lowestRace}
+use Rattle.model.specs.Bounded.{lowest}
+use Rattle.model.proofs.Events.{number-event, at-or-before-same}
+pub use Rattle.model.proofs.Events.{send-event, receive-event}
 use Rattle.model.proofs.Bounded.{which, not-both, any-from, any-some, lowest-none, lowest-some, lowest-hit, lowest-miss}
 use Rattle.relation.specs.Width.{width}
 use Rattle.relation.specs.Rows.{holds}
@@ -24,14 +25,6 @@ use Rattle.race.specs.declared.Rule.the-variants.{ByEvent, ByOrigin, Nev
 use Rattle.race.specs.declared.Found.{Found}
 use Rattle.race.specs.declared.Found.the-variants as found
 use Rattle.race.specs.Bridge.{ruleIn, foundIn}
-
-pub send-event : (m : ℕ) → event (2 * m) ≡ sendOf m
-unfolding number
-send-event m = event-number (sendOf m)
-
-pub receive-event : (m : ℕ) → event (2 * m + 1) ≡ receiveOf m
-unfolding number
-receive-event m = event-number (receiveOf m)
 
 -- the origin of an event has the even number at or below its own
 pub origin-event : (x : ℕ) → origin (event x) ≡ event (x - x % 2)

@@ -16,12 +16,12 @@ pub enum Rule {
 
 // The rules, by channel code.
 const TABLE: [Rule; model::CHANNELS] = [
-    Rule::ByEvent,
-    Rule::Never,
-    Rule::ByOrigin,
-    Rule::Never,
-    Rule::ByOrigin,
-    Rule::ByOrigin,
+    Rule::ByEvent, // code 0, eager free-running
+    Rule::Never, // code 1, lazy free-running
+    Rule::ByOrigin, // code 2, eager FIFO
+    Rule::Never, // code 3, lazy FIFO
+    Rule::ByOrigin, // code 4, synchronous, eager
+    Rule::ByOrigin, // code 5, token ring, eager
 ];
 
 pub fn rule_of(code: usize) -> Rule
@@ -44,14 +44,7 @@ pub fn at_or_before(words: &[u64], boards: &[u8], count: usize, x: usize, y: usi
 }
 
 // Event x, or its origin, is not at or before e's send.
-pub fn is_outside(
-    words: &[u64],
-    boards: &[u8],
-    count: usize,
-    rule: Rule,
-    e: usize,
-    x: usize,
-) -> bool
+fn is_outside(words: &[u64], boards: &[u8], count: usize, rule: Rule, e: usize, x: usize) -> bool
     requires { ⌜ Lent count (now boards) (now words) ⌝ }
     requires { ⌜ (e < count) × (x < 2 * count) ⌝ }
     ensures { λ r. ⌜ r ≡ escapes (scenarioIn count (now (boards .entry)) (now (words .entry))) (ruleIn rule) e (event x) ⌝ }
@@ -68,7 +61,7 @@ pub fn is_outside(
 }
 
 // Message e and event x are a race.
-pub fn is_race(words: &[u64], boards: &[u8], count: usize, rule: Rule, e: usize, x: usize) -> bool
+fn is_race(words: &[u64], boards: &[u8], count: usize, rule: Rule, e: usize, x: usize) -> bool
     requires { ⌜ Lent count (now boards) (now words) ⌝ }
     requires { ⌜ (e < count) × (x < 2 * count) ⌝ }
     ensures { λ r. ⌜ r ≡ isRace (scenarioIn count (now (boards .entry)) (now (words .entry))) (ruleIn rule) e (event x) ⌝ }
@@ -84,12 +77,12 @@ pub fn is_race(words: &[u64], boards: &[u8], count: usize, rule: Rule, e: usize,
 }
 
 // The lowest event that races with a message, if one does.
-pub enum Found {
+enum Found {
     Event(usize),
     Nothing,
 }
 
-pub fn lowest_event(words: &[u64], boards: &[u8], count: usize, rule: Rule, e: usize) -> Found
+fn lowest_event(words: &[u64], boards: &[u8], count: usize, rule: Rule, e: usize) -> Found
     requires { ⌜ Lent count (now boards) (now words) ⌝ }
     requires { ⌜ e < count ⌝ }
     ensures { λ r. ⌜ foundIn r ≡ lowestEvent (scenarioIn count (now (boards .entry)) (now (words .entry))) (ruleIn rule) e ⌝ }

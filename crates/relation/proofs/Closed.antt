@@ -9,15 +9,15 @@ use native.Mathlib.Omega.{arith}
 use lib.Dec.{eqb, leb, ltb}
 use lib.ListN.{length}
 use borrow.Author.Tests.{eq-eqb, ne-eqb, eqb-true, le-leb, lt-ltb}
+use Rattle.model.proofs.Bounded.{or-cases, or-left, or-right}
 use Rattle.relation.specs.Width.{wordBits}
 use Rattle.relation.specs.Rows.{holds, inserted}
 use Rattle.relation.specs.Order.{before, Transitive, Within, Covers, linked}
-use Rattle.relation.proofs.Tests.{or-split, or-left, or-right}
 use Rattle.relation.proofs.Inserted.{holds-inserted}
 
 -- what holds of z, and of b by the test r, holds of b where b is z or r is true
 same-or : (C : ℕ → Type 0) (b z : ℕ) (r : Bool) → (eqb b z || r) ≡ true → C z → (r ≡ true → C b) → C b
-same-or C b z r t same other = ⊎-elim (λ e. subst C (sym (eqb-true b z e)) same) other (or-split (eqb b z) r t)
+same-or C b z r t same other = ⊎-elim (λ e. subst C (sym (eqb-true b z e)) same) other (or-cases (eqb b z) r t)
 
 module _ (n : ℕ) (R : ℕ → ℕ → Bool) (x y : ℕ) where
   -- all at or before x is before all at or behind y
@@ -33,7 +33,7 @@ module _ (n : ℕ) (R : ℕ → ℕ → Bool) (x y : ℕ) where
   linked-split : (a b : ℕ) → linked R x y a b ≡ true
       → (R a b ≡ true) ⊎ (((eqb a x || R a x) ≡ true) × ((eqb b y || R y b) ≡ true))
   linked-split a b t =
-      ⊎-elim inl (λ both. inr (and-eq-true-iff (eqb a x || R a x) (eqb b y || R y b) .0 both)) (or-split (R a b) _ t)
+      ⊎-elim inl (λ both. inr (and-eq-true-iff (eqb a x || R a x) (eqb b y || R y b) .0 both)) (or-cases (R a b) _ t)
 
   pub linked-transitive : Transitive n R → x < n → y < n → Transitive n (linked R x y)
   linked-transitive closed hx hy a b c ha hb hc p q =

@@ -12,8 +12,8 @@ use lib.Dec.{eqb}
 use lib.ListN.{length, getD, set, length-set}
 use borrow.Author.Fill.{fill-none, fill-more}
 use borrow.Author.Tests.{eq-eqb, ne-eqb}
+use Rattle.model.proofs.Bounded.{or-right}
 use Rattle.relation.specs.Rows.{holds, marked, gained, joined, joinedFrom, behind, insertedAt, insertedIn, inserted, cleared, anyOwn}
-use Rattle.relation.proofs.Tests.{or-right}
 use Rattle.relation.proofs.Place.{word-column}
 use Rattle.relation.proofs.Joined.{gained-outside, gained-more}
 use Rattle.relation.proofs.Inserted.{length-inserted-at}

@@ -7,8 +7,8 @@ use mathlib.Core.List.{List}
 use Prim.Native.Nat.{ℕ, zero, suc, _<_}
 use native.Mathlib.Decide.{ℕ-discrete}
 use native.Mathlib.Omega.{arith}
+use Rattle.model.proofs.Bounded.{or-cases}
 use Rattle.relation.specs.Rows.{holds, anyOwn}
-use Rattle.relation.proofs.Tests.{or-split}
 
 module _ (W : ℕ) (l : List ℕ) where
   pub own-any : (n y : ℕ) → y < n → holds W l y y ≡ true → anyOwn W l n ≡ true
@@ -25,7 +25,7 @@ module _ (W : ℕ) (l : List ℕ) where
   any-own zero t = absurd (false≢true t)
   any-own (suc n) t =
       ⊎-elim (λ e. let w = any-own n e in (w .0, omega arith, w .2)) (λ h. (n, omega arith, h))
-      (or-split (anyOwn W l n) (holds W l n n) t)
+      (or-cases (anyOwn W l n) (holds W l n n) t)
 
   pub none-own : (n y : ℕ) → anyOwn W l n ≡ false → y < n → holds W l y y ≡ false
   none-own n y e h = go (holds W l y y) refl

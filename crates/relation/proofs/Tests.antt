@@ -1,8 +1,7 @@
--- Tests that are equal because each follows from the other, and what an or says.
+-- Tests that are equal because each follows from the other.
 -- Assumes nothing.
 use mathlib.Core.Path.{_≡_, refl, sym}
-use mathlib.Core.Bool.{Bool, true, false, _||_}
-use mathlib.Core.Logic.{_⊎_, inl, inr}
+use mathlib.Core.Bool.{Bool, true, false}
 use Prim.Native.Nat.{ℕ, _<_}
 use lib.Dec.{eqb, ltb}
 use borrow.Author.Tests.{eq-eqb, eqb-true, lt-ltb, ltb-true}
@@ -19,14 +18,3 @@ eqb-same a b c d f g =
 pub ltb-same : (a b c d : ℕ) → (a < b → c < d) → (c < d → a < b) → ltb a b ≡ ltb c d
 ltb-same a b c d f g =
     both-ways (ltb a b) (ltb c d) (λ t. lt-ltb c d (f (ltb-true a b t))) (λ t. lt-ltb a b (g (ltb-true c d t)))
-
-pub or-split : (p q : Bool) → (p || q) ≡ true → (p ≡ true) ⊎ (q ≡ true)
-or-split true q t = inl refl
-or-split false q t = inr t
-
-pub or-left : (p q : Bool) → p ≡ true → (p || q) ≡ true
-or-left p q t = rw t
-
-pub or-right : (p q : Bool) → q ≡ true → (p || q) ≡ true
-or-right true q t = refl
-or-right false q t = t

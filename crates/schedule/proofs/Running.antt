@@ -13,6 +13,7 @@ use Rattle.model.specs.Order.{Scenario}
 use Rattle.model.specs.Channel.{Channel}
 use Rattle.model.specs.Run.{State, start, Step, send, deliver, consume, next, allowed}
 use Rattle.model.proofs.Bounded.{not-both, lowest-some}
+use Rattle.model.proofs.PointThree.{bytes-length}
 use Rattle.relation.specs.Scenario.{scenarioIn}
 use Rattle.channel.specs.declared.Channel as channel
 use Rattle.channel.specs.declared.Run.{Run}
@@ -37,13 +38,6 @@ abbrev pub messageOf : Step → ℕ
 messageOf (send m) = m
 messageOf (deliver m) = m
 messageOf (consume m) = m
-
-pub bytes-length : (ts : List Step) → length (bytesOf ts) ≡ 2 * length ts
-unfolding bytesOf
-bytes-length [] = refl
-bytes-length (send m ∷ ts) = omega (arith, bytes-length ts)
-bytes-length (deliver m ∷ ts) = omega (arith, bytes-length ts)
-bytes-length (consume m ∷ ts) = omega (arith, bytes-length ts)
 
 pub bytes-more : (ts : List Step) (t : Step) → bytesOf (ts ++ (t ∷ [])) ≡ bytesOf ts ++ (kindOf t ∷ messageOf t ∷ [])
 unfolding bytesOf

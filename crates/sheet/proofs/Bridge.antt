@@ -9,7 +9,7 @@ use Rattle.model.specs.Limits.{sheets, rowsMost}
 use Rattle.model.specs.Refusal.{ok, refusal}
 use Rattle.model.specs.Rows.{Row}
 use Rattle.model.specs.Place.{readOf}
-use Rattle.model.specs.Order.{cells}
+use Rattle.model.proofs.Closure.{cells-at}
 use Rattle.sheet.specs.Bridge.{rowFrom, rowsAt, rowsOf, startIn, startsOf, outcomeOf, storeOf, Sized, KeptOn, ReadAs}
 use Rattle.sheet.specs.declared.Verdict.{Verdict}
 use Rattle.sheet.specs.declared.Verdict.the-variants.{Rows, Refused}
@@ -34,20 +34,9 @@ pub rows-first : (kind one two : List ℕ) (i n : ℕ) → i < n
 unfolding rowsAt
 rows-first kind one two i n h = let e : n - i ≡ suc (n - suc i) = omega arith in rw e
 
-pub cells-length : (n : ℕ) (f : ℕ → ℕ) → length (cells n f) ≡ n
-unfolding cells
-cells-length zero f = refl
-cells-length (suc n) f = ap suc (cells-length n (λ k. f (suc k)))
-
-pub cells-at : (n : ℕ) (f : ℕ → ℕ) (i : ℕ) → i < n → getD (cells n f) i 0 ≡ f i
-unfolding cells
-cells-at zero f i h = absurd (omega arith)
-cells-at (suc n) f zero h = refl
-cells-at (suc n) f (suc i) h = cells-at n (λ k. f (suc k)) i (omega arith)
-
 -- the table at a sheet
 pub start-at : (rs : List Row) (n : ℕ) → n < sheets → getD (startsOf rs) n 0 ≡ startIn rs n
-start-at rs n h = cells-at sheets (startIn rs) n h
+start-at rs n h = cells-at sheets (startIn rs) n 0 h
 
 -- a reading, by its verdict
 module _ (text kind one two start : List ℕ) (v : Verdict) (p : ReadAs text kind one two start v) where

@@ -3,12 +3,12 @@ use Prim.Native.Nat.{ℕ, suc, _+_, _<_}
 use native.Mathlib.Nat.{zero-add}
 use native.Mathlib.Omega.{arith}
 use mathlib.Core.Path.{_≡_, refl, sym, _∙_, ap, subst}
-use mathlib.Core.Bool.{Bool, true, false, not, cond, _&&_, _||_}
+use mathlib.Core.Bool.{Bool, true, false, not, cond, _&&_, _||_, or-true}
 use mathlib.Core.List.{List, [], _∷_, _++_}
 use mathlib.Core.Option.{Option, none, some}
-use borrow.Author.Tests.{lt-ltb, le-ltb, eq-eqb, ne-eqb, ltb-true, ltb-false, eqb-true, eqb-false, not-true, not-false}
+use borrow.Author.Tests.{lt-ltb, le-ltb, eq-eqb, ne-eqb, ltb-true, eqb-true, eqb-false, not-true, not-false}
 use lib.Dec.{eqb, ltb}
-use lib.ListN.{length, getD, set, replicate, length-set, length-replicate, getD-replicate, List·getD-eq-default}
+use lib.ListN.{length, getD, set, replicate, length-set, length-replicate}
 use lib.Seq.{getD-set-same, getD-set-other, ext-getD}
 use Rattle.model.specs.Limits.{sheets, rowsMost}
 use Rattle.model.specs.Bounded.{among}
@@ -18,13 +18,11 @@ use Rattle.model.specs.Rows.{Row, sheet, message, order, block, call, rowOf}
 use Rattle.model.specs.Place.{Place, outside, messageFits, orderFits, moved, isSheet, placed, lineOf, judged, rowsFrom, opens, strayCall, complete}
 use Rattle.model.specs.Expansion.{startOf}
 use Rattle.model.proofs.Bounded.{and-left, and-right, not-both}
+use Rattle.model.proofs.Lists.{replicate-at}
+use Rattle.model.proofs.Closure.{cells-length}
 use Rattle.sheet.specs.Bridge.{startIn, startsOf}
-use Rattle.sheet.proofs.Bridge.{cells-length, start-at}
+use Rattle.sheet.proofs.Bridge.{start-at}
 use Rattle.sheet.specs.Stand.{Stand, isOpen, mayOpen, movedTo, stoodAt, judgedBy, Kept, aheadOf, readFrom, fresh, strayFrom, completed}
-
-or-true : (b : Bool) → (b || true) ≡ true
-or-true true = refl
-or-true false = refl
 
 -- a sheet has a start exactly when it is among those opened
 abbrev Agree : List ℕ → List ℕ → Type 0
@@ -316,11 +314,7 @@ finals c (line ∷ ls) i starts events l =
 -- the table of the whole file
 fresh-open : (n : ℕ) → isOpen (replicate sheets 0) n ≡ false
 unfolding isOpen
-fresh-open n = rw (zeros (ltb n sheets) refl)
-  where
-    zeros : (t : Bool) → ltb n sheets ≡ t → _≡_ {A = ℕ} (getD (replicate sheets 0) n 0) 0
-    zeros true e = getD-replicate {A = ℕ} sheets n 0 0 (ltb-true n sheets e)
-    zeros false e = List·getD-eq-default (replicate sheets 0) 0 {n = n} (rw (length-replicate {A = ℕ} sheets 0) (ltb-false n sheets e))
+fresh-open n = rw (replicate-at {A = ℕ} sheets n 0)
 
 starts-at : (rs : List Row) (n : ℕ) → startAfter 0 (replicate sheets 0) rs n ≡ startIn rs n
 unfolding startAfter startIn

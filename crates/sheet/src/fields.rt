@@ -10,9 +10,9 @@ ghost use Rattle.sheet.specs.Scan.{beginsWith, numeral};
 ghost use Rattle.sheet.specs.Fields.{FieldEnd, InText, bytesOf, spanOf, SplitAs, numberFrom};
 
 // Byte 10 ends a line, and byte 32 stands between two fields.
-pub const LINE_END: u8 = 10;
+const LINE_END: u8 = 10;
 
-pub const SPACE: u8 = 32;
+const SPACE: u8 = 32;
 
 // A field: the bytes from `from` up to `to`.
 pub struct Span {
@@ -39,7 +39,7 @@ pub enum Number {
 }
 
 // Where the field that begins at `at` ends: at a space, a line end, or the end of the text.
-pub fn field_end(text: &[u8], at: usize) -> usize
+fn field_end(text: &[u8], at: usize) -> usize
     requires { ⌜ at ≤ length (now text) ⌝ }
     ensures { λ r. ⌜ FieldEnd (now (text .entry)) at r ⌝ }
 {
@@ -83,7 +83,7 @@ pub fn cut(text: &[u8], at: usize) -> Split
 }
 
 // The byte at `at` is there, and is `b`.
-pub fn is_byte(text: &[u8], at: usize, b: u8) -> bool
+fn is_byte(text: &[u8], at: usize, b: u8) -> bool
     ensures { λ r. ⌜ r ≡ beginsWith b (drop at (now (text .entry))) ⌝ }
 {
     if at < text.len() {
@@ -135,7 +135,7 @@ pub fn number_in(text: &[u8], span: Span) -> Number
 }
 
 // The value of the digits from `from` up to `to`.
-pub fn digits(text: &[u8], from: usize, to: usize) -> Number
+fn digits(text: &[u8], from: usize, to: usize) -> Number
     requires { ⌜ (from ≤ to) × (to ≤ length (now text)) ⌝ }
     ensures { λ r. ⌜ numberFrom r ≡ numeral 0 (slice from to (now (text .entry))) ⌝ }
 {

@@ -30,7 +30,7 @@ pub fn heading_of(text: &[u8]) -> Heading
 }
 
 // The columns that three fields name.
-pub fn columns_in(text: &[u8], cuts: Cuts) -> Heading
+fn columns_in(text: &[u8], cuts: Cuts) -> Heading
     requires { ⌜ Cut (now text) cuts ⌝ }
     ensures { λ r. ⌜ HeadingIn (now (text .entry)) cuts r ⌝ }
 {
@@ -48,7 +48,7 @@ pub fn columns_in(text: &[u8], cuts: Cuts) -> Heading
 }
 
 // The number of the field that is the name; 3 where none is.
-pub fn place_of(text: &[u8], cuts: Cuts, name: &[u8]) -> usize
+fn place_of(text: &[u8], cuts: Cuts, name: &[u8]) -> usize
     requires { ⌜ Cut (now text) cuts ⌝ }
     ensures { λ r. ⌜ r ≡ placeOf (now (name .entry)) (fieldsIn (now (text .entry)) cuts) ⌝ }
 {

@@ -1,7 +1,7 @@
 // The reader of sheet files: any bytes in; the rows, or refusal 3 to 7 with its line, out.
 mod fields;
 mod heading;
-pub mod limits;
+mod limits;
 mod place;
 mod rows;
 

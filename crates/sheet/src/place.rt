@@ -28,7 +28,7 @@ pub fn is_open(start: &[u16; SHEETS], n: u8) -> bool
 }
 
 // `S n`, as row `row`: sheets 0 to 31, each at most once.
-pub fn open_sheet(row: usize, n: u8, start: &mut [u16; SHEETS]) -> bool
+fn open_sheet(row: usize, n: u8, start: &mut [u16; SHEETS]) -> bool
     requires { ⌜ (row < rowsMost) × (length (now start) ≡ sheets) ⌝ }
     ensures { λ r. ⌜ r ≡ mayOpen (now (start .entry)) n ⌝ }
     ensures { λ r. ⌜ now (start .exit) ≡ cond r (set (now (start .entry)) n (row + 1)) (now (start .entry)) ⌝ }
@@ -45,7 +45,7 @@ pub fn open_sheet(row: usize, n: u8, start: &mut [u16; SHEETS]) -> bool
 }
 
 // `M a b`: boards 0 to 15, and no message 129 of the block.
-pub fn add_message(messages: usize, boards: &mut [u8; EVENTS_MOST], a: u8, b: u8) -> bool
+fn add_message(messages: usize, boards: &mut [u8; EVENTS_MOST], a: u8, b: u8) -> bool
     requires { ⌜ (messages ≤ messagesMost) × (length (now boards) ≡ 2 * messagesMost) ⌝ }
     ensures { λ r. ⌜ r ≡ messageFits (take (2 * messages) (now (boards .entry))) a b ⌝ }
     ensures { λ r. ⌜ now (boards .exit) ≡ cond r (set (set (now (boards .entry)) (2 * messages) a) (2 * messages + 1) b) (now (boards .entry)) ⌝ }
@@ -67,7 +67,7 @@ pub fn add_message(messages: usize, boards: &mut [u8; EVENTS_MOST], a: u8, b: u8
 }
 
 // `P x y`: both events are there, differ, and are on one board.
-pub fn may_order(messages: usize, boards: &[u8; EVENTS_MOST], x: u8, y: u8) -> bool
+fn may_order(messages: usize, boards: &[u8; EVENTS_MOST], x: u8, y: u8) -> bool
     requires { ⌜ (messages ≤ messagesMost) × (length (now boards) ≡ 2 * messagesMost) ⌝ }
     ensures { λ r. ⌜ r ≡ orderFits (take (2 * messages) (now (boards .entry))) x y ⌝ }
 {
@@ -87,7 +87,7 @@ pub fn may_order(messages: usize, boards: &[u8; EVENTS_MOST], x: u8, y: u8) -> b
 }
 
 // So many messages, if the row fits.
-pub fn placed_if(fits: bool, messages: usize) -> Placed
+fn placed_if(fits: bool, messages: usize) -> Placed
     ensures { λ r. ⌜ r ≡ placedFor fits messages ⌝ }
 {
     if fits {

@@ -25,26 +25,26 @@ ghost use Rattle.sheet.specs.Fields.{Cut, Below, columnsFrom, RowAs, Row
 ghost use Rattle.sheet.specs.Store.{StepAs, RowsAs, isStray, completeIn, BodyAs};
 
 // A row's kind and numbers, and where the next one begins.
-pub enum Reading {
+enum Reading {
     Row(u8, u8, u8, usize),
     Malformed,
 }
 
 // Where the reader is: the row's place in the text and its number, and the messages of the open block.
-pub struct Position {
+struct Position {
     pub at: usize,
     pub row: usize,
     pub messages: usize,
 }
 
 // The position behind a row; or the refusal's number.
-pub enum Step {
+enum Step {
     Next(Position),
     Refused(u8),
 }
 
 // The row at `at`.
-pub fn row_at(text: &[u8], at: usize, columns: Columns) -> Reading
+fn row_at(text: &[u8], at: usize, columns: Columns) -> Reading
     requires { ⌜ (at ≤ length (now text)) × Below columns ⌝ }
     ensures { λ r. ⌜ RowAs (columnsFrom columns) (now (text .entry)) at r ⌝ }
 {
@@ -56,7 +56,7 @@ pub fn row_at(text: &[u8], at: usize, columns: Columns) -> Reading
 }
 
 // The row of three fields: a letter and two numbers, as the heading orders them.
-pub fn row_of(text: &[u8], cuts: Cuts, columns: Columns) -> Reading
+fn row_of(text: &[u8], cuts: Cuts, columns: Columns) -> Reading
     requires { ⌜ Cut (now text) cuts × Below columns ⌝ }
     ensures { λ r. ⌜ RowIn (columnsFrom columns) (now (text .entry)) cuts r ⌝ }
 {
@@ -79,7 +79,7 @@ pub fn row_of(text: &[u8], cuts: Cuts, columns: Columns) -> Reading
 }
 
 // The letter is one of the five, and an unused field is 0.
-pub fn is_formed(kind: u8, one: u8, two: u8) -> bool
+fn is_formed(kind: u8, one: u8, two: u8) -> bool
     ensures { λ r. ⌜ cond r (some (rowFrom kind one two)) none ≡ formed kind one two ⌝ }
 {
     if kind == b'M' {
@@ -104,7 +104,7 @@ pub fn is_formed(kind: u8, one: u8, two: u8) -> bool
 }
 
 // Reads the row that the reader is at, and stores it.
-pub fn take_row(
+fn take_row(
     text: &[u8],
     here: Position,
     columns: Columns,
@@ -138,7 +138,7 @@ pub fn take_row(
 }
 
 // All rows from `first` on.
-pub fn rows(
+fn rows(
     text: &[u8],
     first: usize,
     columns: Columns,
@@ -171,12 +171,7 @@ pub fn rows(
 }
 
 // Row i calls a sheet that is not there.
-pub fn is_stray(
-    kind: &[u8; ROWS_MOST],
-    one: &[u8; ROWS_MOST],
-    start: &[u16; SHEETS],
-    i: usize,
-) -> bool
+fn is_stray(kind: &[u8; ROWS_MOST], one: &[u8; ROWS_MOST], start: &[u16; SHEETS], i: usize) -> bool
     requires { ⌜ (i < rowsMost) × (length (now start) ≡ sheets) ⌝ }
     ensures { λ r. ⌜ r ≡ isStray (getD (now (kind .entry)) i 0) (getD (now (one .entry)) i 0) (now (start .entry)) ⌝ }
 {
@@ -188,7 +183,7 @@ pub fn is_stray(
 }
 
 // Sheet 0 is there, and so is every sheet that is called.
-pub fn complete(
+fn complete(
     count: usize,
     kind: &[u8; ROWS_MOST],
     one: &[u8; ROWS_MOST],

@@ -1,10 +1,11 @@
 -- `channel::allowed_consume` meets its contract: `may_consume` of the run's own pieces.
 -- Assumes nothing.
 use mathlib.Core.Path.{refl}
-use Prim.Native.Nat.{_+_, _*_}
+use Prim.Native.Nat.{_<_}
 use native.Mathlib.Omega.{arith}
-use Rattle.channel.proofs.Steps.{buffers-long, buffer-read}
+use Rattle.channel.proofs.Steps.{buffers-long, buffer-read, receiver-inside}
 use borrow.Author.Needs.{needs}
+use Rattle.model.specs.Limits.{boards}
 use Rattle.channel.proofs.allowed_consume.Statement.{statement}
 use Rattle.channel.proofs.allowed_consume.Tie as tie
 
@@ -21,16 +22,10 @@ wide-requires : tie.Need-wide-requires
 wide-requires c κs = search needs
 
 mul-buffer : tie.Need-mul-buffer
-mul-buffer c =
-    let s = c .before .before .before .before .before in
-    let board = s .pre .0 .boardsBelow (2 * s .args .m + 1) (omega arith) in
-    search needs
+mul-buffer c = let inside : c .wide .result < boards = search receiver-inside in search needs
 
 element-copy-out-buffer : tie.Need-element-copy-out-buffer
-element-copy-out-buffer c =
-    let s = c .before .before .before .before .before in
-    let board = s .pre .0 .boardsBelow (2 * s .args .m + 1) (omega arith) in
-    search needs
+element-copy-out-buffer c = search receiver-inside
 
 may-consume-requires : tie.Need-may-consume-requires
 may-consume-requires c κs = search needs
@@ -40,7 +35,7 @@ returns c =
     let w = c .before .before .before .before in
     let s = w .before .before .before .before .before in
     let long = buffers-long (s .args .t1) _ (s .good .0) in
-    let board = s .pre .0 .boardsBelow (2 * s .args .m + 1) (omega arith) in
+    let inside : w .wide .result < boards = search receiver-inside in
     c .may-consume .ensures (s .args .c) (s .args .t1) refl (buffer-read (s .args .t1) _ _ _ (w .wide .ensures) (omega arith))
 
 pub allowed-consume-spec : {M : Type 1} → statement M

@@ -13,6 +13,7 @@ ghost use Rattle.channel.specs.Tests.{settledIn, apartIn, noneIn, freeIn
 ghost use Rattle.channel.specs.Steps.{SaysReady, Says, SaysSend, SaysDeliver, SaysConsume, SaysSendRule, SaysDeliverRule};
 ghost use Rattle.channel.specs.Masks.{boardsMost, maskRows, masksWith, BoardsBelow, MasksOf, Standing};
 use relation::WIDTH;
+use relation::WORD_BITS;
 
 // To send m: no condition; no f under way with f's send before m's receive; the channel empty.
 pub enum ToSend {
@@ -76,9 +77,6 @@ pub fn channel_of(code: usize) -> Channel
 {
     TABLE[code]
 }
-
-// The bits of a word.
-const WORD_BITS: usize = 64;
 
 // A board's number, as an index.
 fn wide(board: u8) -> usize

@@ -4,7 +4,7 @@ use mathlib.Core.Logic.{⊎-elim}
 use mathlib.Core.Bool.{Bool, true, false, not, cond, _&&_, _||_}
 use mathlib.Core.List.{List}
 use mathlib.Core.Option.{Option, none, some}
-use Prim.Native.Nat.{ℕ, _+_, _*_, _-_, _/_, _%_, _<_, _≤_}
+use Prim.Native.Nat.{ℕ, suc, _+_, _*_, _-_, _/_, _%_, _<_, _≤_}
 use native.Mathlib.Omega.{arith}
 use native.Mathlib.Numerals.{add-one}
 use lib.Dec.{eqb}
@@ -100,31 +100,51 @@ module _ (count : ℕ) (boards words : List ℕ) where
   race-if q e x t r i u h g l =
       g ∙ sym (race-at q e x (l .0) (l .1) ∙ rw (eq-eqb (getD boards x 0) (getD boards (2 * e + 1) 0) i, ← h, not-false t u))
 
-  -- the search for the lowest event: none below x races with e
-  pub record Searched (q : RaceRule) (e end x : ℕ) : Type 0 where
-    pub whole : end ≡ 2 * count
-    pub within : x ≤ end
-    pub passed : lowest x (λ k. isRace (scenarioIn count boards words) q e (event k)) ≡ none
+  -- The search for the lowest event that races with e, a message's two events a turn: none below x races.
+  module _ (q : RaceRule) (e : ℕ) where
+    abbrev racesAt : ℕ → Bool
+    racesAt x = isRace (scenarioIn count boards words) q e (event x)
 
-  pub search-begins : (q : RaceRule) (e : ℕ) → Searched q e (2 * count) 0
-  unfolding lowest
-  search-begins q e = record { whole = refl; within = omega arith; passed = refl }
+    pub record Searched (x : ℕ) : Type 0 where
+      pub even : x % 2 ≡ 0
+      pub within : x ≤ 2 * count
+      pub passed : lowest x racesAt ≡ none
 
-  pub search-goes-on : (q : RaceRule) (e end x : ℕ) (b : Bool) → Searched q e end x → b ≡ false
-      → b ≡ isRace (scenarioIn count boards words) q e (event x) → x < end → Searched q e end (x + 1)
-  search-goes-on q e end x b s f h l =
-      record { whole = s .whole; within = omega arith; passed = rw add-one (lowest-miss x _ (s .passed) (sym h ∙ f)) }
+    pub search-begins : Searched 0
+    unfolding lowest
+    search-begins = record { even = refl; within = omega arith; passed = refl }
 
-  pub search-finds : (q : RaceRule) (e end x : ℕ) (b : Bool) → Searched q e end x → b ≡ true
-      → b ≡ isRace (scenarioIn count boards words) q e (event x) → x < end → some x ≡ lowestEvent (scenarioIn count boards words) q e
-  unfolding lowestEvent
-  search-finds q e end x b s t h l = sym (lowest-hit (2 * count) x _ (s .passed) (sym h ∙ t) (omega (arith, s .whole)))
+    module _ (x : ℕ) (s : Searched x) where
+      pub search-ends : 2 * count ≤ x → none ≡ lowestEvent (scenarioIn count boards words) q e
+      unfolding lowestEvent
+      search-ends l =
+          let i : x ≡ 2 * count = omega (arith, s .within) in
+          sym (subst (λ (k : ℕ). lowest k racesAt ≡ none) i (s .passed))
 
-  pub search-ends : (q : RaceRule) (e end x : ℕ) → Searched q e end x → end ≤ x → none ≡ lowestEvent (scenarioIn count boards words) q e
-  unfolding lowestEvent
-  search-ends q e end x s l =
-      let i : x ≡ 2 * count = omega (arith, s .whole, s .within) in
-      sym (subst (λ (k : ℕ). lowest k (λ j. isRace (scenarioIn count boards words) q e (event j)) ≡ none) i (s .passed))
+      module _ (l : x < 2 * count) (b : Bool) (h : b ≡ racesAt x) where
+        pub receive-inside : x + 1 < 2 * count
+        receive-inside = omega (arith, s .even)
+
+        pub finds-send : b ≡ true → some x ≡ lowestEvent (scenarioIn count boards words) q e
+        unfolding lowestEvent
+        finds-send t = sym (lowest-hit (2 * count) x racesAt (s .passed) (sym h ∙ t) l)
+
+        module _ (f : b ≡ false) (d : Bool) (g : d ≡ racesAt (x + 1)) where
+          send-passed : lowest (x + 1) racesAt ≡ none
+          send-passed = rw add-one (lowest-miss x racesAt (s .passed) (sym h ∙ f))
+
+          pub finds-receive : d ≡ true → some (x + 1) ≡ lowestEvent (scenarioIn count boards words) q e
+          unfolding lowestEvent
+          finds-receive t = sym (lowest-hit (2 * count) (x + 1) racesAt send-passed (sym g ∙ t) receive-inside)
+
+          pub search-goes-on : d ≡ false → Searched (x + 2)
+          search-goes-on t =
+              let i : suc (x + 1) ≡ x + 2 = omega arith in
+              record {
+                even = omega (arith, s .even);
+                within = omega (arith, receive-inside);
+                passed = subst (λ (k : ℕ). lowest k racesAt ≡ none) i (lowest-miss (x + 1) racesAt send-passed (sym g ∙ t));
+              }
 
   -- a message races where its search finds an event
   races-none : (q : RaceRule) (e : ℕ) → lowestEvent (scenarioIn count boards words) q e ≡ none → races (scenarioIn count boards words) q e ≡ false

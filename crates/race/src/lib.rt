@@ -87,10 +87,17 @@ fn lowest_event(words: &[u64], boards: &[u8], count: usize, rule: Rule, e: usize
     requires { ⌜ e < count ⌝ }
     ensures { λ r. ⌜ foundIn r ≡ lowestEvent (scenarioIn count (now (boards .entry)) (now (words .entry))) (ruleIn rule) e ⌝ }
 {
-    for x in 0..2 * count {
-        if is_race(words, boards, count, rule, e, x) {
-            return Found::Event(x);
+    let events = 2 * count;
+    let mut send = 0;
+    while send < events {
+        if is_race(words, boards, count, rule, e, send) {
+            return Found::Event(send);
         }
+        let receive = send + 1;
+        if is_race(words, boards, count, rule, e, receive) {
+            return Found::Event(receive);
+        }
+        send = send + 2;
     }
     Found::Nothing
 }

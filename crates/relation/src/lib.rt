@@ -9,7 +9,7 @@ ghost use Rattle.relation.specs.Rows.{holds, marked, joined, joinedFrom,
 pub const WIDTH: usize = 4;
 
 // The bits of a word.
-const WORD_BITS: usize = 64;
+pub const WORD_BITS: usize = 64;
 
 // Event x is a predecessor of event y.
 pub fn test(words: &[u64], y: usize, x: usize) -> bool

@@ -196,7 +196,17 @@ fn many_rows(r: &mut Random, out: &mut Rows) {
     }
 }
 
-const AT_LIMITS: [fn(&mut Random, &mut Rows); 7] = [many_messages, chained, deep, many_calls, called_messages, all_sheets, many_rows];
+/// A few messages that matter behind many that do not, so that theirs are the high events, in the later words of a row.
+fn shifted(r: &mut Random, out: &mut Rows) {
+    let messages = 2 + r.below(12);
+    out.extend(std::iter::repeat(('M', 15, 15)).take(r.below(129 - messages)));
+    out.push(('B', 0, 0));
+    let (boards, orders) = (2 + r.below(6), r.below(2 * messages));
+    block(r, out, messages, boards, orders);
+}
+
+const AT_LIMITS: [fn(&mut Random, &mut Rows); 10] =
+    [many_messages, chained, deep, many_calls, called_messages, all_sheets, many_rows, shifted, shifted, shifted];
 
 fn large(r: &mut Random) -> Rows {
     let mut out = vec![('S', 0, 0)];

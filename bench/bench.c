@@ -12,7 +12,7 @@ static void line(const char *kind, int one, int two) { len += (size_t)sprintf(te
 
 static void begin(void) { len = (size_t)sprintf(text, "kind one two\nS 0 0\n"); }
 
-/* Every message is sent, and all but the last two are consumed, before the last two race: the longest trace. */
+/* The last two race, and all the others are consumed beside them: the longest trace. */
 static void longest_trace(int n) {
     begin();
     for (int m = 0; m < n; m++) {

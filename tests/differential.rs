@@ -237,8 +237,9 @@ fn try_text(r: &mut Random, seen: &mut Seen) {
     let search = r.one_in(8);
     if r.one_in(16) {
         let code = *r.pick(&[6, 255, 256, u32::MAX]);
-        compare(r, &text, &sheet, code);
-        seen.refused[1] += 1;
+        if let (Answer::Refused((n, _)), _) = compare(r, &text, &sheet, code) {
+            seen.refused[n as usize] += 1;
+        }
     }
     if let Ok(s) = &sheet {
         seen.limits_of(s);

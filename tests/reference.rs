@@ -123,17 +123,12 @@ pub fn read(text: &[u8]) -> Result<Vec<Row>, Refusal> {
         }
         rows.push(r);
     }
-    if !opened.contains(&0) {
-        return Err((7, 0));
+    let absent = |r: &Row| matches!(r, Row::Call(n) if !opened.contains(n));
+    match rows.iter().position(absent) {
+        _ if !opened.contains(&0) => Err((7, 0)),
+        Some(i) => Err((7, i as u32 + 2)),
+        None => Ok(rows),
     }
-    for (i, r) in rows.iter().enumerate() {
-        if let Row::Call(n) = r {
-            if !opened.contains(n) {
-                return Err((7, i as u32 + 2));
-            }
-        }
-    }
-    Ok(rows)
 }
 
 // ---------------------------------------------------------------- expansion

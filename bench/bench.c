@@ -1,5 +1,5 @@
-/* Runs one implementation on one fixed sheet, on all six channels: for callgrind to count.
- * usage: bench proved|careful SHEET [MESSAGES] */
+/* Runs one implementation on one fixed sheet, on all six channels or one: for callgrind to count.
+ * usage: bench proved|careful|text SHEET MESSAGES [CODE]; `text` prints the sheet itself. */
 #include "check.h"
 #include <stdio.h>
 #include <stdlib.h>
@@ -12,7 +12,7 @@ static void line(const char *kind, int one, int two) { len += (size_t)sprintf(te
 
 static void begin(void) { len = (size_t)sprintf(text, "kind one two\nS 0 0\n"); }
 
-/* Every message is sent, and all but the last two are consumed, before the last two race: the longest trace. */
+/* The last two race, and all the others are consumed beside them: the longest trace. */
 static void longest_trace(int n) {
     begin();
     for (int m = 0; m < n; m++) {
@@ -59,32 +59,60 @@ static void blocks(int n) {
     for (int i = 0; i < 440; i++) line("B", 0, 0);
 }
 
-/* A file of nearly 8,192 bytes whose last row is refused. */
+/* 8,192 bytes, all of them read: the last row, which is refused, has one field that takes the rest. */
 static void refused(int n) {
     (void)n;
     begin();
     for (int i = 0; i < 128; i++) line("M", 10 + i % 6, 10 + i % 5);
     line("B", 0, 0);
     for (int i = 0; i < 128; i++) line("M", 15, 15);
-    for (int i = 0; i < 252; i++) line("P", 100 + i % 128, 229 - i % 128 + (229 - i % 128 == 100 + i % 128));
-    line("P", 255, 255);
+    for (int i = 0; i < 253; i++) line("P", 100 + i % 128, 229 - i % 128 + (229 - i % 128 == 100 + i % 128));
+    len += (size_t)sprintf(text + len, "P 255 ");
+    while (len < 8191) text[len++] = '1';
+    text[len++] = '\n';
+}
+
+/* As the longest trace, but the first two race: a search that goes deep first comes to them last. */
+static void early_race(int n) {
+    begin();
+    for (int m = 0; m < n; m++) line("M", m < 2 ? m : (m - 2) % 13, m < 2 ? 15 : (m - 1) % 13);
+    line("P", 1, 3);
+}
+
+/* Pairs of boards, each with messages in order at both ends: free on all channels but 0. */
+static void streams(int n) {
+    begin();
+    for (int m = 0; m < n; m++) line("M", m / 2 % 8, 8 + m / 2 % 8);
+    for (int m = 0; m < n; m++) {
+        int next = m % 2 == 0 ? m + 1 : m + 15;
+        if (next >= n) continue;
+        line("P", 2 * m, 2 * next);
+        line("P", 2 * m + 1, 2 * next + 1);
+    }
 }
 
 static const struct { const char *name; void (*make)(int); } sheets[] = {
     {"longest-trace", longest_trace}, {"chain", chain}, {"dense", dense}, {"calls", calls}, {"blocks", blocks}, {"refused", refused},
+    {"early-race", early_race}, {"streams", streams},
 };
 
+/* One call, and its answer, with a sum of the trace so that two implementations can be compared. */
+static void run(int proved, uint32_t code) {
+    static uint64_t scratch[CHANNEL_CHECK_SCRATCH_WORDS];
+    static uint8_t trace[CHANNEL_CHECK_TRACE_BYTES];
+    channel_check_answer a = (proved ? channel_check : careful_check)((const uint8_t *)text, len, code, scratch, CHANNEL_CHECK_SCRATCH_WORDS, trace, CHANNEL_CHECK_TRACE_BYTES);
+    unsigned sum = 0;
+    for (size_t i = 0; i < sizeof trace; i++) sum = 31 * sum + trace[i];
+    printf("%zu bytes, code %u: %u %u %u %u, trace %u\n", len, code, a.word, a.one, a.two, a.three, sum);
+}
+
 int main(int argc, char **argv) {
-    static uint64_t scratch[2048];
-    static uint8_t trace[768];
-    if (argc < 3) return 2;
+    if (argc < 4) return 2;
     for (size_t i = 0; i < sizeof sheets / sizeof *sheets; i++)
-        if (strcmp(argv[2], sheets[i].name) == 0) sheets[i].make(argc > 3 ? atoi(argv[3]) : 128);
-    for (uint32_t code = 0; code < 6; code++) {
-        channel_check_answer a = strcmp(argv[1], "proved") == 0
-                                     ? channel_check((const uint8_t *)text, len, code, scratch, 2048, trace, 768)
-                                     : careful_check((const uint8_t *)text, len, code, scratch, 2048, trace, 768);
-        printf("%s %s %zu bytes, code %u: %u %u %u %u\n", argv[1], argv[2], len, code, a.word, a.one, a.two, a.three);
-    }
+        if (strcmp(argv[2], sheets[i].name) == 0) sheets[i].make(atoi(argv[3]));
+    if (len == 0) return 2;
+    if (strcmp(argv[1], "text") == 0) return fwrite(text, 1, len, stdout) != len;
+    for (uint32_t code = 0; code < 6; code++)
+        if (argc < 5 || (uint32_t)atoi(argv[4]) == code) run(strcmp(argv[1], "proved") == 0, code);
     return 0;
 }

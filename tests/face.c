@@ -1,5 +1,5 @@
-/* The C face, called on every kind of answer with a guard page right behind each buffer: answers, trace and scratch bytes on
- * all eleven refusals and both words, with exact and larger buffers, odd codes and empty text. */
+/* The C face, called on every kind of answer with a guard page right behind each buffer: the answer, and the bytes of trace
+ * and scratch, on all eleven refusals and both words, with exact and larger buffers, odd codes and empty text. */
 #define _GNU_SOURCE
 #include "../include/channel_check.h"
 #include <stdio.h>
@@ -8,118 +8,260 @@
 #include <sys/mman.h>
 #include <unistd.h>
 
-static int failures, calls;
+#define H "kind one two\n"
+enum { WORDS = CHANNEL_CHECK_SCRATCH_WORDS, BYTES = CHANNEL_CHECK_TRACE_BYTES, PAINT = 0xa5, CODES = 6 };
 
-/* size bytes that end where a page that cannot be touched begins */
-static void *guarded(size_t size) {
-    size_t page = (size_t)sysconf(_SC_PAGESIZE), pages = (size + page - 1) / page + 1;
-    char *at = mmap(NULL, (pages + 1) * page, PROT_READ | PROT_WRITE, MAP_PRIVATE | MAP_ANONYMOUS, -1, 0);
-    if (at == MAP_FAILED || mprotect(at + pages * page, page, PROT_NONE) != 0) {
+static int failures, calls;
+static int seen[3][12]; /* by word, and by refusal */
+
+/* ------------------------------------------------------------------ buffers */
+
+typedef struct { uint8_t *from, *at, *guard; size_t page; } buffer;
+
+/* size bytes that end where a page that cannot be touched begins; they, and what stands ahead of them, are painted */
+static buffer lend(size_t size) {
+    size_t page = (size_t)sysconf(_SC_PAGESIZE), room = (size / page + 2) * page;
+    uint8_t *from = mmap(NULL, room + page, PROT_READ | PROT_WRITE, MAP_PRIVATE | MAP_ANONYMOUS, -1, 0);
+    if (from == MAP_FAILED || mprotect(from + room, page, PROT_NONE) != 0) {
         perror("guard page");
         exit(2);
     }
-    return at + pages * page - size;
+    memset(from, PAINT, room);
+    return (buffer){from, from + room - size, from + room, page};
 }
 
-static void expect(int holds, const char *name, uint32_t code, const char *what) {
-    if (!holds) {
-        printf("FAILED: %s, code %u: %s\n", name, code, what);
-        failures++;
-    }
+static void give_back(buffer b) { munmap(b.from, (size_t)(b.guard - b.from) + b.page); }
+
+static int painted(const uint8_t *from, const uint8_t *to) {
+    while (from < to && *from == PAINT) from++;
+    return from == to;
 }
 
-/* one call: the answer's four numbers, the bytes of the steps, and what is left of both buffers */
-static void call(const char *name, const char *text, size_t text_len, uint32_t code, size_t words, size_t bytes,
-                 uint32_t word, uint32_t one, uint32_t two, uint32_t three, const char *steps) {
-    uint8_t *t = guarded(text_len);
-    uint64_t *scratch = guarded(words * 8);
-    uint8_t *trace = guarded(bytes);
-    memcpy(t, text, text_len);
-    memset(scratch, 0xa5, words * 8);
-    memset(trace, 0x5a, bytes);
-    channel_check_answer a = channel_check(t, text_len, code, scratch, words, trace, bytes);
+static int zero(const uint8_t *from, const uint8_t *to) {
+    while (from < to && *from == 0) from++;
+    return from == to;
+}
+
+/* ------------------------------------------------------------------ one call */
+
+typedef struct { const char *name; const char *text; size_t len; } sheet;
+
+static void expect(int holds, sheet s, uint32_t code, const char *what) {
+    if (holds) return;
+    printf("FAILED: %s, code %u: %s\n", s.name, code, what);
+    failures++;
+}
+
+static void call(sheet s, uint32_t code, size_t words, size_t bytes, channel_check_answer e, const void *steps) {
+    buffer text = lend(s.len), scratch = lend(words * 8), trace = lend(bytes);
+    memcpy(text.at, s.text, s.len);
+    channel_check_answer a = channel_check(text.at, s.len, code, (uint64_t *)scratch.at, words, trace.at, bytes);
     calls++;
-    expect(a.word == word && a.one == one && a.two == two && a.three == three, name, code, "answer");
-    if (a.word != word || a.one != one || a.two != two || a.three != three)
-        printf("  got %u %u %u %u\n", a.word, a.one, a.two, a.three);
-    size_t written = word == 1 ? 2 * three : 0;
-    expect(memcmp(trace, steps, written) == 0, name, code, "steps");
-    for (size_t i = written; i < bytes; i++)
-        if (trace[i] != 0x5a) {
-            expect(0, name, code, "trace bytes behind the steps");
-            break;
-        }
-    size_t cleared = word == 2 && one <= 2 ? 0 : CHANNEL_CHECK_SCRATCH_WORDS;
-    for (size_t i = 0; i < words; i++)
-        if (scratch[i] != (i < cleared ? 0 : UINT64_C(0xa5a5a5a5a5a5a5a5))) {
-            expect(0, name, code, "scratch words");
-            break;
-        }
-    expect(memcmp(t, text, text_len) == 0, name, code, "the text was written to");
+    if (a.word < 3) seen[a.word][a.word == 2 && a.one < 12 ? a.one : 0]++;
+    if (a.word != e.word || a.one != e.one || a.two != e.two || a.three != e.three)
+        printf("  expected %u %u %u %u, got %u %u %u %u\n", e.word, e.one, e.two, e.three, a.word, a.one, a.two, a.three);
+    expect(a.word == e.word && a.one == e.one && a.two == e.two && a.three == e.three, s, code, "answer");
+    size_t written = e.word == 1 ? 2 * (size_t)e.three : 0, cleared = e.word == 2 && e.one <= 2 ? 0 : 8 * (size_t)WORDS;
+    expect(memcmp(trace.at, steps, written) == 0, s, code, "steps");
+    expect(painted(trace.at + written, trace.guard), s, code, "trace bytes behind the steps");
+    expect(zero(scratch.at, scratch.at + cleared), s, code, "scratch words not zero");
+    expect(painted(scratch.at + cleared, scratch.guard), s, code, "scratch words touched");
+    expect(painted(scratch.from, scratch.at) && painted(trace.from, trace.at), s, code, "bytes ahead of a buffer");
+    expect(memcmp(text.at, s.text, s.len) == 0 && painted(text.from, text.at), s, code, "the text was written to");
+    give_back(text), give_back(scratch), give_back(trace);
 }
 
-static void answers(const char *name, const char *text, uint32_t code, uint32_t word, uint32_t one, uint32_t two, uint32_t three,
-                    const char *steps) {
-    call(name, text, strlen(text), code, CHANNEL_CHECK_SCRATCH_WORDS, CHANNEL_CHECK_TRACE_BYTES, word, one, two, three, steps);
-    call(name, text, strlen(text), code, CHANNEL_CHECK_SCRATCH_WORDS + 3, CHANNEL_CHECK_TRACE_BYTES + 5, word, one, two, three, steps);
+static void exact_and_larger(sheet s, uint32_t code, channel_check_answer e, const void *steps) {
+    call(s, code, WORDS, BYTES, e, steps);
+    call(s, code, WORDS + 3, BYTES + 5, e, steps);
+    call(s, code, WORDS, 2 * BYTES, e, steps);
+    call(s, code, 2 * WORDS, BYTES, e, steps);
 }
 
-#define H "kind one two\n"
+static sheet named(const char *name, const char *text) { return (sheet){name, text, strlen(text)}; }
 
-static char *repeated(const char *head, const char *line, int times, const char *tail) {
-    char *out = malloc(strlen(head) + strlen(line) * (size_t)times + strlen(tail) + 1);
-    strcpy(out, head);
-    for (int i = 0; i < times; i++) strcat(out, line);
-    return strcat(out, tail);
+static void is_free(sheet s, const char *codes) {
+    for (; *codes; codes++) exact_and_larger(s, (uint32_t)(*codes - '0'), (channel_check_answer){0, 0, 0, 0}, "");
 }
 
-static void refused(const char *name, const char *text, uint32_t number, uint32_t line) {
-    for (uint32_t code = 0; code < 6; code++) answers(name, text, code, 2, number, line, 0, "");
+static void is_locked(sheet s, const char *codes, uint32_t e, uint32_t x, uint32_t count, const void *steps) {
+    for (; *codes; codes++) exact_and_larger(s, (uint32_t)(*codes - '0'), (channel_check_answer){1, e, x, count}, steps);
+}
+
+static void is_refused(sheet s, uint32_t number, uint32_t line) {
+    for (uint32_t code = 0; code < CODES; code++) exact_and_larger(s, code, (channel_check_answer){2, number, line, 0}, "");
+}
+
+/* ------------------------------------------------------------------ sheets made by repeating a line */
+
+static char made[16384];
+
+static void begin(const char *head) { strcpy(made, head); }
+static void repeat(const char *line, int times) { while (times-- > 0) strcat(made, line); }
+
+/* ------------------------------------------------------------------ free and locked */
+
+/* 126 messages on a board of their own, then two that race: send and deliver the last, all of the others, send the first */
+static void longest(void) {
+    uint8_t steps[BYTES], *at = steps;
+    begin(H "S 0 0\n");
+    repeat("M 3 3\n", 126);
+    repeat("M 0 1\nM 2 1\nP 253 255\n", 1);
+    *at++ = 0, *at++ = 127, *at++ = 1, *at++ = 127;
+    for (uint8_t m = 0; m < 126; m++)
+        for (uint8_t kind = 0; kind < 3; kind++) *at++ = kind, *at++ = m;
+    *at++ = 0, *at++ = 126;
+    is_locked(named("a long trace", made), "0245", 127, 253, 381, steps);
+    is_free(named("a long trace", made), "13");
 }
 
 static void words(void) {
-    static const uint32_t eager[] = {0, 2, 4, 5};
-    const char *two = H "S 0 0\nM 0 1\nM 2 1\nP 1 3\n", *seven = H "S 0 0\nM 0 2\nM 0 1\nM 1 2\nP 0 2\nP 3 4\nP 1 5\n";
-    for (int i = 0; i < 4; i++) answers("sheet 2", two, eager[i], 1, 1, 1, 3, "\0\1\1\1\0\0");
-    answers("sheet 2", two, 1, 0, 0, 0, 0, "");
-    answers("sheet 2", two, 3, 0, 0, 0, 0, "");
-    answers("sheet 7", seven, 0, 1, 2, 1, 6, "\0\0\0\1\1\1\2\1\0\2\1\2");
-    for (uint32_t code = 1; code < 6; code++) answers("sheet 7", seven, code, 0, 0, 0, 0, "");
-    for (uint32_t code = 0; code < 6; code++) answers("sheet 6", H "S 0 0\nM 3 3\n", code, 0, 0, 0, 0, "");
-    answers("columns in another order", "two kind one\n0 S 0\n1 M 0\n2 M 1\n1 P 2\n", 0, 1, 0, 2, 2, "\0\0\1\0");
+    is_free(named("sheet 1", H "S 0 0\n"), "012345");
+    sheet two = named("sheet 2", H "S 0 0\nM 0 1\nM 2 1\nP 1 3\n");
+    is_locked(two, "0245", 1, 1, 3, "\0\1\1\1\0\0");
+    is_free(two, "13");
+    sheet three = named("sheet 3", H "S 0 0\nM 0 1\nM 0 1\nP 0 2\nP 1 3\n");
+    is_locked(three, "0", 1, 1, 3, "\0\0\0\1\1\1");
+    is_free(three, "12345");
+    sheet seven = named("sheet 7", H "S 0 0\nM 0 2\nM 0 1\nM 1 2\nP 0 2\nP 3 4\nP 1 5\n");
+    is_locked(seven, "0", 2, 1, 6, "\0\0\0\1\1\1\2\1\0\2\1\2");
+    is_free(seven, "12345");
+    is_free(named("sheet 6", H "S 0 0\nM 3 3\n"), "012345");
+    is_locked(named("columns in another order", "two kind one\n0 S 0\n1 M 0\n2 M 1\n1 P 2\n"), "0245", 0, 2, 2, "\0\0\1\0");
+    longest();
+}
+
+/* accepted at a limit: the neighbours past it are among the refusals */
+static void limits(void) {
+    begin(H "S 0 0\n");
+    repeat("B 0 0\n", 511);
+    is_free(named("512 rows", made), "012345");
+    begin(H "S 31 0\nM 15 15\nS 0 0\nC 31 0\n");
+    repeat("M 0 1\n", 127);
+    is_free(named("sheet 31, board 15, 128 messages", made), "012345");
+    begin(H "S 0 0\n");
+    repeat("M 0 1\n", 128);
+    repeat("P 253 255\n", 1);
+    is_free(named("event 255, lazy", made), "13");
+    begin(H "S 0 0\n");
+    repeat("C 1 0\n", 31);
+    repeat("C 2 0\nS 1 0\n", 1);
+    repeat("C 2 0\n", 32);
+    repeat("S 2 0\n", 1);
+    is_free(named("1,024 calls", made), "012345");
+    is_free(named("level 8", H "S 0 0\nC 1 0\nS 1 0\nC 2 0\nS 2 0\nC 3 0\nS 3 0\nC 4 0\nS 4 0\nC 5 0\nS 5 0\nC 6 0\nS 6 0\nC 7 0\nS 7 0\nC 8 0\nS 8 0\nM 0 1\n"), "012345");
+}
+
+/* ------------------------------------------------------------------ refusals */
+
+static const struct { const char *name, *text; uint32_t number, line; } refused[] = {
+    {"3 empty", "", 3, 0},
+    {"4 a name twice", "kind one one\nS 0 0\n", 4, 1},
+    {"4 another name", "kind one too\nS 0 0\n", 4, 1},
+    {"4 two spaces", "kind  one two\nS 0 0\n", 4, 1},
+    {"4 a fourth name", "kind one two two\nS 0 0\n", 4, 1},
+    {"4 without its end", "kind one two", 4, 1},
+    {"4 empty line", "\n", 4, 1},
+    {"5 leading zero", H "S 0 0\nM 0 01\n", 5, 3},
+    {"5 over 255", H "S 0 0\nM 256 0\n", 5, 3},
+    {"5 no digit", H "S 0 0\nM 0 -1\n", 5, 3},
+    {"5 empty field", H "S 0 0\nM 0 \n", 5, 3},
+    {"5 fourth field", H "S 0 0\nM 0 1 0\n", 5, 3},
+    {"5 two fields", H "S 0 0\nM 0\n", 5, 3},
+    {"5 letter", H "S 0 0\nA 0 0\n", 5, 3},
+    {"5 small letter", H "S 0 0\nm 0 1\n", 5, 3},
+    {"5 two letters", H "S 0 0\nMM 0 1\n", 5, 3},
+    {"5 unused field of S", H "S 0 1\n", 5, 2},
+    {"5 unused field of B", H "S 0 0\nB 1 0\n", 5, 3},
+    {"5 unused field of C", H "S 0 0\nC 0 1\n", 5, 3},
+    {"5 no line end", H "S 0 0\nM 0 1", 5, 3},
+    {"5 an empty row", H "S 0 0\n\n", 5, 3},
+    {"5 ahead of 6 on a row", H "M 16 256\n", 5, 2},
+    {"6 on a row ahead of 5 behind", H "M 0 1\nX\n", 6, 2},
+    {"6 message before S", H "M 0 1\nS 0 0\n", 6, 2},
+    {"6 block before S", H "B 0 0\nS 0 0\n", 6, 2},
+    {"6 call before S", H "C 0 0\nS 0 0\n", 6, 2},
+    {"6 sheet over 31", H "S 32 0\n", 6, 2},
+    {"6 sheet opened twice", H "S 0 0\nS 1 0\nS 0 0\n", 6, 4},
+    {"6 call over 31", H "S 0 0\nC 32 0\n", 6, 3},
+    {"6 source over 15", H "S 0 0\nM 16 0\n", 6, 3},
+    {"6 target over 15", H "S 0 0\nM 0 16\n", 6, 3},
+    {"6 P on two boards", H "S 0 0\nM 0 1\nP 0 1\n", 6, 4},
+    {"6 P of one event", H "S 0 0\nM 0 0\nP 1 1\n", 6, 4},
+    {"6 P of an event not there", H "S 0 0\nM 0 0\nP 0 2\n", 6, 4},
+    {"6 P of another block", H "S 0 0\nM 0 0\nB 0 0\nP 0 1\n", 6, 5},
+    {"7 no sheet 0", H "S 1 0\nC 2 0\n", 7, 0},
+    {"7 no sheet at all", H, 7, 0},
+    {"7 the first absent call", H "S 0 0\nS 1 0\nC 9 0\nC 8 0\n", 7, 4},
+    {"8 depth", H "S 0 0\nC 0 0\n", 8, 3},
+    {"8 ahead of 10", H "S 0 0\nM 0 0\nC 0 0\n", 8, 4},
+    {"11 circle", H "S 0 0\nM 0 1\nM 1 0\nP 1 2\nP 3 0\n", 11, 0},
+    {"11 circle of two rows", H "S 0 0\nM 0 1\nM 0 1\nP 0 2\nP 2 0\n", 11, 0},
+};
+
+/* the call at level 8 is call 1,025 too; with one call more ahead of it, the one that leads to level 8 is */
+static void depth_and_calls(int more, uint32_t number, uint32_t line) {
+    begin(H "S 0 0\nC 31 0\n");
+    repeat("C 29 0\n", more);
+    repeat("C 1 0\nS 31 0\n", 1);
+    repeat("C 30 0\n", 35);
+    repeat("S 30 0\n", 1);
+    repeat("C 29 0\n", 28);
+    repeat("S 29 0\nS 1 0\nC 2 0\nS 2 0\nC 3 0\nS 3 0\nC 4 0\nS 4 0\nC 5 0\nS 5 0\nC 6 0\nS 6 0\nC 7 0\nS 7 0\nC 8 0\nS 8 0\nC 9 0\nS 9 0\n", 1);
+    is_refused(named("8 and 9", made), number, line);
+}
+
+static void at_lengths(void) {
+    begin(H "S 0 0\n");
+    repeat("B 0 0\n", 1362);
+    repeat("\n", 1);
+    is_refused((sheet){"8,192 bytes are read", made, 8192}, 5, 514);
+    is_refused((sheet){"3 length 8,193", strcat(made, "\n"), 8193}, 3, 0);
+    begin(H "S 0 0\n");
+    repeat("B 0 0\n", 512);
+    is_refused(named("5 row 513", made), 5, 514);
+    begin(H "S 0 0\n");
+    repeat("M 0 1\n", 129);
+    is_refused(named("6 message 129", made), 6, 131);
+    begin(H "S 0 0\n");
+    repeat("C 1 0\n", 32);
+    repeat("S 1 0\n", 1);
+    repeat("C 2 0\n", 32);
+    repeat("S 2 0\n", 1);
+    is_refused(named("9 calls", made), 9, 36);
+    begin(H "S 0 0\nC 1 0\nC 1 0\nM 0 0\nS 1 0\n");
+    repeat("M 0 1\n", 64);
+    is_refused(named("10 messages", made), 10, 5);
+    depth_and_calls(0, 8, 86);
+    depth_and_calls(1, 9, 85);
 }
 
 static void refusals(void) {
     static const uint32_t odd[] = {6, 255, UINT32_MAX};
+    sheet one = named("1 channel", H "S 0 0\n"), none = {"nothing lent", "", 0}, two = named("2 bench", H "S 0 0\nM 0 1\nM 2 1\nP 1 3\n");
+    channel_check_answer channel = {2, 1, 0, 0}, bench = {2, 2, 0, 0};
     for (int i = 0; i < 3; i++) {
-        answers("1 channel", H "S 0 0\n", odd[i], 2, 1, 0, 0, "");
-        call("1 ahead of 2", "", 0, odd[i], 0, 0, 2, 1, 0, 0, "");
+        exact_and_larger(one, odd[i], channel, "");
+        call(none, odd[i], 0, 0, channel, "");
     }
-    for (uint32_t code = 0; code < 6; code++) {
-        call("2 bench, scratch", H, strlen(H), code, CHANNEL_CHECK_SCRATCH_WORDS - 1, CHANNEL_CHECK_TRACE_BYTES, 2, 2, 0, 0, "");
-        call("2 bench, trace", H, strlen(H), code, CHANNEL_CHECK_SCRATCH_WORDS, CHANNEL_CHECK_TRACE_BYTES - 1, 2, 2, 0, 0, "");
-        call("2 bench, nothing lent", "", 0, code, 0, 0, 2, 2, 0, 0, "");
+    for (uint32_t code = 0; code < CODES; code++) {
+        call(two, code, WORDS - 1, BYTES, bench, "");
+        call(two, code, WORDS, BYTES - 1, bench, "");
+        call(two, code, WORDS + 9, 0, bench, "");
+        call(two, code, 0, BYTES + 9, bench, "");
+        call(none, code, 0, 0, bench, "");
     }
-    refused("3 length, empty", "", 3, 0);
-    refused("3 length, long", repeated(H "S 0 0\n", "B 0 0\n", 1400, ""), 3, 0);
-    refused("4 heading", "kind one one\nS 0 0\n", 4, 1);
-    refused("4 heading without its end", "kind one two", 4, 1);
-    refused("5 row", H "S 0 0\nM 0 01\n", 5, 3);
-    refused("5 row 513", repeated(H "S 0 0\n", "B 0 0\n", 512, ""), 5, 514);
-    refused("5 an empty row", H "S 0 0\n\n", 5, 3);
-    refused("6 place", H "S 0 0\nM 0 1\nP 0 1\n", 6, 4);
-    refused("6 message 129", repeated(H "S 0 0\n", "M 0 1\n", 129, ""), 6, 131);
-    refused("7 absent", H "S 1 0\n", 7, 0);
-    refused("7 absent call", H "S 0 0\nC 1 0\n", 7, 3);
-    refused("8 depth", H "S 0 0\nC 0 0\n", 8, 3);
-    refused("9 calls", repeated(H "S 0 0\n", "C 1 0\n", 32, repeated("S 1 0\n", "C 2 0\n", 32, "S 2 0\n")), 9, 36);
-    refused("10 messages", repeated(H "S 0 0\nC 1 0\nC 1 0\nM 0 0\nS 1 0\n", "M 0 1\n", 64, ""), 10, 5);
-    refused("11 circle", H "S 0 0\nM 0 1\nM 1 0\nP 1 2\nP 3 0\n", 11, 0);
+    for (size_t i = 0; i < sizeof refused / sizeof *refused; i++) is_refused(named(refused[i].name, refused[i].text), refused[i].number, refused[i].line);
+    at_lengths();
 }
 
 int main(void) {
     words();
+    limits();
     refusals();
+    for (int n = 0; n < 12; n++)
+        if (seen[2][n] == 0 && n > 0) failures++, printf("FAILED: refusal %d never came\n", n);
+    if (seen[0][0] == 0 || seen[1][0] == 0) failures++, printf("FAILED: a word never came\n");
     printf("face: %d calls, %d failures\n", calls, failures);
     return failures != 0;
 }

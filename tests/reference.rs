@@ -1,7 +1,7 @@
 //! The paper, written plainly and slowly in Rust, with nothing of crates/ in it: the reader, the expansion, the causal order,
 //! the races, the step rules and the schedule. The differential test holds the proved check to it.
 
-use std::collections::BTreeSet;
+use std::collections::{BTreeSet, HashSet};
 
 #[derive(Clone, Copy, PartialEq, Eq, Debug)]
 pub enum Row {
@@ -97,16 +97,13 @@ pub fn read(text: &[u8]) -> Result<Vec<Row>, Refusal> {
         return Err((3, 0));
     }
     let lines = lines(text);
-    let Some(columns) = heading(lines[0]) else { return Err((4, 1)) };
+    let columns = heading(lines[0]).ok_or((4, 1))?;
     let mut rows = Vec::new();
     let mut opened = BTreeSet::new();
     let mut open: Vec<(usize, usize)> = Vec::new();
     for (i, line) in lines[1..].iter().enumerate() {
         let at = i as u32 + 2;
-        let Some(r) = row(columns, *line) else { return Err((5, at)) };
-        if i >= 512 {
-            return Err((5, at));
-        }
+        let r = row(columns, *line).filter(|_| i < 512).ok_or((5, at))?;
         let board = |x: usize| if x % 2 == 0 { open[x / 2].0 } else { open[x / 2].1 };
         let placed = match r {
             Row::Sheet(n) => n <= 31 && opened.insert(n),
@@ -126,17 +123,12 @@ pub fn read(text: &[u8]) -> Result<Vec<Row>, Refusal> {
         }
         rows.push(r);
     }
-    if !opened.contains(&0) {
-        return Err((7, 0));
+    let absent = |r: &Row| matches!(r, Row::Call(n) if !opened.contains(n));
+    match rows.iter().position(absent) {
+        _ if !opened.contains(&0) => Err((7, 0)),
+        Some(i) => Err((7, i as u32 + 2)),
+        None => Ok(rows),
     }
-    for (i, r) in rows.iter().enumerate() {
-        if let Row::Call(n) = r {
-            if !opened.contains(n) {
-                return Err((7, i as u32 + 2));
-            }
-        }
-    }
-    Ok(rows)
 }
 
 // ---------------------------------------------------------------- expansion
@@ -144,6 +136,7 @@ pub fn read(text: &[u8]) -> Result<Vec<Row>, Refusal> {
 #[derive(Default)]
 struct Walk {
     calls: usize,
+    deepest: usize,
     block: usize,
     /// source, target and block of each message
     messages: Vec<(usize, usize, usize)>,
@@ -152,6 +145,7 @@ struct Walk {
 
 fn walk(rows: &[Row], sheet: usize, level: usize, w: &mut Walk) -> Result<(), Refusal> {
     let start = rows.iter().position(|r| *r == Row::Sheet(sheet)).unwrap() + 1;
+    w.deepest = w.deepest.max(level);
     let mut first = w.messages.len();
     for (i, r) in rows.iter().enumerate().skip(start) {
         let line = i as u32 + 2;
@@ -192,6 +186,10 @@ pub struct Scenario {
     pub messages: Vec<(usize, usize)>,
     /// before[x][y]: event x is before event y
     pub before: Vec<Vec<bool>>,
+    /// how near the walk came to its limits, for the count of what was tried
+    pub rows: usize,
+    pub calls: usize,
+    pub deepest: usize,
 }
 
 pub fn expand(rows: &[Row]) -> Result<Scenario, Refusal> {
@@ -221,7 +219,7 @@ pub fn expand(rows: &[Row]) -> Result<Scenario, Refusal> {
         return Err((11, 0));
     }
     let messages = w.messages.iter().map(|m| (m.0, m.1)).collect();
-    Ok(Scenario { messages, before })
+    Ok(Scenario { messages, before, rows: rows.len(), calls: w.calls, deepest: w.deepest })
 }
 
 impl Scenario {
@@ -248,7 +246,7 @@ impl Scenario {
 
 // ---------------------------------------------------------------- steps of a run
 
-#[derive(Clone)]
+#[derive(Clone, PartialEq, Eq, Hash)]
 pub struct State {
     pub done: Vec<bool>,
     pub under_way: BTreeSet<usize>,
@@ -319,6 +317,26 @@ impl State {
     }
 }
 
+/// Whether some allowed order ends stuck, found by taking every order: the step rules alone, with no word of races.
+pub fn can_stop(s: &Scenario, code: u32) -> bool {
+    let mut seen = HashSet::new();
+    let mut open = vec![State::start(s)];
+    while let Some(state) = open.pop() {
+        let steps = state.steps(s, code);
+        if steps.is_empty() && !state.finished() {
+            return true;
+        }
+        for step in steps {
+            let mut next = state.clone();
+            next.take(s, step);
+            if seen.insert(next.clone()) {
+                open.push(next);
+            }
+        }
+    }
+    false
+}
+
 pub fn schedule(s: &Scenario, code: u32, e: usize) -> Vec<Step> {
     let n = s.messages.len();
     let mut state = State::start(s);
@@ -333,9 +351,13 @@ pub fn schedule(s: &Scenario, code: u32, e: usize) -> Vec<Step> {
             .or_else(|| (0..n).filter(|m| s.at_or_before(2 * m, 2 * e)).map(Step::Send).find(may))
             .or_else(|| (0..n).map(Step::Deliver).find(may))
             .or_else(|| (0..n).map(Step::Send).find(may));
-        let Some(step) = next else { return out };
-        state.take(s, step);
-        out.push(step);
+        match next {
+            None => return out,
+            Some(step) => {
+                state.take(s, step);
+                out.push(step);
+            }
+        }
     }
 }
 

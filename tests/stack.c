@@ -14,54 +14,72 @@ static size_t len;
 static uint64_t scratch[CHANNEL_CHECK_SCRATCH_WORDS];
 static uint8_t trace[CHANNEL_CHECK_TRACE_BYTES];
 static uint32_t code;
+static channel_check_answer answer;
+static uint8_t *top; /* where the caller's frame stands */
 
-static void *run(void *check) {
-    if (check) channel_check((const uint8_t *)text, len, code, scratch, CHANNEL_CHECK_SCRATCH_WORDS, trace, CHANNEL_CHECK_TRACE_BYTES);
-    return NULL;
+static void *run(void *unused) {
+    top = __builtin_frame_address(0);
+    answer = channel_check((const uint8_t *)text, len, code, scratch, CHANNEL_CHECK_SCRATCH_WORDS, trace, CHANNEL_CHECK_TRACE_BYTES);
+    return unused;
 }
 
-/* bytes of a painted stack that a thread used */
-static size_t used(int check) {
+/* bytes of a painted stack that a call used, with its caller's frame */
+static size_t used(void) {
     static uint8_t *stack;
     pthread_attr_t a;
     pthread_t t;
     if (!stack) stack = aligned_alloc(4096, SIZE);
     memset(stack, PAINT, SIZE);
-    if (pthread_attr_init(&a) || pthread_attr_setstack(&a, stack, SIZE) || pthread_create(&t, &a, run, check ? &t : NULL) || pthread_join(t, NULL)) {
+    if (pthread_attr_init(&a) || pthread_attr_setstack(&a, stack, SIZE) || pthread_create(&t, &a, run, NULL) || pthread_join(t, NULL)) {
         perror("thread");
         exit(2);
     }
-    size_t clean = 0;
-    while (clean < SIZE && stack[clean] == PAINT) clean++;
-    return SIZE - clean;
+    uint8_t *lowest = stack;
+    while (*lowest == PAINT) lowest++;
+    return (size_t)(top - lowest);
 }
 
 static void line(const char *kind, int one, int two) { len += (size_t)sprintf(text + len, "%s %d %d\n", kind, one, two); }
 
-static void begin(void) { len = (size_t)sprintf(text, "kind one two\n"); }
-
-int main(int argc, char **argv) {
-    size_t most = argc > 1 ? (size_t)atol(argv[1]) : 32768, deepest = 0, idle = used(0);
-    /* nine levels of sheets, with messages that race at the deepest */
-    begin();
+/* nine levels of sheets, with messages that race, and one call more at the deepest where it is to be refused */
+static void levels(int refused) {
     for (int n = 0; n <= 8; n++) {
         line("S", n, 0);
-        if (n < 8) line("C", n + 1, 0);
         for (int m = 0; m < 14; m++) line("M", m % 16, 15);
         line("P", 25, 27);
+        if (n < 8 || refused) line("C", (n + 1) % 9, 0);
     }
-    for (code = 0; code < 6; code++) {
-        size_t n = used(1) - idle;
-        if (n > deepest) deepest = n;
-    }
-    /* 128 messages, and a race of the last two */
-    begin();
+}
+
+/* 128 messages, and a race of the last two */
+static void messages(int refused) {
     line("S", 0, 0);
-    for (int m = 0; m < 128; m++) line("M", m % 13, m < 126 ? (m + 1) % 13 : 15);
+    for (int m = 0; m < 128 + refused; m++) line("M", m % 13, m < 126 ? (m + 1) % 13 : 15);
     line("P", 253, 255);
+}
+
+static size_t deepest;
+
+/* all six channels; the answers are looked at, so that what was measured is the path that was meant */
+static void measure(void (*make)(int), int refused) {
+    len = (size_t)sprintf(text, "kind one two\n");
+    make(refused);
     for (code = 0; code < 6; code++) {
-        size_t n = used(1) - idle;
+        size_t n = used();
+        uint32_t word = refused ? 2 : code != 1 && code != 3;
+        if (answer.word != word) {
+            printf("FAILED: stack, code %u: word %u, expected %u\n", code, answer.word, word);
+            exit(1);
+        }
         if (n > deepest) deepest = n;
+    }
+}
+
+int main(int argc, char **argv) {
+    size_t most = argc > 1 ? (size_t)atol(argv[1]) : 32768;
+    for (int refused = 0; refused < 2; refused++) {
+        measure(levels, refused);
+        measure(messages, refused);
     }
     printf("stack: %zu bytes at the deepest, %zu allowed\n", deepest, most);
     return deepest > most;

@@ -1,0 +1,87 @@
+/* The fuzz target over the C face. Each input is tried on the library as it is shipped, on the same proved code compiled with
+ * coverage counters, which guides the search, and on the careful C program of bench/, and all must agree in answer, trace,
+ * scratch and text. Input: a byte for the code, one for the buffers' lengths, then the text. */
+#define _GNU_SOURCE
+#include "../bench/check.h"
+#include <stdio.h>
+#include <stdlib.h>
+#include <string.h>
+#include <sys/mman.h>
+
+channel_check_answer guided_check(const uint8_t *, size_t, uint32_t, uint64_t *, size_t, uint8_t *, size_t);
+int LLVMFuzzerTestOneInput(const uint8_t *data, size_t size);
+
+enum { WORDS = CHANNEL_CHECK_SCRATCH_WORDS, BYTES = CHANNEL_CHECK_TRACE_BYTES, PAINT = 0xa5, AHEAD = 64, ROOM = 1 << 16, GUARD = 1 << 16 };
+
+typedef struct { channel_check_answer answer; size_t text_len, words, bytes; uint8_t *text, *scratch, *trace; } call;
+
+static void stop(const char *what, const call *a) {
+    fprintf(stderr, "DIFFERENCE: %s; answer %u %u %u %u\n", what, a->answer.word, a->answer.one, a->answer.two, a->answer.three);
+    abort();
+}
+
+/* The proved code is not compiled with the address sanitizer: its buffers end at a page that cannot be touched, and the
+ * bytes ahead of them are painted. */
+static uint8_t *guarded(int which, size_t size) {
+    static uint8_t *rooms[3];
+    if (!rooms[which]) {
+        rooms[which] = mmap(NULL, ROOM + GUARD, PROT_READ | PROT_WRITE, MAP_PRIVATE | MAP_ANONYMOUS, -1, 0);
+        if (rooms[which] == MAP_FAILED || mprotect(rooms[which] + ROOM, GUARD, PROT_NONE) != 0) exit(2);
+    }
+    return memset(rooms[which] + ROOM - size - AHEAD, PAINT, size + AHEAD) + AHEAD;
+}
+
+static int ahead_painted(const uint8_t *at) {
+    for (int i = 1; i <= AHEAD; i++)
+        if (at[-i] != PAINT) return 0;
+    return 1;
+}
+
+static void proved(call *a, const uint8_t *text, uint32_t code, int is_guided) {
+    a->text = memcpy(guarded(0, a->text_len), text, a->text_len);
+    a->scratch = guarded(1, a->words * 8);
+    a->trace = guarded(2, a->bytes);
+    a->answer = (is_guided ? guided_check : channel_check)(a->text, a->text_len, code, (uint64_t *)a->scratch, a->words, a->trace, a->bytes);
+    if (!ahead_painted(a->text) || !ahead_painted(a->scratch) || !ahead_painted(a->trace)) stop("bytes ahead of a buffer", a);
+}
+
+/* The careful C program has the address sanitizer: its buffers are exact. */
+static void careful(call *a, const uint8_t *text, uint32_t code) {
+    a->text = memcpy(malloc(a->text_len), text, a->text_len);
+    a->scratch = memset(malloc(a->words * 8), PAINT, a->words * 8);
+    a->trace = memset(malloc(a->bytes), PAINT, a->bytes);
+    a->answer = careful_check(a->text, a->text_len, code, (uint64_t *)a->scratch, a->words, a->trace, a->bytes);
+}
+
+static void agree(const call *a, const call *c) {
+    if (memcmp(&a->answer, &c->answer, sizeof a->answer) != 0) stop("answer", a);
+    if (memcmp(a->trace, c->trace, a->bytes) != 0) stop("trace", a);
+    if (memcmp(a->scratch, c->scratch, a->words * 8) != 0) stop("scratch", a);
+    if (memcmp(a->text, c->text, a->text_len) != 0) stop("the text was written to", a);
+}
+
+/* what the header promises of the buffers, whatever the others do */
+static void promised(const call *a) {
+    size_t cleared = a->answer.word == 2 && a->answer.one <= 2 ? 0 : 8 * WORDS, written = a->answer.word == 1 ? 2 * (size_t)a->answer.three : 0;
+    for (size_t i = 0; i < 8 * a->words; i++)
+        if (a->scratch[i] != (i < cleared ? 0 : PAINT)) stop("scratch bytes", a);
+    for (size_t i = written; i < a->bytes; i++)
+        if (a->trace[i] != PAINT) stop("trace bytes behind the steps", a);
+}
+
+int LLVMFuzzerTestOneInput(const uint8_t *data, size_t size) {
+    static const uint32_t codes[8] = {0, 1, 2, 3, 4, 5, 6, UINT32_MAX};
+    static const size_t words[8] = {WORDS, WORDS, WORDS, WORDS + 1, WORDS + 9, WORDS, WORDS - 1, 0};
+    static const size_t bytes[8] = {BYTES, BYTES, BYTES, BYTES + 1, BYTES + 9, BYTES, BYTES - 1, 0};
+    if (size < 2) return -1;
+    call c = {.text_len = size - 2, .words = words[data[1] % 8], .bytes = bytes[data[1] / 8 % 8]}, a = c;
+    uint32_t code = codes[data[0] % 8];
+    careful(&c, data + 2, code);
+    for (int is_guided = 0; is_guided < 2; is_guided++) {
+        proved(&a, data + 2, code, is_guided);
+        agree(&a, &c);
+        promised(&a);
+    }
+    free(c.text), free(c.scratch), free(c.trace);
+    return 0;
+}

@@ -9,6 +9,7 @@ use mathlib.Core.Bool.{Bool, true, false, not, cond}
 use mathlib.Core.List.{List, [], _∷_, _++_}
 use mathlib.Core.Option.{none, some}
 use borrow.Author.Tests.{lt-ltb, le-ltb, ne-eqb, not-true, not-false}
+use lib.Dec.{ltb}
 use lib.ListN.{length, getD, drop, set, replicate, length-set, length-replicate, drop-of-length-le}
 use lib.Seq.{drop-cons, getD-set-same, getD-set-other}
 use Rattle.model.specs.Limits.{rowsMost, messagesMost}
@@ -61,9 +62,13 @@ module _ (c : text.Columns) (i : ℕ) (s : Stand) (l : Line) where
   unfolding judgedBy
   judged-full h = rw (le-ltb i rowsMost h, judgedBy)
 
-  judged-malformed : i < rowsMost → rowOf c l ≡ none → judgedBy c i s l ≡ refusal rowRefusal (lineOf i)
+  judged-malformed : rowOf c l ≡ none → judgedBy c i s l ≡ refusal rowRefusal (lineOf i)
   unfolding judgedBy
-  judged-malformed h e = rw (lt-ltb i rowsMost h, e, judgedBy)
+  judged-malformed e = go (ltb i rowsMost) refl
+    where
+      go : (t : Bool) → ltb i rowsMost ≡ t → judgedBy c i s l ≡ refusal rowRefusal (lineOf i)
+      go true h = rw (h, e, judgedBy)
+      go false h = rw (h, judgedBy)
 
   judged-nowhere : (r : Row) → i < rowsMost → rowOf c l ≡ some r → stoodAt i s r ≡ none → judgedBy c i s l ≡ refusal placeRefusal (lineOf i)
   unfolding judgedBy
@@ -83,11 +88,11 @@ module _ (c : text.Columns) (text : List ℕ) (here : Position) (kind one two st
         on = tt;
       }
 
-  pub step-malformed : (r : Reading) → RowAs c text (here .at) r → r ≡ reading.Malformed → here .row < rowsMost
+  pub step-malformed : (r : Reading) → RowAs c text (here .at) r → r ≡ reading.Malformed
       → StepAs c text here (storeOf kind one two start) (storeOf kind one two start) boards boards (Refused rowRefusal)
-  step-malformed r p e h =
+  step-malformed r p e =
       record {
-        step = sym (judged-malformed c (here .row) (standOf start boards (here .messages)) (firstLine (drop (here .at) text)) h (sym (p .row) ∙ ap readingFrom e));
+        step = sym (judged-malformed c (here .row) (standOf start boards (here .messages)) (firstLine (drop (here .at) text)) (sym (p .row) ∙ ap readingFrom e));
         rows = refl;
         on = tt;
       }

@@ -1,10 +1,9 @@
 -- What each part of the check is to show, from what its own parts handed on. Assumes nothing.
 use mathlib.Core.Path.{_≡_, refl, sym, _∙_, ap, subst, subst⁻¹}
-use mathlib.Core.List.{List, _++_}
+use mathlib.Core.List.{List}
 use mathlib.Core.Option.{Option, none, some}
-use Prim.Native.Nat.{ℕ, _+_, _*_, _^_, _<_, _≤_}
+use Prim.Native.Nat.{ℕ, _*_, _^_, _<_, _≤_}
 use native.Mathlib.Omega.{arith}
-use lib.ListN.{length, drop}
 use Rattle.model.specs.Limits as limits
 use Rattle.model.specs.Limits.{messagesMost, scratchLeast, traceLeast}
 use Rattle.model.specs.Refusal.{Out, ok, refusal, andThen}
@@ -12,10 +11,10 @@ use Rattle.model.specs.Rows.{Row}
 use Rattle.model.specs.Order.{Scenario, event}
 use Rattle.model.specs.Channel as model
 use Rattle.model.specs.Race.{RaceRule, raceRuleOf, isRace, races, lowestEvent, lowestMessage, lowestRace}
-use Rattle.model.specs.Schedule.{schedule, bytesOf}
+use Rattle.model.specs.Schedule.{schedule}
 use Rattle.model.specs.Answer.{Numbers, lockedWord, free, locked, expandedOf, sheetOf, acceptedOf, verdictOf, answerFor, numbersOf, traceAfter}
 use Rattle.model.specs.Bounded as bounded
-use Rattle.model.proofs.Bounded.{IsLowest, lowest-some}
+use Rattle.model.proofs.Bounded.{lowest-some}
 use Rattle.model.proofs.Accepted.{accepted-count, accepted-boards}
 use Rattle.relation.specs.Scenario.{scenarioIn}
 use Rattle.relation.proofs.Scenario.{board-at}

@@ -1,9 +1,9 @@
 -- The numbers of an answer fit 32 bits. Assumes nothing.
-use mathlib.Core.Path.{_≡_, refl, sym, _∙_, ap, subst, subst⁻¹}
+use mathlib.Core.Path.{_≡_, refl}
 use mathlib.Core.Bool.{Bool, true, false, cond, _||_}
 use mathlib.Core.List.{List, [], _∷_}
 use mathlib.Core.Option.{Option, none, some}
-use Prim.Native.Nat.{ℕ, zero, suc, _+_, _*_, _^_, _<_, _≤_}
+use Prim.Native.Nat.{ℕ, zero, suc, _*_, _≤_}
 use native.Mathlib.Omega.{arith}
 use lib.ListN.{length}
 use Rattle.model.specs.Limits.{channels, messagesMost, rowsMost, scratchLeast, traceLeast}
@@ -15,10 +15,10 @@ use Rattle.model.specs.Channel.{Channel, channelOf}
 use Rattle.model.specs.Run.{State, Step, start, next}
 use Rattle.model.specs.Race.{raceRuleOf, lowestRace}
 use Rattle.model.specs.Schedule.{classesFor, choose, scheduleFrom, schedule}
-use Rattle.model.specs.Answer.{Answer, free, locked, refused, Numbers, sheetOf, acceptedOf, verdictOf, answerFor, answerOf, numbersOf}
+use Rattle.model.specs.Answer.{free, locked, sheetOf, acceptedOf, verdictOf, answerFor, answerOf, numbersOf}
 use Rattle.model.proofs.Accepted.{accepted-count}
-use Rattle.model.proofs.Lines.{Named, Well, sheet-well}
-use Rattle.channel_check.specs.Parts.{Small, IsRace}
+use Rattle.model.proofs.Lines.{Well, sheet-well}
+use Rattle.channel_check.specs.Parts.{Small}
 use Rattle.channel_check.proofs.Parts.{race-below}
 
 -- at most so many steps

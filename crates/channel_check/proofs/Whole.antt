@@ -1,15 +1,14 @@
 -- The whole promise, from what the parts of the check hand on. Assumes nothing.
 use mathlib.Core.Path.{_≡_, refl, sym, _∙_, ap, subst, subst⁻¹}
-use mathlib.Core.Bool.{Bool, true, false, cond, _||_, or-true}
-use mathlib.Core.List.{List, [], _∷_, _++_}
+use mathlib.Core.Bool.{true, false, or-true}
+use mathlib.Core.List.{List, _++_}
 use mathlib.Core.Option.{Option, none, some}
-use mathlib.Core.Logic.{_⊎_, inl, inr, ⊎-elim}
-use Prim.Native.Nat.{ℕ, _+_, _*_, _-_, _<_, _≤_}
+use Prim.Native.Nat.{ℕ, _+_, _-_, _<_, _≤_}
 use native.Mathlib.Omega.{arith}
 use borrow.Author.Tests.{lt-ltb, le-ltb, lt-leb}
 use lib.Dec.{ltb, leb}
-use lib.ListN.{length, drop, replicate, length-append, length-drop, length-replicate}
-use lib.Seq.{drop-drop, drop-append-add, drop-append-le, drop-at}
+use lib.ListN.{length, drop, replicate}
+use lib.Seq.{drop-drop, drop-append-add}
 use Rattle.model.specs.Limits.{channels, scratchLeast, traceLeast, rowsMost}
 use Rattle.model.specs.Refusal.{Out, ok, refusal, channelRefusal, benchRefusal}
 use Rattle.model.specs.Place.{lineOf}
@@ -20,7 +19,7 @@ use Rattle.model.specs.Schedule.{schedule}
 use Rattle.model.specs.Answer.{Answer, free, locked, refused, Numbers, refusedWord, sheetOf, acceptedOf, verdictOf, answerFor, answerOf, touchesNothing, numbersOf, scratchAfter, traceAfter}
 use Rattle.model.specs.Verdict.{PointThree}
 use Rattle.model.proofs.PointThree.{point-three}
-use Rattle.model.proofs.Lines.{Named, Well, sheet-well}
+use Rattle.model.proofs.Lines.{Well, sheet-well}
 use Rattle.relation.specs.Rows.{cleared}
 use Rattle.channel_check.specs.declared.Answer as answer-type
 use Rattle.channel_check.specs.Contract.{Checked, numbersFor}

@@ -18,6 +18,7 @@ use Rattle.relation.specs.Rows.{inserted}
 use Rattle.relation.proofs.Inserted.{length-inserted}
 use Rattle.expansion.specs.Store.{Store, seated, added, passed, storeOps}
 use Rattle.sheet.specs.Bridge.{rowFrom}
+use Rattle.sheet.proofs.Bridge.{row-message as row-is-message, row-order as row-is-order}
 use Rattle.expansion.specs.Room.{storeOf, Room}
 use Rattle.expansion.specs.Parts.{stateOf, Leaves, Opens, rowMet, callEntered, Stands}
 use Rattle.expansion.specs.declared.Walk.{Walk}
@@ -99,35 +100,19 @@ module _ (a b line : ℕ) (s : Progress Store) where
 
 -- the letter says which row it is
 module _ (letter one two : ℕ) where
-  pub row-is-sheet : letter ≡ 83 → rowFrom letter one two ≡ sheet one
-  unfolding rowFrom
-  row-is-sheet e = rw e
-
-  pub row-is-call : letter ≡ 67 → rowFrom letter one two ≡ call one
-  unfolding rowFrom
-  row-is-call e = rw e
-
-  row-is-message : letter ≡ 77 → rowFrom letter one two ≡ message one two
-  unfolding rowFrom
-  row-is-message e = rw e
-
-  row-is-order : letter ≡ 80 → rowFrom letter one two ≡ order one two
-  unfolding rowFrom
-  row-is-order e = rw e
-
   pub message-asks : (n : ℕ) → letter ≡ 77 → Stands n (rowFrom letter one two) → (one < boards) × (two < boards)
-  message-asks n e a = subst (Stands n) (row-is-message e) a
+  message-asks n e a = subst (Stands n) (row-is-message letter one two e) a
 
   pub order-asks : (first count : ℕ) → first ≤ count → letter ≡ 80 → Stands (2 * (count - first)) (rowFrom letter one two)
       → (2 * first + one < 2 * count) × (2 * first + two < 2 * count)
   order-asks first count h e a =
-      let p : (one < 2 * (count - first)) × (two < 2 * (count - first)) = subst (Stands (2 * (count - first))) (row-is-order e) a in
+      let p : (one < 2 * (count - first)) × (two < 2 * (count - first)) = subst (Stands (2 * (count - first))) (row-is-order letter one two e) a in
       (omega (arith, p .0), omega (arith, p .1))
 
   module _ (w : Walk) (line : ℕ) where
     pub row-refused : (t t′ : Store) → letter ≡ 77 → messagesMost ≤ w .count
         → Leaves (Stopped messagesRefusal line) t′ (rowMet (rowFrom letter one two) line (stateOf w t))
-    row-refused t t′ e h = record { exact = rw (row-is-message e) (sym (message-refused one two line (stateOf w t) h)); room = tt }
+    row-refused t t′ e h = record { exact = rw (row-is-message letter one two e) (sym (message-refused one two line (stateOf w t) h)); room = tt }
 
     pub row-message : (n : ℕ) (events words past events′ words′ : List ℕ) → letter ≡ 77
         → (events′ ≡ seated events (w .count) one two) × (words′ ≡ added width words past (w .count) one two)
@@ -139,7 +124,7 @@ module _ (letter one two : ℕ) where
     unfolding messageMet storeOps
     row-message n events words past events′ words′ e f h r a =
         record {
-          exact = rw (row-is-message e, f .0, f .1, add-one) (sym (message-met one two line (stateOf w (storeOf events words past)) h));
+          exact = rw (row-is-message letter one two e, f .0, f .1, add-one) (sym (message-met one two line (stateOf w (storeOf events words past)) h));
           room = record {
             eventsLong = ap length (f .0) ∙ seated-length events (w .count) one two ∙ r .eventsLong;
             wordsLong = ap length (f .1) ∙ length-added width words past (w .count) one two ∙ r .wordsLong;
@@ -157,7 +142,7 @@ module _ (letter one two : ℕ) where
     unfolding rowMet orderMet storeOps
     row-order events words past words′ e f r =
         record {
-          exact = rw (row-is-order e, f);
+          exact = rw (row-is-order letter one two e, f);
           room = record {
             eventsLong = r .eventsLong;
             wordsLong =

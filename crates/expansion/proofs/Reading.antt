@@ -3,7 +3,7 @@
 use Prim.Native.Nat.{ℕ, zero, suc, _+_, _-_, _<_, _≤_}
 use native.Mathlib.Numerals.{add-one}
 use native.Mathlib.Omega.{arith}
-use mathlib.Core.Path.{_≡_, refl, _∙_, ap, ap₂, subst}
+use mathlib.Core.Path.{_≡_, refl, _∙_, ap, subst}
 use mathlib.Core.Bool.{Bool, true, false, not, cond, _&&_, _||_}
 use mathlib.Core.List.{List, [], _∷_}
 use mathlib.Core.Option.{Option, none, some}
@@ -20,33 +20,17 @@ use Rattle.model.specs.Place.{rowsFrom as rowsRead}
 use Rattle.model.specs.Expansion.{startOf}
 use Rattle.model.proofs.Refusal.{not-refused, and-then-ok, passed, cond-ok}
 use Rattle.model.proofs.Closure.{cells-length, cells-at}
-use Rattle.model.proofs.Standing.{Fits, read-fits}
+use Rattle.model.proofs.Standing.{Fits, read-fits, cond-some}
 use Rattle.model.proofs.Walked.{OnOneBoard, message-parts, order-parts}
 use Rattle.sheet.specs.Bridge.{rowFrom, rowsAt, rowsOf, startIn}
+use Rattle.sheet.proofs.Bridge.{rows-length, rows-drop as rows-at-drop}
 use Rattle.expansion.specs.Lent.{rowsFrom, AreRead, RowsRead}
 use Rattle.expansion.specs.Parts.{Present, AllStand}
 
 -- The rows from row i on.
 module _ (kind one two : List ℕ) where
-  rows-length : (i n : ℕ) → length (rowsAt kind one two i n) ≡ n
-  unfolding rowsAt
-  rows-length i zero = refl
-  rows-length i (suc n) = ap suc (rows-length (suc i) n)
-
-  rows-at-drop : (k i n : ℕ) → drop k (rowsAt kind one two i n) ≡ rowsAt kind one two (i + k) (n - k)
-  unfolding rowsAt
-  rows-at-drop zero i n =
-      let a : i ≡ i + 0 = omega arith in
-      let b : n ≡ n - 0 = omega arith in
-      ap₂ (rowsAt kind one two) a b
-  rows-at-drop (suc k) i zero = let b : 0 ≡ 0 - suc k = omega arith in ap (rowsAt kind one two (i + suc k)) b
-  rows-at-drop (suc k) i (suc n) =
-      let a : suc i + k ≡ i + suc k = omega arith in
-      let b : n - k ≡ suc n - suc k = omega arith in
-      rows-at-drop k (suc i) n ∙ ap₂ (rowsAt kind one two) a b
-
   pub rows-drop : (count i : ℕ) → drop i (rowsOf kind one two count) ≡ rowsFrom kind one two count i
-  rows-drop count i = rows-at-drop i 0 count ∙ ap (λ (k : ℕ). rowsAt kind one two k (count - i)) (omega arith)
+  rows-drop count i = rows-at-drop kind one two i 0 count ∙ ap (λ (k : ℕ). rowsAt kind one two k (count - i)) (omega arith)
 
   pub rows-next : (count i : ℕ) → i < count
       → rowsFrom kind one two count i ≡ rowFrom (getD kind i 0) (getD one i 0) (getD two i 0) ∷ rowsFrom kind one two count (i + 1)
@@ -58,11 +42,6 @@ module _ (kind one two : List ℕ) where
   pub rows-end : (count i : ℕ) → count ≤ i → rowsFrom kind one two count i ≡ []
   unfolding rowsAt
   rows-end count i h = let e : count - i ≡ 0 = omega arith in rw e
-
--- a value that is there only on a test
-cond-some : {A : Type 0} (t : Bool) (a b : A) → cond t (some a) none ≡ some b → t ≡ true
-cond-some true a b e = refl
-cond-some false a b e = let z : _≡_ {A = ℕ} 0 1 = cc in absurd (omega arith)
 
 -- a row that is read is one of the first 512, and its place allows it
 pub record Judged (i : ℕ) (p q : Place) (r : Row) : Type 0 where
@@ -110,7 +89,7 @@ moved-known p q (sheet k) e = tt
 moved-known p q (message a b) e = tt
 moved-known p q (order x y) e = tt
 moved-known p q block e = tt
-moved-known p q (call k) e = ltb-true k sheets (cond-some (ltb k sheets) (record { opened = p .opened; events = [] }) q e)
+moved-known p q (call k) e = ltb-true k sheets (cond-some (ltb k sheets) (record { opened = p .opened; events = [] }) q e .0)
 
 read-rows : (c : Columns) (i : ℕ) (p : Place) (ls : List Line) (rs : List Row) → rowsRead c i p ls ≡ ok rs → i ≤ rowsMost
     → AllKnown rs × (i + length rs ≤ rowsMost)

@@ -3,16 +3,15 @@
 use Prim.Native.Nat.{ℕ, _+_, _*_, _/_, _<_}
 use native.Mathlib.Omega.{arith}
 use mathlib.Core.Path.{_≡_, refl}
-use mathlib.Core.Logic.{_⊎_, ⊎-elim}
+use mathlib.Core.Logic.{_⊎_}
 use mathlib.Core.Bool.{Bool, true, false}
 use mathlib.Core.List.{List}
-use lib.Dec.{ltb}
-use lib.ListN.{length, getD, replicate, length-replicate, getD-replicate, List·getD-eq-default}
-use borrow.Author.Tests.{ltb-true, ltb-false}
+use lib.ListN.{length, getD, length-replicate}
 use Rattle.model.specs.Limits.{boards, messagesMost}
 use Rattle.model.specs.Expansion.{Walk, freshWalk}
 use Rattle.model.specs.Order.{Met, nothingMet, listed}
-use Rattle.model.proofs.Bounded.{which, not-both}
+use Rattle.model.proofs.Lists.{replicate-at}
+use Rattle.model.proofs.Bounded.{not-both}
 use Rattle.relation.specs.Width.{width, wordBits}
 use Rattle.relation.specs.Rows.{holds, bitOf, wordOf}
 use Rattle.relation.specs.Order.{before, Transitive, Within}
@@ -63,11 +62,7 @@ zeros-length n = length-replicate n 0
 
 pub zeros-at : (n k : ℕ) → getD (zeros n) k 0 ≡ 0
 unfolding zeros
-zeros-at n k =
-    ⊎-elim
-    (λ l. getD-replicate n k 0 0 (ltb-true k n l))
-    (λ f. List·getD-eq-default (replicate n 0) 0 (rw length-replicate (ltb-false k n f)))
-    (which (ltb k n))
+zeros-at n k = replicate-at n k 0
 
 zeros-hold : (n y x : ℕ) → holds width (zeros n) y x ≡ false
 unfolding holds

@@ -5,11 +5,11 @@ use native.Mathlib.Nat.{le-antisymm, sub-self, mul-le-mul-right}
 use native.Mathlib.Omega.{arith}
 use mathlib.Core.Path.{_≡_, refl, sym, _∙_, ap}
 use mathlib.Core.List.{List, _++_, append-nil}
-use lib.ListN.{length, getD, set, replicate, length-set, drop-of-length-le}
-use borrow.Author.Fill.{fill-none, fill-more}
+use lib.ListN.{length, getD, replicate, drop-of-length-le}
 use Rattle.model.specs.Limits.{boards, messagesMost}
 use Rattle.relation.specs.Width.{width}
 use Rattle.relation.specs.Rows.{marked, joined, joinedFrom, cleared}
+use Rattle.relation.proofs.Loops.{Clearing, clearing-end}
 use Rattle.relation.proofs.Marked.{length-marked}
 use Rattle.relation.proofs.Joined.{length-joined-from}
 use Rattle.expansion.specs.Store.{zeros, begun, added, passedAt, passedIn, passed}
@@ -21,26 +21,10 @@ unfolding cleared zeros
 cleared-zeros n l e =
     ap (λ (r : List ℕ). replicate n 0 ++ r) (drop-of-length-le l {i = n} (omega arith)) ∙ append-nil (replicate n 0)
 
--- the first i boards are cleared
-pub record Clearing (l : List ℕ) (i : ℕ) (now : List ℕ) : Type 0 where
-  pub exact : now ≡ cleared i l
-  pub long : length now ≡ length l
-  pub most : i ≤ 2 * messagesMost
-
-pub clearing-start : (l : List ℕ) → Clearing l 0 l
-unfolding cleared
-clearing-start l = record { exact = fill-none l 0; long = refl; most = omega arith }
-
-pub clearing-more : (l : List ℕ) (i : ℕ) (now : List ℕ) → Clearing l i now → i < 2 * messagesMost → length l ≡ 2 * messagesMost
-    → Clearing l (i + 1) (set now i 0)
-unfolding cleared
-clearing-more l i now j h room =
-    record { exact = rw (j .exact) (fill-more i 0 l (omega arith)); long = simp length-set (j .long); most = omega arith }
-
-pub clearing-end : (l : List ℕ) (i : ℕ) (now : List ℕ) → Clearing l i now → 2 * messagesMost ≤ i → length l ≡ 2 * messagesMost
+-- so the boards are zeros once the loop over them is done
+pub boards-zero : (l : List ℕ) (i : ℕ) (now : List ℕ) → Clearing (2 * messagesMost) l i now → 2 * messagesMost ≤ i → length l ≡ 2 * messagesMost
     → now ≡ zeros (2 * messagesMost)
-clearing-end l i now j h e =
-    j .exact ∙ ap (λ (n : ℕ). cleared n l) (le-antisymm (j .most) h) ∙ cleared-zeros (2 * messagesMost) l e
+boards-zero l i now j h e = clearing-end (2 * messagesMost) l i now j h ∙ cleared-zeros (2 * messagesMost) l e
 
 -- the events from .. e - 1 are past
 pub record Passing (past events words : List ℕ) (from to e : ℕ) (now : List ℕ) : Type 0 where

@@ -1,7 +1,6 @@
 -- What the loop over a sheet's rows keeps, row by row, and where it leaves them. Each law has the premises of one place of the
 -- code. Assumes nothing.
 use Prim.Native.Nat.{ℕ, zero, suc, _+_, _-_, _*_, _<_, _≤_}
-use native.Mathlib.Numerals.{add-one}
 use native.Mathlib.Omega.{arith}
 use mathlib.Core.Path.{_≡_, refl, sym, _∙_, ap, subst}
 use mathlib.Core.Bool.{Bool, true, false, cond}
@@ -17,6 +16,7 @@ use Rattle.model.specs.Expansion.{Progress, startOf, blockOpened, callMade, mes
 use Rattle.model.proofs.Refusal.{not-refused}
 use Rattle.expansion.specs.Store.{Store, storeOps}
 use Rattle.sheet.specs.Bridge.{rowFrom, rowsOf}
+use Rattle.sheet.proofs.Bridge.{row-sheet as row-is-sheet, row-call as row-is-call}
 use Rattle.expansion.specs.Lent.{rowsFrom}
 use Rattle.expansion.specs.Parts.{stateOf, Leaves, rowMet, callEntered, rowsWalked, callRest, Stands, Present, openBehind, AllStand, Ready, Enters, Entered, Reaches}
 use Rattle.expansion.specs.declared.Walk.{Walk}
@@ -24,7 +24,6 @@ use Rattle.expansion.specs.declared.Walked.{Walked}
 use Rattle.expansion.specs.declared.Walked.the-variants.{Going, Stopped}
 use Rattle.expansion.specs.declared.Reached.{Reached}
 use Rattle.expansion.specs.declared.Reached.the-variants as reached
-use Rattle.expansion.proofs.Parts.{row-is-sheet, row-is-call}
 use Rattle.expansion.proofs.Reading.{rows-drop, rows-next, rows-end}
 
 -- what a part leaves, known by another name

@@ -3,7 +3,7 @@
 use Prim.Native.Nat.{ℕ, _<_}
 use mathlib.Core.Path.{_≡_}
 use mathlib.Core.Logic.{_⊎_}
-use mathlib.Core.Bool.{Bool, true, false}
+use mathlib.Core.Bool.{true}
 use Rattle.model.specs.Order.{Event, sendOf, receiveOf, messageOf, Scenario, board, atOrBefore}
 
 -- how x comes before y: through an event z of y's board, or through the own send of y's message

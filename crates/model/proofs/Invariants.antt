@@ -1,19 +1,19 @@
 -- What holds of every state that an allowed order reaches, by rule and not by code: shown at the start and for one message
 -- moved one phase on. Assumes nothing.
-use Prim.Native.Nat.{ℕ, zero, suc, _+_, _*_, _<_, _≤_}
+use Prim.Native.Nat.{ℕ, suc, _<_, _≤_}
 use native.Mathlib.Omega.{arith}
 use mathlib.Core.Path.{_≡_, refl, sym, _∙_, ap, subst}
 use mathlib.Core.Logic.{_⊎_, inl, inr, ⊎-elim}
-use mathlib.Core.Bool.{Bool, true, false, not, cond, _&&_, _||_}
-use borrow.Author.Tests.{eqb-true, leb-true, leb-false, le-leb, lt-leb}
-use lib.Dec.{eqb, leb}
-use Rattle.model.specs.Order.{Event, sendOf, receiveOf, number, messageOf, Scenario, board, atOrBefore}
+use mathlib.Core.Bool.{true, false, not}
+use borrow.Author.Tests.{leb-true, leb-false, le-leb}
+use lib.Dec.{leb}
+use Rattle.model.specs.Order.{Event, sendOf, receiveOf, Scenario, board, atOrBefore}
 use Rattle.model.specs.Channel.{Channel, ToSend, ToDeliver, noEarlierUnderWay, channelEmpty, inOrder, alone}
 use Rattle.model.specs.Run.{Step, send, deliver, consume}
-use Rattle.model.proofs.Bounded.{or-cases, or-left, or-right, which, not-both}
+use Rattle.model.proofs.Bounded.{which, not-both}
 use Rattle.model.proofs.Events.{at-or-before-cases}
-use Rattle.model.proofs.Causal.{Causal, LastLink}
-use Rattle.model.proofs.Phases.{equal-or-not, doneAt, bump, bump-same, bump-other, bump-cases, messageIn, phaseIn}
+use Rattle.model.proofs.Causal.{Causal}
+use Rattle.model.proofs.Phases.{equal-or-not, doneAt, bump, bump-other, bump-cases, messageIn, phaseIn}
 use Rattle.model.proofs.Rules.{Ready, SendRule, DeliverRule, MaySend, MayDeliver, MayConsume, May}
 
 module _ (S : Scenario) where

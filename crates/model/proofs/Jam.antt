@@ -1,15 +1,15 @@
 -- A jam: on an eager channel a board that holds a message it cannot consume yet never moves again. Assumes nothing.
-use Prim.Native.Nat.{ℕ, zero, suc, _+_, _*_, _<_, _≤_}
+use Prim.Native.Nat.{ℕ, _<_}
 use native.Mathlib.Omega.{arith}
-use mathlib.Core.Path.{_≡_, refl, sym, _∙_, ap, subst}
-use mathlib.Core.Logic.{_⊎_, inl, inr, ⊎-elim}
-use mathlib.Core.Bool.{Bool, true, false}
+use mathlib.Core.Path.{_≡_, sym, _∙_, ap, subst}
+use mathlib.Core.Logic.{_⊎_, ⊎-elim}
+use mathlib.Core.Bool.{true, false}
 use Rattle.model.specs.Order.{Event, sendOf, receiveOf, Scenario, board, boardOf}
 use Rattle.model.specs.Channel.{Channel}
 use Rattle.model.specs.Run.{finished}
 use Rattle.model.proofs.Bounded.{which, not-both}
 use Rattle.model.proofs.Causal.{Causal}
-use Rattle.model.proofs.Phases.{equal-or-not, doneAt, bump, bump-other, view}
+use Rattle.model.proofs.Phases.{doneAt, bump, bump-other, view}
 use Rattle.model.proofs.Rules.{Waits, finished-use}
 use Rattle.model.proofs.Invariants.{Inv, Moves, newly-is}
 

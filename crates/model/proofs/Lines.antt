@@ -1,8 +1,7 @@
 -- Refusals 3 to 11 come behind 1 and 2, and report a line of the file, at most that of row 513. Assumes nothing.
 use Prim.Native.Nat.{ℕ, zero, suc, _+_, _-_, _<_, _≤_}
 use native.Mathlib.Omega.{arith}
-use mathlib.Core.Path.{_≡_, refl, sym, _∙_, ap, subst}
-use mathlib.Core.Logic.{⊎-elim}
+use mathlib.Core.Path.{_≡_, refl, subst}
 use mathlib.Core.Bool.{Bool, true, false, cond, _&&_}
 use mathlib.Core.List.{List, [], _∷_}
 use mathlib.Core.Option.{Option, none, some}
@@ -11,14 +10,14 @@ use lib.Dec.{eqb, leb, ltb}
 use lib.ListN.{length, drop, length-drop}
 use Rattle.model.specs.Limits.{textMost, rowsMost, messagesMost, levels, callsMost}
 use Rattle.model.specs.Bounded.{among}
-use Rattle.model.specs.Refusal.{Out, ok, refusal, andThen, benchRefusal, circleRefusal, rowRefusal, placeRefusal, absentRefusal, lengthRefusal, headingRefusal, depthRefusal, callsRefusal, messagesRefusal}
+use Rattle.model.specs.Refusal.{Out, ok, refusal, andThen, benchRefusal, circleRefusal, rowRefusal, placeRefusal, absentRefusal, lengthRefusal, headingRefusal, callsRefusal, messagesRefusal}
 use Rattle.model.specs.Text.{Line, Columns, linesOf, headingOf}
 use Rattle.model.specs.Rows.{Row, sheet, message, order, block, call, rowOf}
 use Rattle.model.specs.Place.{Place, outside, placed, lineOf, judged, rowsFrom, opens, strayCall, complete, bodyOf, readOf}
 use Rattle.model.specs.Expansion.{Ops, Progress, startOf, blockOpened, callMade, messageMet, orderMet, walkRows, callAt, expand}
-use Rattle.model.specs.Order.{Scenario, Met, metOps, nothingMet, exchangeOf, scenarioOf, hasCircle}
+use Rattle.model.specs.Order.{Met, metOps, nothingMet, exchangeOf, scenarioOf, hasCircle}
 use Rattle.model.specs.Answer.{withoutCircle, expandedOf, sheetOf}
-use Rattle.model.proofs.Refusal.{not-refused, and-then-ok}
+use Rattle.model.proofs.Refusal.{not-refused}
 
 -- a refusal's number is over 2 and at most 11, and its line at most the one given
 pub record Named (most number line : ℕ) : Type 0 where

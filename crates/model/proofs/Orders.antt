@@ -1,21 +1,21 @@
 -- Allowed orders, over whole lists of steps: what they reach, and how one is carried on. Assumes nothing.
 use Prim.Native.Nat.{ℕ, zero, suc, _+_, _*_, _<_, _≤_}
 use native.Mathlib.Omega.{arith}
-use mathlib.Core.Path.{_≡_, refl, sym, _∙_, ap, subst, subst⁻¹}
-use mathlib.Core.Logic.{_⊎_, inl, inr, ⊎-elim}
-use mathlib.Core.Bool.{Bool, true, false, _&&_}
+use mathlib.Core.Path.{_≡_, refl, ap, subst, subst⁻¹}
+use mathlib.Core.Logic.{_⊎_, ⊎-elim}
+use mathlib.Core.Bool.{true, false}
 use mathlib.Core.List.{List, [], _∷_, _++_}
 use borrow.Author.Tests.{leb-false}
 use lib.ListN.{length}
 use Rattle.model.specs.Order.{Event, sendOf, receiveOf, messageOf, Scenario}
 use Rattle.model.specs.Channel.{Channel}
-use Rattle.model.specs.Run.{State, start, Step, next, allowed, isOrderFrom, after, finished, stuck, IsOrder, EndsFinished, CanFinish}
+use Rattle.model.specs.Run.{State, start, Step, next, allowed, isOrderFrom, after, finished, IsOrder, EndsFinished, CanFinish}
 use Rattle.model.specs.Race.{RaceRule, isRace}
 use Rattle.model.proofs.Bounded.{and-left, and-right, and-both, which}
 use Rattle.model.proofs.Causal.{Causal}
 use Rattle.model.proofs.Phases.{doneAt, bump, view, view-start, view-next, messageIn}
 use Rattle.model.proofs.Rank.{rank, rank-bump, rank-most, rank-less, rank-full, rank-zero}
-use Rattle.model.proofs.Rules.{May, may-use, may-inside, finished-use, finished-not}
+use Rattle.model.proofs.Rules.{may-use, may-inside, finished-use, finished-not}
 use Rattle.model.proofs.Invariants.{Inv, moves, may-phase, inv-bump, inv-start}
 use Rattle.model.proofs.Suited.{Suited}
 use Rattle.model.proofs.Progress.{progress}

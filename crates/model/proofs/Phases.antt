@@ -1,16 +1,15 @@
 -- A state seen as phases: a message is 0 unsent, 1 under way, 2 in its receiver's buffer, 3 consumed. Every step moves one
 -- message one phase on, so each later argument is made once, for "one phase more". Assumes nothing.
-use Prim.Native.Nat.{ℕ, zero, suc, _+_, _*_, _<_, _≤_}
-use native.Mathlib.Nat.{not-suc-le-zero}
+use Prim.Native.Nat.{ℕ, suc, _+_, _*_}
 use native.Mathlib.Omega.{arith}
 use mathlib.Core.Path.{_≡_, refl, sym, _∙_, ap, subst, fun-ext}
 use mathlib.Core.Logic.{_⊎_, inl, inr, ⊎-elim}
 use mathlib.Core.Bool.{Bool, true, false, not, cond, _&&_, _||_, and-false}
 use borrow.Author.Tests.{eqb-true, eqb-false, leb-true, leb-false, eq-eqb, ne-eqb, le-leb, lt-leb}
 use lib.Dec.{eqb, leb}
-use Rattle.model.specs.Order.{Event, sendOf, receiveOf, number, messageOf, Scenario}
+use Rattle.model.specs.Order.{Event, sendOf, receiveOf, number, Scenario}
 use Rattle.model.specs.Run.{State, start, Step, send, deliver, consume, with, withDone, withHeld, next}
-use Rattle.model.proofs.Bounded.{which, not-both}
+use Rattle.model.proofs.Bounded.{which}
 
 -- two numbers are equal or differ
 pub equal-or-not : (k m : ℕ) → (k ≡ m) ⊎ (k ≡ m → ⊥)

@@ -1,22 +1,22 @@
 -- Without a race, a state that the invariants hold of and that is not finished allows a step. Assumes nothing.
-use Prim.Native.Nat.{ℕ, zero, suc, _+_, _*_, _<_, _≤_}
+use Prim.Native.Nat.{ℕ, _*_, _<_, _≤_}
 use native.Mathlib.Omega.{arith}
-use mathlib.Core.Path.{_≡_, refl, sym, _∙_, ap, subst}
+use mathlib.Core.Path.{_≡_, refl, sym, ap, subst}
 use mathlib.Core.Logic.{_⊎_, inl, inr, ⊎-elim}
-use mathlib.Core.Bool.{Bool, true, false, not, cond, _&&_, _||_}
-use borrow.Author.Tests.{eqb-true, eqb-false, eq-eqb, leb-true, leb-false, le-leb, lt-leb, not-true, not-false}
+use mathlib.Core.Bool.{Bool, true, false, not}
+use borrow.Author.Tests.{eqb-true, eq-eqb, leb-true, leb-false, le-leb, lt-leb, not-true, not-false}
 use lib.Dec.{eqb, leb}
 use Rattle.model.specs.Bounded.{every}
 use Rattle.model.specs.Order.{Event, sendOf, receiveOf, number, event, messageOf, Scenario, board, boardOf, atOrBefore}
-use Rattle.model.specs.Channel.{Channel, ToSend, ToDeliver, noEarlierUnderWay, channelEmpty, inOrder, alone}
+use Rattle.model.specs.Channel.{Channel, ToSend, ToDeliver, inOrder, alone}
 use Rattle.model.specs.Run.{Step, send, deliver, consume, ready, allowed, finished}
 use Rattle.model.specs.Race.{RaceRule, byEvent, byOrigin, never, origin, escapes, isRace}
-use Rattle.model.proofs.Bounded.{and-both, which, not-both, not-is-true, every-at, every-not}
+use Rattle.model.proofs.Bounded.{which, not-both, not-is-true, every-at, every-not}
 use Rattle.model.proofs.Events.{event-number, below-number, below-event, at-or-before-cases}
 use Rattle.model.proofs.Causal.{Causal}
-use Rattle.model.proofs.Least.{IsLeast, least-below}
+use Rattle.model.proofs.Least.{least-below}
 use Rattle.model.proofs.Phases.{equal-or-not, doneAt, view}
-use Rattle.model.proofs.Rules.{Ready, Waits, ready-use, ready-not, Quiet, DeliverRule, BoardFree, MayDeliver, MayConsume, finished-not, send-on, deliver-on, consume-on}
+use Rattle.model.proofs.Rules.{Ready, Waits, ready-use, ready-not, Quiet, DeliverRule, BoardFree, finished-not, send-on, deliver-on, consume-on}
 use Rattle.model.proofs.Invariants.{Single, SendInv, Inv}
 use Rattle.model.proofs.Suited.{Suited}
 

@@ -1,10 +1,10 @@
 -- The rank of a state, the sum of its messages' phases: each step adds one, and it is three a message where all is consumed.
 -- Assumes nothing.
 use Prim.Native.Nat.{ℕ, zero, suc, _+_, _*_, _<_, _≤_}
-use native.Mathlib.Nat.{not-suc-le-zero, le-step, lt-suc-self, eq-or-lt-of-le, le-of-suc-le-suc, mul-suc}
+use native.Mathlib.Nat.{not-suc-le-zero, le-step, lt-suc-self, eq-or-lt-of-le, le-of-suc-le-suc}
 use native.Mathlib.Omega.{arith}
-use mathlib.Core.Path.{_≡_, refl, sym, _∙_, ap, subst}
-use mathlib.Core.Logic.{_⊎_, inl, inr, ⊎-elim}
+use mathlib.Core.Path.{_≡_, refl, sym, ap, subst}
+use mathlib.Core.Logic.{_⊎_, ⊎-elim}
 use Rattle.model.proofs.Phases.{bump, bump-same, bump-other}
 
 unfoldable pub rank : ℕ → (ℕ → ℕ) → ℕ

@@ -6,7 +6,7 @@ use mathlib.Core.Bool.{Bool, true, false, not, _&&_, _||_}
 use borrow.Author.Tests.{eqb-true, leb-true, ltb-true, lt-ltb, eq-eqb, not-true}
 use lib.Dec.{eqb, ltb}
 use Rattle.model.specs.Bounded.{every}
-use Rattle.model.specs.Order.{Event, sendOf, receiveOf, number, messageOf, Scenario, board}
+use Rattle.model.specs.Order.{Event, sendOf, receiveOf, messageOf, Scenario, board}
 use Rattle.model.specs.Channel.{Channel, ToSend, ToDeliver, noEarlierUnderWay, channelEmpty, inOrder, alone}
 use Rattle.model.specs.Run.{State, Step, send, deliver, consume, everyEvent, isAhead, ready, bufferEmpty, boardFree, maySend, mayDeliver, allowed, noStep, finished, stuck}
 use Rattle.model.proofs.Bounded.{and-left, and-right, and-both, or-cases, or-left, or-right, which, not-both, not-is-true, every-at, every-from, every-not}

@@ -27,7 +27,7 @@ Fits events (block ∷ rs) = Fits [] rs
 Fits events (call n ∷ rs) = Fits [] rs
 
 -- a value that is there only on a test
-cond-some : {A : Type 0} (t : Bool) (a b : A) → cond t (some a) none ≡ some b → (t ≡ true) × (a ≡ b)
+pub cond-some : {A : Type 0} (t : Bool) (a b : A) → cond t (some a) none ≡ some b → (t ≡ true) × (a ≡ b)
 cond-some true a b e = (refl, cc)
 cond-some false a b e = let z : _≡_ {A = ℕ} 0 1 = cc in absurd (omega arith)
 

@@ -1,11 +1,11 @@
 -- What a channel's rules and its races' rule have to do with each other, for each of the six codes. Assumes nothing.
-use Prim.Native.Nat.{ℕ, zero, suc, _<_, _≤_}
+use Prim.Native.Nat.{ℕ, zero, suc, _<_}
 use native.Mathlib.Omega.{arith}
 use mathlib.Core.Path.{_≡_, refl}
-use mathlib.Core.Bool.{Bool, true, false}
+use mathlib.Core.Bool.{true, false}
 use Rattle.model.specs.Limits.{channels}
 use Rattle.model.specs.Order.{sendOf, Scenario}
-use Rattle.model.specs.Channel.{Channel, ToSend, ToDeliver, noEarlierUnderWay, channelEmpty, inOrder, alone, channelOf}
+use Rattle.model.specs.Channel.{Channel, ToSend, ToDeliver, channelEmpty, alone, channelOf}
 use Rattle.model.specs.Race.{RaceRule, byEvent, byOrigin, never, raceRuleOf}
 use Rattle.model.proofs.Bounded.{not-both}
 use Rattle.model.proofs.Causal.{Causal}

@@ -7,12 +7,12 @@ use mathlib.Core.Logic.{_⊎_, inl, inr, ⊎-elim}
 use mathlib.Core.Bool.{Bool, true, false, not, _&&_, _||_}
 use mathlib.Core.List.{List, [], _∷_}
 use mathlib.Core.Option.{Option, none, some}
-use borrow.Author.Tests.{eq-eqb, eqb-true, leb-true, leb-false, le-leb, lt-leb, not-true}
+use borrow.Author.Tests.{eq-eqb, eqb-true, leb-true, lt-leb, not-true}
 use lib.Dec.{eqb, leb}
 use Rattle.model.specs.Bounded.{every, lowest}
 use Rattle.model.specs.Order.{Event, sendOf, receiveOf, messageOf, Scenario, board, boardOf, atOrBefore}
 use Rattle.model.specs.Channel.{Channel, ToSend, ToDeliver, alone}
-use Rattle.model.specs.Run.{State, Step, send, deliver, consume, next, allowed, isOrderFrom, noStep, after, finished, stuck}
+use Rattle.model.specs.Run.{State, Step, send, deliver, consume, next, allowed, isOrderFrom, after, finished, stuck}
 use Rattle.model.specs.Race.{RaceRule, byEvent, byOrigin, never, origin, escapes, isRace}
 use Rattle.model.specs.Schedule.{
   Class,
@@ -26,16 +26,16 @@ use Rattle.model.specs.Schedule.{
   choose,
   scheduleFrom,
 }
-use Rattle.model.proofs.Bounded.{and-left, and-right, and-both, which, not-both, not-is-true, every-at, every-from, every-not, IsLowest, Found, lowest-found}
+use Rattle.model.proofs.Bounded.{and-left, and-right, and-both, which, not-both, not-is-true, every-at, every-not, Found, lowest-found}
 use Rattle.model.proofs.Events.{at-or-before-cases, at-or-before-same, at-or-before-before}
 use Rattle.model.proofs.Causal.{Causal}
-use Rattle.model.proofs.Phases.{equal-or-not, doneAt, bump, bump-same, bump-other, bump-cases, view, messageIn, phaseIn, view-next}
+use Rattle.model.proofs.Phases.{equal-or-not, doneAt, bump, bump-same, bump-cases, view, messageIn, view-next}
 use Rattle.model.proofs.Rank.{rank, rank-bump, rank-less}
-use Rattle.model.proofs.Rules.{implies, implies-not, finished-use, stuck-on, Waits, Quiet, May, MayDeliver, DeliverRule, may-inside, may-use, deliver-on}
+use Rattle.model.proofs.Rules.{implies, implies-not, finished-use, stuck-on, Waits, Quiet, DeliverRule, may-inside, may-use, deliver-on}
 use Rattle.model.proofs.Invariants.{Inv, Moves, moves, may-phase, newly-is, inv-bump}
 use Rattle.model.proofs.Suited.{Suited}
-use Rattle.model.proofs.Progress.{in-phase, LeastEvent, least-event, deliver-some, least-moves, Clear, single-alone, held-moves}
-use Rattle.model.proofs.Jam.{Jammed, jam-inside, jam-unfinished, jam-bump}
+use Rattle.model.proofs.Progress.{in-phase, least-event, deliver-some, least-moves, Clear, single-alone, held-moves}
+use Rattle.model.proofs.Jam.{Jammed, jam-inside, jam-bump}
 
 module _ (S : Scenario) (c : Channel) where
   -- no message of the class has an allowed step

@@ -1,16 +1,16 @@
 -- "Refusal table" and "Sheets to try": the answer for a text, a code and the lengths of the two buffers; what the
 -- buffers hold behind the call; and the word and three numbers of each answer. Assumes nothing.
 use Prim.Native.Nat.{ℕ, _*_}
-use mathlib.Core.Bool.{Bool, true, false, cond, _||_}
-use mathlib.Core.List.{List, [], _∷_, _++_}
-use mathlib.Core.Option.{Option, none, some}
-use lib.Dec.{eqb, ltb, leb}
+use mathlib.Core.Bool.{Bool, false, cond, _||_}
+use mathlib.Core.List.{List, _++_}
+use mathlib.Core.Option.{none, some}
+use lib.Dec.{ltb, leb}
 use lib.ListN.{length, drop, replicate}
 use Rattle.model.specs.Limits.{channels, scratchLeast, traceLeast}
 use Rattle.model.specs.Refusal.{Out, ok, refusal, andThen, channelRefusal, benchRefusal, circleRefusal}
 use Rattle.model.specs.Rows.{Row}
 use Rattle.model.specs.Place.{readOf}
-use Rattle.model.specs.Expansion.{Progress, expand}
+use Rattle.model.specs.Expansion.{expand}
 use Rattle.model.specs.Order.{Scenario, Met, nothingMet, metOps, exchangeOf, scenarioOf, hasCircle}
 use Rattle.model.specs.Channel.{channelOf}
 use Rattle.model.specs.Run.{Step}

@@ -1,7 +1,7 @@
 -- "Expansion": the walk of sheet 0 and of all that it calls, and refusals 8, 9 and 10 as the walk meets them.
 -- The walk is written once, over what it collects. Assumes nothing.
-use Prim.Native.Nat.{ℕ, zero, suc, _+_}
-use mathlib.Core.Bool.{Bool, true, false}
+use Prim.Native.Nat.{ℕ, zero, suc}
+use mathlib.Core.Bool.{true, false}
 use mathlib.Core.List.{List, [], _∷_}
 use lib.Dec.{eqb, ltb}
 use lib.ListN.{drop}

@@ -5,7 +5,7 @@ use Prim.Native.String.{String}
 use mathlib.Core.List.{List, [], _∷_}
 use Rattle.model.specs.Limits.{scratchLeast, traceLeast}
 use Rattle.model.specs.Text.{ascii}
-use Rattle.model.specs.Run.{Step, send, deliver, consume}
+use Rattle.model.specs.Run.{send, deliver, consume}
 use Rattle.model.specs.Answer.{Answer, free, locked, refused, answerOf}
 
 -- a sheet's text, and its answers on channels 0 to 5

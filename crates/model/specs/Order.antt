@@ -1,14 +1,13 @@
 -- "Expansion": events, the exchange that a walk meets, and the causal order "before" (Mitchell, definition 2.3).
 -- Assumes nothing.
-use Prim.Native.Nat.{ℕ, zero, suc, _+_, _*_, _/_, _%_, _<_}
+use Prim.Native.Nat.{ℕ, zero, suc, _+_, _*_, _/_, _%_}
 use mathlib.Core.Path.{_≡_}
 use mathlib.Core.Bool.{Bool, true, false, not, cond, _&&_, _||_}
 use mathlib.Core.List.{List, [], _∷_, _++_}
 use lib.Dec.{eqb, ltb}
-use lib.ListN.{length, getD}
+use lib.ListN.{getD}
 use Rattle.model.specs.Bounded.{any}
-use Rattle.model.specs.Refusal.{Out, ok, refusal, circleRefusal}
-use Rattle.model.specs.Expansion.{Walk, Ops, Progress}
+use Rattle.model.specs.Expansion.{Ops, Progress}
 
 -- message m has the send 2m and the receive 2m + 1
 pub data Event : Type 0 where

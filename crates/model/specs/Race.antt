@@ -1,13 +1,12 @@
 -- "Races and the schedule": races by code, and the race named. Assumes nothing.
 use Prim.Native.Nat.{ℕ, _*_}
-use mathlib.Core.Path.{_≡_}
-use mathlib.Core.Bool.{Bool, true, false, not, _&&_}
+use mathlib.Core.Bool.{Bool, false, not, _&&_}
 use mathlib.Core.List.{List, [], _∷_}
 use mathlib.Core.Option.{Option, none, some}
 use lib.Dec.{eqb}
 use lib.ListN.{getD}
 use Rattle.model.specs.Bounded.{any, lowest}
-use Rattle.model.specs.Order.{Event, sendOf, receiveOf, number, event, Scenario, board, atOrBefore}
+use Rattle.model.specs.Order.{Event, sendOf, receiveOf, event, Scenario, board, atOrBefore}
 
 -- what is not at or before e's send: the event x itself (code 0), origin(x) (2, 4, 5); 1 and 3 have no races
 pub data RaceRule : Type 0 where

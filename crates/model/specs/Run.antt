@@ -4,7 +4,7 @@ use mathlib.Core.Path.{_≡_}
 use mathlib.Core.Bool.{Bool, true, false, not, cond, _&&_, _||_}
 use mathlib.Core.List.{List, [], _∷_, _++_}
 use lib.Dec.{eqb, ltb}
-use Rattle.model.specs.Bounded.{every, any}
+use Rattle.model.specs.Bounded.{every}
 use Rattle.model.specs.Order.{Event, sendOf, receiveOf, number, Scenario, board}
 use Rattle.model.specs.Channel.{Channel, ToSend, ToDeliver, noEarlierUnderWay, channelEmpty, inOrder, alone}
 

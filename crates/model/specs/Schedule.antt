@@ -1,7 +1,6 @@
 -- "Races and the schedule": the withholding schedule, and the trace's bytes. Assumes nothing.
 use Prim.Native.Nat.{ℕ, zero, suc, _*_}
-use mathlib.Core.Path.{_≡_}
-use mathlib.Core.Bool.{Bool, true, false, _&&_}
+use mathlib.Core.Bool.{Bool, true, _&&_}
 use mathlib.Core.List.{List, [], _∷_}
 use mathlib.Core.Option.{Option, none, some}
 use lib.Dec.{eqb}
@@ -64,7 +63,3 @@ bytesOf [] = []
 bytesOf (send m ∷ ts) = 0 ∷ m ∷ bytesOf ts
 bytesOf (deliver m ∷ ts) = 1 ∷ m ∷ bytesOf ts
 bytesOf (consume m ∷ ts) = 2 ∷ m ∷ bytesOf ts
-
--- the bytes are those of the steps
-abbrev pub Spells : List ℕ → List Step → Type 0
-Spells bytes ts = bytes ≡ bytesOf ts

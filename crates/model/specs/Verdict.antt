@@ -2,11 +2,11 @@
 use Prim.Native.Nat.{ℕ, _*_, _<_, _≤_}
 use mathlib.Core.Path.{_≡_}
 use mathlib.Core.Logic.{_↔_, _⊎_}
-use mathlib.Core.Bool.{Bool, true, false}
+use mathlib.Core.Bool.{true, false}
 use mathlib.Core.List.{List}
 use lib.ListN.{length, take}
-use Rattle.model.specs.Refusal.{Out, ok}
-use Rattle.model.specs.Order.{Event, number, event, Scenario}
+use Rattle.model.specs.Refusal.{ok}
+use Rattle.model.specs.Order.{Event, event, Scenario}
 use Rattle.model.specs.Channel.{channelOf}
 use Rattle.model.specs.Run.{Step, IsOrder, EndsStuck, EndsFinished, CanFinish}
 use Rattle.model.specs.Race.{raceRuleOf, isRace}

@@ -8,4 +8,4 @@ pub mod Cleared
 pub mod Own
 pub mod Closed
 pub mod Scenario
-mod Loops
+pub mod Loops

@@ -1,13 +1,15 @@
 -- What later code uses of the bridge: the columns row by row, and the table sheet by sheet. Assumes nothing.
+use Prim.Native.Char.{code}
 use Prim.Native.Nat.{ℕ, zero, suc, _+_, _-_, _≤_, _<_}
 use native.Mathlib.Nat.{add-zero, sub-zero, suc-sub-suc}
 use native.Mathlib.Omega.{arith}
 use mathlib.Core.Path.{_≡_, refl, sym, _∙_, ap, subst}
-use mathlib.Core.List.{List, _∷_}
+use mathlib.Core.List.{List}
 use lib.ListN.{length, getD, drop}
+use borrow.Author.Tests.{ne-eqb}
 use Rattle.model.specs.Limits.{sheets, rowsMost}
 use Rattle.model.specs.Refusal.{ok, refusal}
-use Rattle.model.specs.Rows.{Row}
+use Rattle.model.specs.Rows.{Row, sheet, message, order, block, call}
 use Rattle.model.specs.Place.{readOf}
 use Rattle.model.proofs.Closure.{cells-at}
 use Rattle.sheet.specs.Bridge.{rowFrom, rowsAt, rowsOf, startIn, startsOf, outcomeOf, storeOf, Sized, KeptOn, ReadAs}
@@ -20,19 +22,34 @@ rows-length kind one two i zero = refl
 rows-length kind one two i (suc n) = ap suc (rows-length kind one two (suc i) n)
 
 -- the rows from a later one on
-pub rows-drop : (kind one two : List ℕ) (j i n : ℕ) → j ≤ n → drop j (rowsAt kind one two i n) ≡ rowsAt kind one two (i + j) (n - j)
+pub rows-drop : (kind one two : List ℕ) (j i n : ℕ) → drop j (rowsAt kind one two i n) ≡ rowsAt kind one two (i + j) (n - j)
 unfolding rowsAt
-rows-drop kind one two zero i n h = rw (add-zero i, sub-zero n)
-rows-drop kind one two (suc j) i zero h = absurd (omega arith)
-rows-drop kind one two (suc j) i (suc n) h =
+rows-drop kind one two zero i n = rw (add-zero i, sub-zero n)
+rows-drop kind one two (suc j) i zero = let e : 0 ≡ 0 - suc j = omega arith in ap (rowsAt kind one two (i + suc j)) e
+rows-drop kind one two (suc j) i (suc n) =
     let e : suc i + j ≡ i + suc j = omega arith in
-    rows-drop kind one two j (suc i) n (omega arith) ∙ rw (e, suc-sub-suc n j)
+    rows-drop kind one two j (suc i) n ∙ rw (e, suc-sub-suc n j)
 
--- the first of them
-pub rows-first : (kind one two : List ℕ) (i n : ℕ) → i < n
-    → rowsAt kind one two i (n - i) ≡ rowFrom (getD kind i 0) (getD one i 0) (getD two i 0) ∷ rowsAt kind one two (suc i) (n - suc i)
-unfolding rowsAt
-rows-first kind one two i n h = let e : n - i ≡ suc (n - suc i) = omega arith in rw e
+-- the rows by their letters
+pub row-sheet : (k a b : ℕ) → k ≡ code "S" → rowFrom k a b ≡ sheet a
+unfolding rowFrom
+row-sheet k a b e = rw e
+
+pub row-message : (k a b : ℕ) → k ≡ code "M" → rowFrom k a b ≡ message a b
+unfolding rowFrom
+row-message k a b e = rw e
+
+pub row-order : (k a b : ℕ) → k ≡ code "P" → rowFrom k a b ≡ order a b
+unfolding rowFrom
+row-order k a b e = rw e
+
+pub row-call : (k a b : ℕ) → k ≡ code "C" → rowFrom k a b ≡ call a
+unfolding rowFrom
+row-call k a b e = rw e
+
+pub row-block : (k a b : ℕ) → (k ≡ code "S" → ⊥) → (k ≡ code "M" → ⊥) → (k ≡ code "P" → ⊥) → (k ≡ code "C" → ⊥) → rowFrom k a b ≡ block
+unfolding rowFrom
+row-block k a b e f g h = rw (ne-eqb k (code "S") e, ne-eqb k (code "M") f, ne-eqb k (code "P") g, ne-eqb k (code "C") h)
 
 -- the table at a sheet
 pub start-at : (rs : List Row) (n : ℕ) → n < sheets → getD (startsOf rs) n 0 ≡ startIn rs n

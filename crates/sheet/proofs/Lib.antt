@@ -1,5 +1,4 @@
 pub mod Bridge
-pub mod Accepted
 pub mod Scan
 pub mod Spans
 pub mod Lines

@@ -15,6 +15,7 @@ use Rattle.model.specs.Rows.{Row, sheet, message, order, block, call}
 use Rattle.model.specs.Place.{withMessage, messageFits, orderFits, isSheet}
 use Rattle.sheet.specs.Stand.{isOpen, mayOpen, movedTo, stoodAt, standOf, placedFor, placedAs, FewMessages, PlaceAs}
 use Rattle.sheet.specs.Bridge.{rowFrom}
+use Rattle.sheet.proofs.Bridge.{row-sheet, row-message, row-order, row-call, row-block}
 use Rattle.sheet.specs.declared.place.Placed.{Placed}
 use Rattle.sheet.specs.declared.place.Placed.the-variants.{Messages, Nowhere}
 
@@ -86,27 +87,6 @@ not-sheet k a b h = rw (ne-eqb k (code "S") h) (go (eqb k (code "M")) (eqb k (co
     go false true z = refl
     go false false true = refl
     go false false false = refl
-
--- the rows by their letters
-row-sheet : (k a b : ℕ) → k ≡ code "S" → rowFrom k a b ≡ sheet a
-unfolding rowFrom
-row-sheet k a b e = rw e
-
-row-message : (k a b : ℕ) → k ≡ code "M" → rowFrom k a b ≡ message a b
-unfolding rowFrom
-row-message k a b e = rw e
-
-row-order : (k a b : ℕ) → k ≡ code "P" → rowFrom k a b ≡ order a b
-unfolding rowFrom
-row-order k a b e = rw e
-
-row-call : (k a b : ℕ) → k ≡ code "C" → rowFrom k a b ≡ call a
-unfolding rowFrom
-row-call k a b e = rw e
-
-row-block : (k a b : ℕ) → (k ≡ code "S" → ⊥) → (k ≡ code "M" → ⊥) → (k ≡ code "P" → ⊥) → (k ≡ code "C" → ⊥) → rowFrom k a b ≡ block
-unfolding rowFrom
-row-block k a b e f g h = rw (ne-eqb k (code "S") e, ne-eqb k (code "M") f, ne-eqb k (code "P") g, ne-eqb k (code "C") h)
 
 -- a message that fits is no message 129
 room : (bs : List ℕ) (m a b : ℕ) → m ≤ messagesMost → length bs ≡ 2 * messagesMost → messageFits (take (2 * m) bs) a b ≡ true → m < messagesMost

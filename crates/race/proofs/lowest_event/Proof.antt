@@ -1,6 +1,5 @@
 -- `race::lowest_event` meets its contract: no event below the send at hand races. Assumes nothing.
 use Prim.Native.Nat.{_-_, _*_}
-use native.Mathlib.Omega.{arith}
 use borrow.Author.Needs.{needs}
 use Rattle.race.specs.Bridge.{ruleIn}
 use Rattle.race.proofs.Races.{Searched, search-begins, search-goes-on, receive-inside, finds-send, finds-receive, search-ends}

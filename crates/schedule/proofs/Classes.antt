@@ -3,7 +3,7 @@ use mathlib.Core.Path.{_≡_, refl, sym, _∙_, ap, ap₂, subst, subst⁻¹}
 use mathlib.Core.Bool.{Bool, true, false, not, _&&_}
 use borrow.Author.Tests.{not-true, not-false}
 use mathlib.Core.Logic.{_⊎_, ⊎-elim}
-use mathlib.Core.Option.{none, some}
+use mathlib.Core.Option.{none}
 use mathlib.Core.List.{List, [], _∷_}
 use Prim.Native.Nat.{ℕ, zero, suc, _+_, _*_, _<_, _≤_}
 use native.Mathlib.Omega.{arith}
@@ -16,7 +16,7 @@ use Rattle.model.specs.Limits.{messagesMost}
 use Rattle.model.specs.Run.{send, deliver, consume, allowed}
 use Rattle.model.proofs.Bounded.{lowest-hit, lowest-miss}
 use Rattle.model.specs.Order.{event, atOrBefore}
-use Rattle.relation.specs.Width.{width, wordBits}
+use Rattle.relation.specs.Width.{width}
 use Rattle.relation.specs.Rows.{holds}
 use Rattle.relation.specs.Scenario.{scenarioIn}
 use Rattle.relation.proofs.Scenario.{before-at}
@@ -31,9 +31,10 @@ use Rattle.channel.specs.Steps.{SaysSend, SaysDeliver, SaysConsume}
 use Rattle.schedule.proofs.Class.{the-type}
 use Rattle.schedule.specs.declared.Class.{Class}
 use Rattle.schedule.specs.declared.Class.the-variants.{AnyConsume, DeliveryOf, NeededDelivery, NeededSend, AnyDelivery, AnySend}
+use Rattle.schedule.specs.declared.Found.the-variants as found
 use Rattle.schedule.specs.declared.Choice.{Choice}
 use Rattle.schedule.specs.declared.Choice.the-variants as choice
-use Rattle.schedule.specs.Bridge.{classIn, eventIn, SaysStep, SaysFits, fits, Candidates, NoneAhead, stepIn, Below, kindIn, messageIn, Moved}
+use Rattle.schedule.specs.Bridge.{classIn, eventIn, SaysStep, SaysFits, fits, HeldIn, OfRuns, Candidates, NextIn, Lowest, stepIn, Below, kindIn, messageIn, Moved}
 
 module _ (count : ℕ) (boards words : List ℕ) (e : ℕ) (q : Class) (m : ℕ) where
   pub takes-one : q ≡ DeliveryOf → eqb m e ≡ (classIn (scenarioIn count boards words) e q) .takes m
@@ -100,53 +101,57 @@ module _ (count : ℕ) (boards words : List ℕ) (c : Channel) (done way : List 
   pub says-send : Sends q → SaysSend count boards words c done way buffer m r → SaysStep count boards words c done way buffer q m r
   says-send t h = if-sends Says q (λ run d w b e. h run d w b) (λ run d w b e. h run d w b) t
 
--- The search of a class: no message below m fits, of those that there are.
-module _ (count : ℕ) (boards words : List ℕ) (c : Channel) (run : Run) (e : ℕ) (q : Class) where
+-- The search of a class: no message below m fits, of those that there are, in every run with these pieces.
+module _ (count : ℕ) (boards words : List ℕ) (c : Channel) (done way rows : List ℕ) (e : ℕ) (q : Class) where
   pub record Passed (m : ℕ) : Type 0 where
-    pub passed : (j : ℕ) → j < m → j < count → fits count boards words c run e q j ≡ false
-    pub within : m ≤ count + wordBits
-
-  pub search-begins : Passed 0
-  search-begins = record { passed = λ j h l. absurd (omega arith); within = omega arith }
+    pub passed : (j : ℕ) → j < m → j < count → OfRuns done way rows (λ run. fits count boards words c run e q j ≡ false)
 
   -- none of the messages below m is the lowest
-  none-below : (m : ℕ) → m ≤ count → ((j : ℕ) → j < m → j < count → fits count boards words c run e q j ≡ false)
-      → lowest m (fits count boards words c run e q) ≡ none
+  none-below : (m : ℕ) → m ≤ count → Passed m → OfRuns done way rows (λ run. lowest m (fits count boards words c run e q) ≡ none)
   unfolding lowest
-  none-below zero h p = refl
-  none-below (suc m) h p =
-      lowest-miss m (fits count boards words c run e q) (none-below m (omega arith) (λ j l. p j (omega arith))) (p m (omega arith) (omega arith))
-
-  pub misses : (m : ℕ) (u : Bool) (done way : List ℕ) (buffer : Buffer) → Passed m → u ≡ false
-      → SaysFits count boards words c done way buffer e q m u
-      → run .done ≡ done → run .way ≡ way → bufferOf run (getD boards (eventIn q m) 0) ≡ buffer
-      → m < count → Passed (m + 1)
-  misses m u done way buffer p f s d w b l =
-      record { passed = λ j h i. go j h i (ℕ-discrete j m); within = omega arith }
+  none-below m few p run d w h = go m few (λ j l. p .passed j l (omega arith) run d w h)
     where
-      go : (j : ℕ) → j < m + 1 → j < count → Dec (j ≡ m) → fits count boards words c run e q j ≡ false
-      go j h i (yes same) = rw same (sym (s run d w b) ∙ f)
-      go j h i (no other) = p .passed j (omega arith) i
+      go : (n : ℕ) → n ≤ count → ((j : ℕ) → j < n → fits count boards words c run e q j ≡ false) → lowest n (fits count boards words c run e q) ≡ none
+      go zero f g = refl
+      go (suc n) f g = lowest-miss n (fits count boards words c run e q) (go n (omega arith) (λ j l. g j (omega arith))) (g n (omega arith))
 
   -- no candidate is among the messages skipped
-  pub skips : (m r : ℕ) (row : List ℕ) → Passed m → NoneAhead row m r → Candidates words run e q row → count ≤ messagesMost → m < count
-      → Passed (m + r)
-  skips m r row p n all few l =
-      record { passed = λ j h i. go j h i (decLt j m); within = omega (arith, n .few) }
+  skips : (m r : ℕ) (row : List ℕ) → Passed m → NextIn row m r → Candidates words done way rows e q row → count ≤ messagesMost → Passed r
+  skips m r row p n all few = record { passed = λ j h i. go j h i (decLt j m) }
     where
-      go : (j : ℕ) → j < m + r → j < count → Dec (j < m) → fits count boards words c run e q j ≡ false
+      go : (j : ℕ) → j < r → j < count → Dec (j < m) → OfRuns done way rows (λ run. fits count boards words c run e q j ≡ false)
       go j h i (yes b) = p .passed j b i
-      go j h i (no b) = all j (omega arith) (n .absent j (omega arith) h) count boards c
+      go j h i (no b) = λ run d w s. all j (omega arith) (n .absent j (omega arith) h) run d w s count boards c
 
-  pub finds : (m : ℕ) (u : Bool) (done way : List ℕ) (buffer : Buffer) → Passed m → u ≡ true
-      → SaysFits count boards words c done way buffer e q m u
-      → run .done ≡ done → run .way ≡ way → bufferOf run (getD boards (eventIn q m) 0) ≡ buffer
-      → m < count → some m ≡ lowest count (fits count boards words c run e q)
-  finds m u done way buffer p v s d w b l =
-      sym (lowest-hit count m (fits count boards words c run e q) (none-below m (omega arith) (p .passed)) (sym (s run d w b) ∙ v) l)
+  pub search-begins : (r : ℕ) (row : List ℕ) → NextIn row 0 r → Candidates words done way rows e q row → count ≤ messagesMost → Passed r
+  search-begins r row n all few = skips 0 r row (record { passed = λ j h i. absurd (omega arith) }) n all few
 
-  pub finds-nothing : (m : ℕ) → Passed m → count ≤ m → none ≡ lowest count (fits count boards words c run e q)
-  finds-nothing m p l = sym (none-below count (omega arith) (λ j h. p .passed j (omega arith)))
+  pub finds-nothing : (m : ℕ) → Passed m → count ≤ m → Lowest count boards words c done way rows e q found.Nothing
+  finds-nothing m p l run d w r = sym (none-below count (omega arith) (record { passed = λ j h i. p .passed j (omega arith) i }) run d w r)
+
+  -- Message m is tried, by the buffer of its step's board.
+  module _ (m : ℕ) (u : Bool) (buffer : Buffer) (x b : ℕ) (p : Passed m) (s : SaysFits count boards words c done way buffer e q m u)
+      (i : x ≡ eventIn q m) (j : (b ≡ getD boards x 0) × (b < boardsMost)) (at : (run : Run) → HeldIn run rows → bufferOf run b ≡ buffer)
+      (l : m < count) where
+    own : (run : Run) → HeldIn run rows → bufferOf run (getD boards (eventIn q m) 0) ≡ buffer
+    own run h = ap (bufferOf run) (sym (j .0 ∙ ap (λ (k : ℕ). getD boards k 0) i)) ∙ at run h
+
+    misses : u ≡ false → Passed (m + 1)
+    misses f = record { passed = λ k h g. go k h g (ℕ-discrete k m) }
+      where
+        go : (k : ℕ) → k < m + 1 → k < count → Dec (k ≡ m) → OfRuns done way rows (λ run. fits count boards words c run e q k ≡ false)
+        go k h g (yes same) = λ run d w r. rw same (sym (s run d w (own run r)) ∙ f)
+        go k h g (no other) = p .passed k (omega arith) g
+
+    pub goes-past : (r : ℕ) (row : List ℕ) → u ≡ false → NextIn row (m + 1) r → Candidates words done way rows e q row → count ≤ messagesMost → Passed r
+    goes-past r row f n all few = skips (m + 1) r row (misses f) n all few
+
+    pub finds : u ≡ true → Lowest count boards words c done way rows e q (found.Message m)
+    finds v run d w r =
+        sym (lowest-hit count m (fits count boards words c run e q) (none-below m (omega arith) p run d w r) (sym (s run d w (own run r)) ∙ v) l)
+
+    pub finds-none-left : u ≡ false → m + 1 ≡ count → Lowest count boards words c done way rows e q found.Nothing
+    finds-none-left f z = finds-nothing (m + 1) (misses f) (omega arith)
 
 -- What each return of `fits_class` is to show.
 module _ (count : ℕ) (boards words : List ℕ) (c : Channel) (done way : List ℕ) (buffer : Buffer) (e : ℕ) (q : Class) (m : ℕ) where
@@ -160,11 +165,6 @@ module _ (count : ℕ) (boards words : List ℕ) (c : Channel) (done way : List 
   in-class t u f h s = λ run d w b.
       s run d w b e
       ∙ ap (λ k. k && allowed (scenarioIn count boards words) (channelIn c) (stateOf run) ((classIn (scenarioIn count boards words) e q) .step m)) (sym (not-false t f) ∙ h)
-
--- the buffer of the board of the class's step, as it is looked up
-pub own-buffer : (run : Run) (boards : List ℕ) (q : Class) (m x b : ℕ) → x ≡ eventIn q m → b ≡ getD boards x 0
-    → bufferOf run (getD boards (eventIn q m) 0) ≡ bufferOf run b
-own-buffer run boards q m x b i j = ap (bufferOf run) (sym (j ∙ ap (λ (k : ℕ). getD boards k 0) i))
 
 -- What each return of `step_of` is to show.
 module _ (q : Class) (m : ℕ) where

@@ -1,3 +1,4 @@
 pub mod Classes
+pub mod Held
 pub mod Running
 pub mod Skipped

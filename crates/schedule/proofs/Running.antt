@@ -25,7 +25,7 @@ use Rattle.schedule.specs.declared.Class.the-variants.{AnyConsume, Deliv
 use Rattle.schedule.specs.declared.Found.the-variants as found
 use Rattle.schedule.specs.declared.Choice.{Choice}
 use Rattle.schedule.specs.declared.Choice.the-variants as choice
-use Rattle.schedule.specs.Bridge.{classIn, foundIn, choiceIn, Below, fits, Lowest, stepIn, isNothing, kindIn, messageIn, Moved, Chosen, Scheduled}
+use Rattle.schedule.specs.Bridge.{classIn, foundIn, choiceIn, Below, fits, HeldIn, OfRuns, Lowest, stepIn, isNothing, kindIn, messageIn, Moved, Chosen, Scheduled}
 use Rattle.model.specs.Schedule.{Class, classesFor, choose, scheduleFrom, schedule, bytesOf}
 
 -- the byte of a step's kind, and its message's
@@ -161,18 +161,19 @@ module _ (S : Scenario) (c : Channel) where
         ended s i now R (ap (λ f. scheduleFrom S c e f s) z)
 
 -- The classes tried so far have no allowed step: what is left to choose from is chosen from as before.
-module _ (count : ℕ) (boards words : List ℕ) (c : channel.Channel) (run : Run) (e : ℕ) where
+module _ (count : ℕ) (boards words : List ℕ) (c : channel.Channel) (done way rows : List ℕ) (e : ℕ) where
   abbrev classes : List code.Class
   classes = AnyConsume ∷ DeliveryOf ∷ NeededDelivery ∷ NeededSend ∷ AnyDelivery ∷ AnySend ∷ []
 
   pub record Tried (k : ℕ) : Type 0 where
     pub within : k ≤ 6
     pub same :
+        OfRuns done way rows (λ run.
         choose (scenarioIn count boards words) (channelIn c) (classesFor (scenarioIn count boards words) e) (stateOf run)
-        ≡ choose (scenarioIn count boards words) (channelIn c) (drop k (classesFor (scenarioIn count boards words) e)) (stateOf run)
+        ≡ choose (scenarioIn count boards words) (channelIn c) (drop k (classesFor (scenarioIn count boards words) e)) (stateOf run))
 
   pub tried-none : Tried 0
-  tried-none = record { within = omega arith; same = refl }
+  tried-none = record { within = omega arith; same = λ run d w p. refl }
 
   -- the k-th class and those behind it
   at-class : (k : ℕ) → k < 6
@@ -185,13 +186,14 @@ module _ (count : ℕ) (boards words : List ℕ) (c : channel.Channel) (run : Ru
   at-class (suc (suc (suc (suc (suc zero))))) l = refl
   at-class (suc (suc (suc (suc (suc (suc k)))))) l = absurd (omega arith)
 
-  pub tried-more : (k : ℕ) (f : code-found.Found) → Tried k → f ≡ found.Nothing → Lowest count boards words c run e (getD classes k AnyConsume) f → k < 6 → Tried (k + 1)
+  pub tried-more : (k : ℕ) (f : code-found.Found) → Tried k → f ≡ found.Nothing
+      → Lowest count boards words c done way rows e (getD classes k AnyConsume) f → k < 6 → Tried (k + 1)
   tried-more k f T i h l =
       record {
         within = omega arith;
-        same =
-            T .same ∙ ap (λ ks. choose (scenarioIn count boards words) (channelIn c) ks (stateOf run)) (at-class k l)
-            ∙ choose-miss (scenarioIn count boards words) (channelIn c) (classIn (scenarioIn count boards words) e (getD classes k AnyConsume)) (drop (k + 1) (classesFor (scenarioIn count boards words) e)) (stateOf run) (sym h ∙ ap foundIn i);
+        same = λ run d w p.
+            T .same run d w p ∙ ap (λ ks. choose (scenarioIn count boards words) (channelIn c) ks (stateOf run)) (at-class k l)
+            ∙ choose-miss (scenarioIn count boards words) (channelIn c) (classIn (scenarioIn count boards words) e (getD classes k AnyConsume)) (drop (k + 1) (classesFor (scenarioIn count boards words) e)) (stateOf run) (sym (h run d w p) ∙ ap foundIn i);
       }
 
   step-is : (q : code.Class) (m : ℕ) → choiceIn (stepIn q m) ≡ some ((classIn (scenarioIn count boards words) e q) .step m)
@@ -210,25 +212,27 @@ module _ (count : ℕ) (boards words : List ℕ) (c : channel.Channel) (run : Ru
   step-below AnyDelivery m l = l
   step-below AnySend m l = l
 
-  pub chooses : (k m : ℕ) (f : code-found.Found) (r : Choice) → Tried k → f ≡ found.Message m → Lowest count boards words c run e (getD classes k AnyConsume) f → k < 6
+  pub chooses : (run : Run) (k m : ℕ) (f : code-found.Found) (r : Choice) → run .done ≡ done → run .way ≡ way → HeldIn run rows → Tried k
+      → f ≡ found.Message m → Lowest count boards words c done way rows e (getD classes k AnyConsume) f → k < 6
       → r ≡ stepIn (getD classes k AnyConsume) m → Chosen count boards words c run e r
-  chooses k m f r T i h l g =
+  chooses run k m f r d w p T i h l g =
       let q = getD classes k AnyConsume in
-      let at : lowest count (fits count boards words c run e q) ≡ some m = sym h ∙ ap foundIn i in
+      let at : lowest count (fits count boards words c run e q) ≡ some m = sym (h run d w p) ∙ ap foundIn i in
       record {
         choice =
             ap choiceIn g ∙ step-is q m
-            ∙ sym (T .same ∙ ap (λ ks. choose (scenarioIn count boards words) (channelIn c) ks (stateOf run)) (at-class k l)
+            ∙ sym (T .same run d w p ∙ ap (λ ks. choose (scenarioIn count boards words) (channelIn c) ks (stateOf run)) (at-class k l)
             ∙ choose-hit (scenarioIn count boards words) (channelIn c) (classIn (scenarioIn count boards words) e q) (drop (k + 1) (classesFor (scenarioIn count boards words) e)) (stateOf run) m at);
         below = subst⁻¹ (Below count) g (step-below q m (lowest-some count (fits count boards words c run e q) m at .below));
       }
 
-  pub chooses-nothing : (k : ℕ) → Tried k → 6 ≤ k → Chosen count boards words c run e choice.Nothing
+  pub chooses-nothing : (run : Run) (k : ℕ) → run .done ≡ done → run .way ≡ way → HeldIn run rows → Tried k → 6 ≤ k
+      → Chosen count boards words c run e choice.Nothing
   unfolding choose
-  chooses-nothing k T l =
+  chooses-nothing run k d w p T l =
       let i : k ≡ 6 = omega (arith, T .within) in
       record {
-        choice = sym (T .same ∙ ap (λ j. choose (scenarioIn count boards words) (channelIn c) (drop j (classesFor (scenarioIn count boards words) e)) (stateOf run)) i);
+        choice = sym (T .same run d w p ∙ ap (λ j. choose (scenarioIn count boards words) (channelIn c) (drop j (classesFor (scenarioIn count boards words) e)) (stateOf run)) i);
         below = tt;
       }
 

@@ -1,40 +1,41 @@
 -- The messages that the search of a class passes over: rows built word by word, and that a message which is not in the row of
 -- candidates has no allowed step. Assumes nothing.
-use mathlib.Core.Path.{_≡_, refl, sym, ap, _∙_, subst⁻¹}
+use mathlib.Core.Path.{_≡_, refl, sym, ap, _∙_, subst, subst⁻¹}
 use mathlib.Core.Bool.{Bool, true, false, not, _&&_, _||_, and-false}
-use mathlib.Core.List.{List, [], _∷_}
+use mathlib.Core.List.{List}
 use Prim.Native.Nat.{ℕ, zero, suc, _+_, _-_, _*_, _/_, _%_, _^_, _<_, _≤_}
-use native.Mathlib.Nat.{div-one, not-suc-le-zero, le-of-suc-le-suc}
+use native.Mathlib.Nat.{div-one, div-lt-iff-lt-mul, not-suc-le-zero, le-of-suc-le-suc}
 use native.Mathlib.Decide.{ℕ-discrete, decLt}
 use native.Mathlib.Omega.{arith}
 use lib.Bits.{bitAnd}
-use lib.Count.{trailingZeros, under}
+use lib.Count.{trailingZeros, under, trailing-le}
 use lib.Dec.{eqb}
 use lib.ListN.{length, getD, set, length-set}
-use lib.Pow.{shr-shr}
+use lib.Pow.{shr-shr, pow-add, pow-pos}
 use lib.Seq.{getD-set-same, getD-set-other}
 use borrow.Author.Tests.{eq-eqb, ne-eqb}
 use Rattle.model.specs.Limits.{boards, messagesMost}
 use Rattle.model.specs.Order.{sendOf, number, atOrBefore, Scenario}
 use Rattle.model.specs.Run.{ready, allowed, send, deliver, consume}
 use Rattle.model.specs.Channel as model
+use Rattle.model.proofs.Bounded.{not-both}
 use Rattle.relation.specs.Width.{width, wordBits}
 use Rattle.relation.specs.Rows.{has, holds, joinedFrom, marked}
 use Rattle.relation.specs.Scenario.{scenarioIn}
 use Rattle.relation.proofs.Bits.{has-zero}
 use Rattle.relation.proofs.Joined.{holds-joined-from, length-joined-from}
 use Rattle.relation.proofs.Marked.{holds-marked}
-use Rattle.channel.specs.declared.Buffer.{Buffer}
 use Rattle.channel.specs.declared.Channel.{Channel}
 use Rattle.channel.specs.declared.Run.{Run}
 use Rattle.channel.specs.Table.{channelIn}
 use Rattle.channel.specs.State.{inRow, bufferOf, stateOf}
-use Rattle.channel.proofs.Words.{has-and, has-not}
+use Rattle.channel.proofs.Words.{has-and, has-not, some-bit}
 use Rattle.channel.proofs.Rows.{alone-row}
 use Rattle.schedule.specs.declared.Class.{Class}
 use Rattle.schedule.specs.declared.Class.the-variants.{AnyConsume, NeededSend, AnySend}
 use Rattle.schedule.proofs.Classes.{Delivers, if-delivers}
-use Rattle.schedule.specs.Bridge.{fits, HeldAnywhere, Undone, Needed, Candidates, NoneAhead}
+use Rattle.schedule.specs.Bridge.{fits, HeldAnywhere, Undone, Needed, Candidates, NextIn}
+use Rattle.schedule.proofs.Held.{in-no-buffer}
 
 or-left-false : (a b : Bool) → (a || b) ≡ false → a ≡ false
 or-left-false true b t = t
@@ -71,19 +72,89 @@ trailing-clear (suc k) n i h = go (n % 2) refl i h (λ j g. trailing-clear k (n 
     go zero e (suc j) h rest = half n j ∙ rest j (le-of-suc-le-suc h)
     go (suc d) e i h rest = absurd (not-suc-le-zero h)
 
--- the messages from m on whose sends stand below the next bit set in m's word
-pub none-ahead : (row : List ℕ) (m r : ℕ) → 2 * r ≤ trailingZeros wordBits (getD row (2 * m / wordBits) 0 / 2 ^ (2 * m % wordBits))
-    → 2 * r ≤ wordBits - 2 * m % wordBits → NoneAhead row m r
-none-ahead row m r below inside =
-    record { few = omega arith; absent = clear }
+-- a word below 2 ^ n that is not zero has fewer than n of them
+trailing-below : (n w : ℕ) → w < 2 ^ n → (w ≡ 0 → ⊥) → trailingZeros wordBits w < n
+trailing-below n w small z = go (some-bit n w small z)
   where
-    clear : (j : ℕ) → m ≤ j → j < m + r → inRow row (2 * j) ≡ false
-    clear j h l =
-        let word : 2 * j / wordBits ≡ 2 * m / wordBits = omega arith in
-        let bit : 2 * j % wordBits ≡ 2 * m % wordBits + 2 * (j - m) = omega arith in
-        alone-row width row (2 * j)
-        ∙ rw (word, bit) (shifted (getD row (2 * m / wordBits) 0) (2 * m % wordBits) (2 * (j - m)))
-        ∙ trailing-clear wordBits (getD row (2 * m / wordBits) 0 / 2 ^ (2 * m % wordBits)) (2 * (j - m)) (omega arith)
+    go : (k : ℕ) × (k < n) × (has w k ≡ true) → trailingZeros wordBits w < n
+    go (k, h, t) = near (decLt k (trailingZeros wordBits w))
+      where
+        near : Dec (k < trailingZeros wordBits w) → trailingZeros wordBits w < n
+        near (yes l) = not-both (has w k) t (trailing-clear wordBits w k l)
+        near (no l) = omega arith
+
+-- The next message in a row: what is left of m's word, and then the words behind it.
+module _ (row : List ℕ) (m : ℕ) where
+  abbrev pub left : ℕ
+  left = getD row (2 * m / wordBits) 0 / 2 ^ (2 * m % wordBits)
+
+  -- a message of m's word is a bit of what is left of it
+  in-rest : (j : ℕ) → m ≤ j → 2 * j / wordBits ≡ 2 * m / wordBits → inRow row (2 * j) ≡ has left (2 * (j - m))
+  in-rest j h word =
+      let bit : 2 * j % wordBits ≡ 2 * m % wordBits + 2 * (j - m) = omega arith in
+      alone-row width row (2 * j) ∙ rw (word, bit) (shifted (getD row (2 * m / wordBits) 0) (2 * m % wordBits) (2 * (j - m)))
+
+  pub next-in-word : getD row (2 * m / wordBits) 0 < 2 ^ wordBits → (left ≡ 0 → ⊥) → NextIn row m (m + trailingZeros wordBits left / 2)
+  next-in-word small z =
+      record {
+        from = omega arith;
+        absent = λ j h l. in-rest j h (omega (arith, few)) ∙ trailing-clear wordBits left (2 * (j - m)) (omega arith);
+      }
+    where
+      split : 2 ^ wordBits ≡ 2 ^ (wordBits - 2 * m % wordBits) * 2 ^ (2 * m % wordBits)
+      split =
+          let all : wordBits ≡ wordBits - 2 * m % wordBits + 2 * m % wordBits = omega arith in
+          ap (λ (n : ℕ). 2 ^ n) all ∙ pow-add 2 (wordBits - 2 * m % wordBits) (2 * m % wordBits)
+
+      few : trailingZeros wordBits left < wordBits - 2 * m % wordBits
+      few =
+          trailing-below (wordBits - 2 * m % wordBits) left
+          (div-lt-iff-lt-mul (pow-pos (2 * m % wordBits)) .1 (subst (λ (n : ℕ). getD row (2 * m / wordBits) 0 < n) split small)) z
+
+  -- what the loop keeps: no message from m on is in the words passed
+  pub record NoneBefore (i : ℕ) : Type 0 where
+    pub clear : (j : ℕ) → m ≤ j → 2 * j < wordBits * i → inRow row (2 * j) ≡ false
+    pub behind : 2 * m ≤ wordBits * i
+    pub most : i ≤ width
+
+  pub none-before : m < messagesMost → left ≡ 0 → NoneBefore (2 * m / wordBits + 1)
+  none-before few z =
+      record {
+        clear = λ j h l. in-rest j h (omega arith) ∙ rw z (has-zero (2 * (j - m)));
+        behind = omega arith;
+        most = omega arith;
+      }
+
+  -- a message of word i, or of one before it
+  in-word : (i j n : ℕ) → NoneBefore i → m ≤ j → 2 * j < wordBits * i + n → n ≤ wordBits
+      → ((k : ℕ) → k < n → has (getD row i 0) k ≡ false) → inRow row (2 * j) ≡ false
+  in-word i j n p h l few clear = go (decLt (2 * j) (wordBits * i))
+    where
+      go : Dec (2 * j < wordBits * i) → inRow row (2 * j) ≡ false
+      go (yes b) = p .clear j h b
+      go (no b) =
+          let word : 2 * j / wordBits ≡ i = omega arith in
+          alone-row width row (2 * j) ∙ rw word (clear (2 * j % wordBits) (omega arith))
+
+  pub none-before-more : (i : ℕ) → NoneBefore i → getD row i 0 ≡ 0 → i < width → NoneBefore (i + 1)
+  none-before-more i p z l =
+      record {
+        clear = λ j h g. in-word i j wordBits p h (omega arith) (omega arith) (λ k b. rw z (has-zero k));
+        behind = omega (arith, p .behind);
+        most = omega arith;
+      }
+
+  pub next-in-row : (i : ℕ) → NoneBefore i → NextIn row m ((wordBits * i + trailingZeros wordBits (getD row i 0)) / 2)
+  next-in-row i p =
+      record {
+        from = omega (arith, p .behind);
+        absent =
+            λ j h l. in-word i j (trailingZeros wordBits (getD row i 0)) p h (omega arith) (trailing-le wordBits (getD row i 0)) (trailing-clear wordBits (getD row i 0));
+      }
+
+  pub next-in-none : (i : ℕ) → NoneBefore i → width ≤ i → NextIn row m messagesMost
+  next-in-none i p l =
+      record { from = omega (arith, p .behind, p .most); absent = λ j h g. p .clear j h (omega arith) }
 
 -- a row whose first i words are those of f, and the rest as they were
 pub record Filled (f : ℕ → ℕ) (row now : List ℕ) (i : ℕ) : Type 0 where
@@ -156,87 +227,83 @@ common-all words row kept now e i p h few m k l clear = (both, other)
         let z : true ≡ false = sym (eq-eqb k (2 * e) s) ∙ or-right-false (inRow kept k) (eqb k (2 * e)) neither in
         absurd (let n : _≡_ {A = ℕ} 0 1 = cc in omega arith)
 
--- What the loop over the buffers keeps: what the buffers passed hold is in the row.
-pub record Gathered (run : Run) (held : List ℕ) (b : ℕ) : Type 0 where
-  pub absent : (k : ℕ) → k < wordBits * width → inRow held k ≡ false → (a : ℕ) → a < b → inRow (bufferOf run a .held) k ≡ false
+-- What the loop over the buffers' rows keeps: what the rows passed hold is in the row.
+pub record Gathered (rows held : List ℕ) (b : ℕ) : Type 0 where
+  pub absent : (k : ℕ) → k < wordBits * width → inRow held k ≡ false → (a : ℕ) → a < b → holds width rows a k ≡ false
   pub long : length held ≡ width
   pub most : b ≤ boards
 
-pub gathered-start : (run : Run) (held : List ℕ) → length held ≡ width → Gathered run held 0
-gathered-start run held l =
+pub gathered-start : (rows held : List ℕ) → length held ≡ width → Gathered rows held 0
+gathered-start rows held l =
     record { absent = λ k h c a g. absurd (not-suc-le-zero g); long = l; most = omega arith }
 
-pub gathered-more : (run : Run) (held now : List ℕ) (b : ℕ) (buffer : Buffer) → Gathered run held b → bufferOf run b ≡ buffer
-    → now ≡ joinedFrom width held 0 (buffer .held) 0 → b < boards → Gathered run now (b + 1)
-gathered-more run held now b buffer p e j h =
+pub gathered-more : (rows held now : List ℕ) (b : ℕ) → Gathered rows held b → now ≡ joinedFrom width held 0 rows b → b < boards
+    → Gathered rows now (b + 1)
+gathered-more rows held now b p j h =
     record {
       absent = λ k l clear a g. go k l (sym (joined k l) ∙ clear) a g (ℕ-discrete a b);
-      long = ap length j ∙ length-joined-from width held 0 (buffer .held) 0 ∙ p .long;
+      long = ap length j ∙ length-joined-from width held 0 rows b ∙ p .long;
       most = omega arith;
     }
   where
-    joined : (k : ℕ) → k < wordBits * width → inRow now k ≡ (inRow held k || inRow (buffer .held) k)
-    joined k l = rw j (holds-joined-from width held 0 (buffer .held) 0 0 k (omega (arith, p .long)) l)
+    joined : (k : ℕ) → k < wordBits * width → inRow now k ≡ (inRow held k || holds width rows b k)
+    joined k l = rw j (holds-joined-from width held 0 rows b 0 k (omega (arith, p .long)) l)
 
-    go : (k : ℕ) → k < wordBits * width → (inRow held k || inRow (buffer .held) k) ≡ false → (a : ℕ) → a < b + 1 → Dec (a ≡ b)
-        → inRow (bufferOf run a .held) k ≡ false
-    go k l clear a g (yes s) = rw (s, e) (or-right-false (inRow held k) (inRow (buffer .held) k) clear)
-    go k l clear a g (no n) = p .absent k l (or-left-false (inRow held k) (inRow (buffer .held) k) clear) a (omega arith)
+    go : (k : ℕ) → k < wordBits * width → (inRow held k || holds width rows b k) ≡ false → (a : ℕ) → a < b + 1 → Dec (a ≡ b)
+        → holds width rows a k ≡ false
+    go k l clear a g (yes s) = rw s (or-right-false (inRow held k) (holds width rows b k) clear)
+    go k l clear a g (no n) = p .absent k l (or-left-false (inRow held k) (holds width rows b k) clear) a (omega arith)
 
--- beyond the last board there is no buffer
-getD-beyond : {A : Type 0} (l : List A) (i : ℕ) (d : A) → length l ≤ i → getD l i d ≡ d
-getD-beyond [] i d h = refl
-getD-beyond (a ∷ l) zero d h = absurd (not-suc-le-zero h)
-getD-beyond (a ∷ l) (suc i) d h = getD-beyond l i d (le-of-suc-le-suc h)
-
-pub gathered-all : (run : Run) (held : List ℕ) (b : ℕ) → Gathered run held b → boards ≤ b → length (run .buffers) ≡ boards → HeldAnywhere run held
-gathered-all run held b p h l k g clear a = go (decLt a b)
-  where
-    nothing : inRow [] k ≡ false
-    nothing = alone-row width [] k ∙ has-zero (k % wordBits)
-
-    go : Dec (a < b) → inRow (bufferOf run a .held) k ≡ false
-    go (yes i) = p .absent k g clear a i
-    go (no i) = rw (getD-beyond (run .buffers) a (record { held = [] }) (omega (arith, l))) nothing
+pub gathered-all : (rows held : List ℕ) (b : ℕ) → Gathered rows held b → boards ≤ b → HeldAnywhere rows held
+gathered-all rows held b p h k g clear a l = p .absent k g clear a (omega arith)
 
 -- What each return of `candidates` is to show: the step of a message that is not in the row is not allowed.
-module _ (words : List ℕ) (run : Run) (e : ℕ) (q : Class) (row : List ℕ) where
-  of-class : (k : Class) → q ≡ k → Candidates words run e k row → Candidates words run e q row
-  of-class k i h = subst⁻¹ (λ (j : Class). Candidates words run e j row) i h
+module _ (words done way rows : List ℕ) (e : ℕ) (q : Class) (row : List ℕ) where
+  abbrev Left-out : Class → Type 0
+  Left-out k = Candidates words done way rows e k row
 
   -- the message is not under way
-  module _ (r : row ≡ run .way) (S : Scenario) (c : model.Channel) (m : ℕ) (clear : inRow row (2 * m) ≡ false) where
+  module _ (S : Scenario) (c : model.Channel) (run : Run) (m : ℕ) (clear : inRow (run .way) (2 * m) ≡ false) where
     not-under-way : allowed S c (stateOf run) (deliver m) ≡ false
     unfolding allowed
-    not-under-way = rw (ap (λ (l : List ℕ). inRow l (2 * m)) (sym r) ∙ clear, and-false)
+    not-under-way = rw (clear, and-false)
 
   -- its send is done
-  module _ (S : Scenario) (c : model.Channel) (m : ℕ) (done : inRow (run .done) (2 * m) ≡ true) where
+  module _ (S : Scenario) (c : model.Channel) (run : Run) (m : ℕ) (sent : inRow (run .done) (2 * m) ≡ true) where
     sent-before : allowed S c (stateOf run) (send m) ≡ false
     unfolding allowed ready number
-    sent-before = rw (done, and-false)
+    sent-before = rw (sent, and-false)
 
   -- it is not in its target's buffer
-  module _ (S : Scenario) (c : model.Channel) (m : ℕ) (absent : inRow (bufferOf run (S .target m) .held) (2 * m) ≡ false) where
+  module _ (S : Scenario) (c : model.Channel) (run : Run) (m : ℕ) (absent : inRow (bufferOf run (S .target m) .held) (2 * m) ≡ false) where
     not-held : allowed S c (stateOf run) (consume m) ≡ false
     unfolding allowed
     not-held = rw (absent, and-false)
 
-  pub candidates-held : q ≡ AnyConsume → HeldAnywhere run row → Candidates words run e q row
+  pub candidates-held : q ≡ AnyConsume → HeldAnywhere rows row → Candidates words done way rows e q row
   candidates-held i h =
-      of-class AnyConsume i (λ m l clear count on c. not-held (scenarioIn count on words) (channelIn c) m (h (2 * m) (omega arith) clear (getD on (2 * m + 1) 0)))
+      subst⁻¹ Left-out i (λ m l clear run d w s count on c. not-held (scenarioIn count on words) (channelIn c) run m (in-no-buffer run rows (2 * m) s (omega arith) (h (2 * m) (omega arith) clear) (getD on (2 * m + 1) 0)))
 
-  pub candidates-delivery : Delivers q → row ≡ run .way → Candidates words run e q row
+  pub candidates-delivery : Delivers q → row ≡ way → Candidates words done way rows e q row
   candidates-delivery t r =
-      if-delivers (λ (k : Class). Candidates words run e k row) q
-      (λ m l clear count on c. rw (not-under-way r (scenarioIn count on words) (channelIn c) m clear, and-false))
-      (λ m l clear count on c. rw (not-under-way r (scenarioIn count on words) (channelIn c) m clear, and-false))
-      (λ m l clear count on c. not-under-way r (scenarioIn count on words) (channelIn c) m clear)
+      if-delivers Left-out q
+      (λ m l clear run d w s count on c. rw (none (scenarioIn count on words) (channelIn c) run m w clear, and-false))
+      (λ m l clear run d w s count on c. rw (none (scenarioIn count on words) (channelIn c) run m w clear, and-false))
+      (λ m l clear run d w s count on c. none (scenarioIn count on words) (channelIn c) run m w clear)
       t
+    where
+      none : (S : Scenario) (c : model.Channel) (run : Run) (m : ℕ) → run .way ≡ way → inRow row (2 * m) ≡ false → allowed S c (stateOf run) (deliver m) ≡ false
+      none S c run m w clear = not-under-way S c run m (ap (λ (l : List ℕ). inRow l (2 * m)) (w ∙ sym r) ∙ clear)
 
-  pub candidates-send : q ≡ AnySend → Undone (run .done) row → Candidates words run e q row
+  -- the send of a message that is not among those left is done
+  sent : (left : List ℕ) → Undone done left → (S : Scenario) (c : model.Channel) (run : Run) (m : ℕ) → run .done ≡ done → m < messagesMost
+      → inRow left (2 * m) ≡ false → allowed S c (stateOf run) (send m) ≡ false
+  sent left u S c run m d l clear =
+      sent-before S c run m (ap (λ (k : List ℕ). inRow k (2 * m)) d ∙ u (2 * m) (omega arith) clear)
+
+  pub candidates-send : q ≡ AnySend → Undone done row → Candidates words done way rows e q row
   candidates-send i u =
-      of-class AnySend i (λ m l clear count on c. sent-before (scenarioIn count on words) (channelIn c) m (u (2 * m) (omega arith) clear))
+      subst⁻¹ Left-out i (λ m l clear run d w s count on c. sent row u (scenarioIn count on words) (channelIn c) run m d l clear)
 
   -- a send that is neither e's nor before it
   not-needed : (S : Scenario) (m : ℕ) → (2 * m ≡ 2 * e → ⊥) → S .before (sendOf m) (sendOf e) ≡ false → atOrBefore S (sendOf m) (sendOf e) ≡ false
@@ -247,13 +314,13 @@ module _ (words : List ℕ) (run : Run) (e : ℕ) (q : Class) (row : List ℕ) w
   unfolding number
   not-before count on m h = rw (h, and-false)
 
-  pub candidates-needed-send : (left : List ℕ) → q ≡ NeededSend → Undone (run .done) left → Needed words e left row → Candidates words run e q row
+  pub candidates-needed-send : (left : List ℕ) → q ≡ NeededSend → Undone done left → Needed words e left row → Candidates words done way rows e q row
   candidates-needed-send left i u n =
-      of-class NeededSend i (λ m l clear count on c. go m l (n (2 * m) (omega arith) clear .1) (inRow left (2 * m)) refl (n (2 * m) (omega arith) clear .0) count on c)
+      subst⁻¹ Left-out i (λ m l clear run d w s. go m l (n (2 * m) (omega arith) clear .1) (inRow left (2 * m)) refl (n (2 * m) (omega arith) clear .0) run d)
     where
       go : (m : ℕ) → m < messagesMost → (2 * m ≡ 2 * e → ⊥) → (b : Bool) → inRow left (2 * m) ≡ b → (inRow left (2 * m) && holds width words (2 * e) (2 * m)) ≡ false
-          → (count : ℕ) (on : List ℕ) (c : Channel) → fits count on words c run e NeededSend m ≡ false
-      go m l other true s both count on c =
-          rw (not-needed (scenarioIn count on words) m other (not-before count on m (rw s at both)))
-      go m l other false s both count on c =
-          rw (sent-before (scenarioIn count on words) (channelIn c) m (u (2 * m) (omega arith) s), and-false)
+          → (run : Run) → run .done ≡ done → (count : ℕ) (on : List ℕ) (c : Channel) → fits count on words c run e NeededSend m ≡ false
+      go m l other true k both run d count on c =
+          rw (not-needed (scenarioIn count on words) m other (not-before count on m (rw k at both)))
+      go m l other false k both run d count on c =
+          rw (sent left u (scenarioIn count on words) (channelIn c) run m d l k, and-false)

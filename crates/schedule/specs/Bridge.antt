@@ -19,6 +19,7 @@ use Rattle.channel.specs.declared.Buffer.{Buffer}
 use Rattle.channel.specs.declared.Channel.{Channel}
 use Rattle.channel.specs.declared.Run.{Run}
 use Rattle.channel.specs.Table.{channelIn}
+use Rattle.channel.specs.Masks.{boardsMost}
 use Rattle.channel.specs.State.{inRow, bufferOf, stateOf, Follows}
 use Rattle.schedule.specs.declared.Class.{Class}
 use Rattle.schedule.specs.declared.Class.the-variants.{AnyConsume, DeliveryOf, NeededDelivery, NeededSend, AnyDelivery, AnySend}
@@ -80,9 +81,16 @@ SaysFits count boards words c done way buffer e class m r =
     (run : Run) → run .done ≡ done → run .way ≡ way → bufferOf run (getD boards (eventIn class m) 0) ≡ buffer
     → r ≡ fits count boards words c run e class m
 
--- an event that is not in the row is in no buffer
-abbrev pub HeldAnywhere : Run → List ℕ → Type 0
-HeldAnywhere run row = (k : ℕ) → k < wordBits * width → inRow row k ≡ false → (b : ℕ) → inRow (bufferOf run b .held) k ≡ false
+-- the rows are the run's buffers, a row a board
+pub record HeldIn (run : Run) (rows : List ℕ) : Type 0 where
+  pub boards : length (run .buffers) ≡ boardsMost
+  pub long : (b : ℕ) → b < boardsMost → length (bufferOf run b .held) ≡ width
+  pub words : (b i : ℕ) → b < boardsMost → i < width → getD rows (b * width + i) 0 ≡ getD (bufferOf run b .held) i 0
+
+-- an event that is not in the row is in none of the buffers' rows
+abbrev pub HeldAnywhere : List ℕ → List ℕ → Type 0
+HeldAnywhere rows row =
+    (k : ℕ) → k < wordBits * width → inRow row k ≡ false → (b : ℕ) → b < boardsMost → holds width rows b k ≡ false
 
 -- an event that is not in the row is done
 abbrev pub Undone : List ℕ → List ℕ → Type 0
@@ -93,20 +101,25 @@ abbrev pub Needed : List ℕ → ℕ → List ℕ → List ℕ → Type 0
 Needed words e row kept =
     (k : ℕ) → k < wordBits * width → inRow kept k ≡ false → ((inRow row k && holds width words (2 * e) k) ≡ false) × (k ≡ 2 * e → ⊥)
 
+-- what holds of every run with these pieces: what is done, what is under way, and the rows of the buffers
+abbrev pub OfRuns : List ℕ → List ℕ → List ℕ → (Run → Type 0) → Type 0
+OfRuns done way rows P = (run : Run) → run .done ≡ done → run .way ≡ way → HeldIn run rows → P run
+
 -- a message that is not in the row has no allowed step of the class
-abbrev pub Candidates : List ℕ → Run → ℕ → Class → List ℕ → Type 0
-Candidates words run e class row =
+abbrev pub Candidates : List ℕ → List ℕ → List ℕ → List ℕ → ℕ → Class → List ℕ → Type 0
+Candidates words done way rows e class row =
     (m : ℕ) → m < messagesMost → inRow row (2 * m) ≡ false
-    → (count : ℕ) (boards : List ℕ) (c : Channel) → fits count boards words c run e class m ≡ false
+    → OfRuns done way rows (λ run. (count : ℕ) (boards : List ℕ) (c : Channel) → fits count boards words c run e class m ≡ false)
 
--- none of the r messages from m on is in the row
-pub record NoneAhead (row : List ℕ) (m r : ℕ) : Type 0 where
-  pub few : r ≤ wordBits
-  pub absent : (j : ℕ) → m ≤ j → j < m + r → inRow row (2 * j) ≡ false
+-- no message from m on and before r is in the row
+pub record NextIn (row : List ℕ) (m r : ℕ) : Type 0 where
+  pub from : m ≤ r
+  pub absent : (j : ℕ) → m ≤ j → j < r → inRow row (2 * j) ≡ false
 
--- the lowest message that does
-abbrev pub Lowest : ℕ → List ℕ → List ℕ → Channel → Run → ℕ → Class → Found → Type 0
-Lowest count boards words c run e class r = foundIn r ≡ lowest count (fits count boards words c run e class)
+-- the lowest message of the class whose step is allowed
+abbrev pub Lowest : ℕ → List ℕ → List ℕ → Channel → List ℕ → List ℕ → List ℕ → ℕ → Class → Found → Type 0
+Lowest count boards words c done way rows e class r =
+    OfRuns done way rows (λ run. foundIn r ≡ lowest count (fits count boards words c run e class))
 
 -- the step of a class on message m
 abbrev pub stepIn : Class → ℕ → Choice

@@ -8,7 +8,8 @@ ghost use Rattle.relation.specs.Scenario.{scenarioIn};
 ghost use Rattle.race.specs.Bridge.{Lent};
 ghost use Rattle.model.specs.Limits.{messagesMost};
 ghost use Rattle.channel.specs.Masks.{boardsMost, BoardsBelow, Standing};
-ghost use Rattle.schedule.specs.Bridge.{classIn, eventIn, HeldAnywhere, Undone, Needed, Candidates, NoneAhead, Lowest, SaysStep, SaysFits, stepIn, Below, Chosen, isNothing, kindIn, messageIn, Moved, Scheduled};
+ghost use Rattle.channel.specs.State.{bufferOf};
+ghost use Rattle.schedule.specs.Bridge.{classIn, eventIn, HeldIn, HeldAnywhere, Undone, Needed, Candidates, NextIn, Lowest, SaysStep, SaysFits, stepIn, Below, Chosen, isNothing, kindIn, messageIn, Moved, Scheduled};
 ghost use Rattle.channel.specs.Table.{channelIn};
 use channel::Buffer;
 use channel::Channel;
@@ -148,21 +149,46 @@ fn board_of(boards: &[u8], count: usize, x: usize) -> usize
     boards[x] as usize
 }
 
-// The row gains the messages of a buffer.
-fn join_held(row: &mut [u64; WIDTH], buffer: Buffer)
-    ensures { λ _. ⌜ now (row .exit) ≡ joinedFrom width (now (row .entry)) 0 (buffer .held) 0 ⌝ }
+// The words of all buffers, a row a board.
+const HELD_WORDS: usize = model::BOARDS * WIDTH;
+
+// A board's row gains the messages of its buffer.
+fn join_held(rows: &mut [u64; HELD_WORDS], board: usize, buffer: Buffer)
+    requires { ⌜ board < boardsMost ⌝ }
+    ensures { λ _. ⌜ (now (rows .exit) ≡ joinedFrom width (now (rows .entry)) board (buffer .held) 0) × (length (buffer .held) ≡ width) ⌝ }
 {
-    relation::join_from(row, 0, &buffer.held, 0);
+    relation::join_from(rows, board, &buffer.held, 0);
+}
+
+// The buffers of a run, in rows.
+fn held_rows(run: Run) -> [u64; HELD_WORDS]
+    ensures { λ r. ⌜ HeldIn run r ⌝ }
+{
+    let mut rows = [0u64; HELD_WORDS];
+    for b in 0..model::BOARDS {
+        let buffer = run.buffers[b];
+        join_held(&mut rows, b, buffer);
+    }
+    rows
+}
+
+// The buffer of a board, from its row.
+fn buffer_at(rows: &[u64; HELD_WORDS], board: usize) -> Buffer
+    requires { ⌜ board < boardsMost ⌝ }
+    ensures { λ r. ⌜ ((run : Run) → HeldIn run (now (rows .entry)) → bufferOf run board ≡ r) ⌝ }
+{
+    let mut held = [0u64; WIDTH];
+    relation::join_from(&mut held, 0, rows, board);
+    Buffer { held }
 }
 
 // The messages that some buffer holds.
-fn held_anywhere(run: Run) -> [u64; WIDTH]
-    ensures { λ r. ⌜ HeldAnywhere run r ⌝ }
+fn held_anywhere(rows: &[u64; HELD_WORDS]) -> [u64; WIDTH]
+    ensures { λ r. ⌜ HeldAnywhere (now (rows .entry)) r ⌝ }
 {
     let mut held = [0u64; WIDTH];
     for b in 0..model::BOARDS {
-        let buffer = run.buffers[b];
-        join_held(&mut held, buffer);
+        relation::join_from(&mut held, 0, rows, b);
     }
     held
 }
@@ -195,65 +221,75 @@ fn needed(words: &[u64], e: usize, row: [u64; WIDTH]) -> [u64; WIDTH]
 }
 
 // The messages whose step of the class can be allowed at all, as bits of their sends: in a buffer, under way, or not yet sent.
-fn candidates(words: &[u64], run: Run, e: usize, class: Class) -> [u64; WIDTH]
+fn candidates<'a>(
+    words: &[u64],
+    done: &'a [u64; WIDTH],
+    way: &'a [u64; WIDTH],
+    rows: &'a [u64; HELD_WORDS],
+    e: usize,
+    class: Class,
+) -> [u64; WIDTH]
     requires { ⌜ (e < messagesMost) × (2 * e * width + width ≤ length (now words)) ⌝ }
-    ensures { λ r. ⌜ Candidates (now (words .entry)) run e class r ⌝ }
+    ensures { λ r. ⌜ Candidates (now (words .entry)) (now (done .entry)) (now (way .entry)) (now (rows .entry)) e class r ⌝ }
 {
-    let done = run.done;
-    let way = run.way;
     match class {
-        Class::AnyConsume => held_anywhere(run),
-        Class::DeliveryOf | Class::NeededDelivery | Class::AnyDelivery => way,
-        Class::NeededSend => needed(words, e, undone(done)),
-        Class::AnySend => undone(done),
+        Class::AnyConsume => held_anywhere(rows),
+        Class::DeliveryOf | Class::NeededDelivery | Class::AnyDelivery => *way,
+        Class::NeededSend => needed(words, e, undone(*done)),
+        Class::AnySend => undone(*done),
     }
 }
 
-// How many messages from m on are none of the row's, as far as m's word tells.
-fn none_ahead(row: &[u64; WIDTH], m: usize) -> usize
-    requires { ⌜ m < messagesMost ⌝ }
-    ensures { λ r. ⌜ NoneAhead (now (row .entry)) m r ⌝ }
+// The next message from m on with a bit in the row, its send's or its receive's; where there is none, the most messages.
+fn next_in(row: &[u64], m: usize) -> usize
+    requires { ⌜ (m < messagesMost) × (width ≤ length (now row)) ⌝ }
+    ensures { λ r. ⌜ NextIn (now (row .entry)) m r ⌝ }
 {
     let send = 2 * m;
     let at = send / WORD_BITS;
-    let bit = send % WORD_BITS;
-    let clear = u64::trailing_zeros(row[at] >> bit) as usize;
-    let left = WORD_BITS - bit;
-    if clear < left { clear / 2 } else { left / 2 }
+    let rest = row[at] >> (send % WORD_BITS);
+    if rest != 0 {
+        return m + u64::trailing_zeros(rest) as usize / 2;
+    }
+    for i in at + 1..WIDTH {
+        let word = row[i];
+        if word != 0 {
+            return (WORD_BITS * i + u64::trailing_zeros(word) as usize) / 2;
+        }
+    }
+    model::MESSAGES_MOST
 }
 
-// The lowest message of the class whose step is allowed.
-fn lowest(
+// The lowest message of the class whose step is allowed, by the pieces of a run.
+fn lowest<'a>(
     words: &[u64],
     masks: &[u64],
     boards: &[u8],
     count: usize,
     c: Channel,
-    run: Run,
+    done: &'a [u64; WIDTH],
+    way: &'a [u64; WIDTH],
+    rows: &'a [u64; HELD_WORDS],
     e: usize,
     class: Class,
 ) -> Found
     requires { ⌜ Standing count (now boards) (now words) (now masks) ⌝ }
     requires { ⌜ e < count ⌝ }
-    ensures { λ r. ⌜ Lowest count (now (boards .entry)) (now (words .entry)) c run e class r ⌝ }
+    ensures { λ r. ⌜ Lowest count (now (boards .entry)) (now (words .entry)) c (now (done .entry)) (now (way .entry)) (now (rows .entry)) e class r ⌝ }
 {
-    let done = run.done;
-    let way = run.way;
-    let among = candidates(words, run, e, class);
-    let mut m = 0;
+    let among = candidates(words, done, way, rows, e, class);
+    let mut m = next_in(&among, 0);
     while m < count {
-        let ahead = none_ahead(&among, m);
-        if ahead == 0 {
-            let x = event_of(class, m);
-            let board = board_of(boards, count, x);
-            let at = run.buffers[board];
-            if fits_class(words, masks, boards, count, c, &done, &way, at, e, class, m) {
-                return Found::Message(m);
-            }
-            m = m + 1;
-        } else {
-            m = m + ahead;
+        let x = event_of(class, m);
+        let board = board_of(boards, count, x);
+        let at = buffer_at(rows, board);
+        if fits_class(words, masks, boards, count, c, done, way, at, e, class, m) {
+            return Found::Message(m);
         }
+        if m + 1 == count {
+            return Found::Nothing;
+        }
+        m = next_in(&among, m + 1);
     }
     Found::Nothing
 }
@@ -283,9 +319,12 @@ fn choose(
     requires { ⌜ e < count ⌝ }
     ensures { λ r. ⌜ Chosen count (now (boards .entry)) (now (words .entry)) c run e r ⌝ }
 {
+    let done = run.done;
+    let way = run.way;
+    let rows = held_rows(run);
     for k in 0..CLASS_COUNT {
         let class = CLASSES[k];
-        let found = lowest(words, masks, boards, count, c, run, e, class);
+        let found = lowest(words, masks, boards, count, c, &done, &way, &rows, e, class);
         match found {
             Found::Message(m) => return step_of(class, m),
             Found::Nothing => {}

@@ -6,10 +6,13 @@ use Rattle.schedule.proofs.choose.Statement.{statement}
 use Rattle.schedule.proofs.choose.Tie as tie
 
 abbrev Inv-loop : tie.InvT-loop
-Inv-loop words masks boards count c run e k₀ k = Tried count boards words c run e k
+Inv-loop words masks boards count c e done way rows k₀ k = Tried count boards words c done way rows e k
 
 abbrev μ-loop : tie.MeasureT-loop
-μ-loop words masks boards count c run e k₀ k = 6 - k
+μ-loop words masks boards count c e done way rows k₀ k = 6 - k
+
+held-rows-requires : tie.Need-held-rows-requires Inv-loop μ-loop
+held-rows-requires c κs = search needs
 
 loop-holds : tie.Need-loop-holds Inv-loop μ-loop
 loop-holds c = search tried-none
@@ -50,6 +53,7 @@ choose-spec =
     (tie.spec
     Inv-loop
     μ-loop
+    held-rows-requires
     loop-holds
     array-copy-out-class
     lowest-requires

@@ -1,81 +1,89 @@
 -- `schedule::lowest` meets its contract: no message below m fits. Assumes nothing.
-use mathlib.Core.Path.{refl}
 use borrow.Author.Needs.{needs}
 use Prim.Native.Nat.{_*_, _-_, _<_}
 use Rattle.schedule.specs.Bridge.{eventIn}
-use Rattle.schedule.proofs.Classes.{Passed, search-begins, misses, skips, finds, finds-nothing, event-below, own-buffer}
+use Rattle.schedule.proofs.Classes.{Passed, search-begins, goes-past, finds, finds-none-left, finds-nothing, event-below}
 use Rattle.schedule.proofs.lowest.Statement.{statement}
 use Rattle.schedule.proofs.lowest.Tie as tie
 
 abbrev Inv-loop : tie.InvT-loop
-Inv-loop words masks boards count c e class run done way among m₀ m = Passed count boards words c run e class m
+Inv-loop words masks boards count c done way rows e class among m₀ m = Passed count boards words c done way rows e class m
 
 abbrev μ-loop : tie.MeasureT-loop
-μ-loop words masks boards count c e class run done way among m₀ m = count - m
+μ-loop words masks boards count c done way rows e class among m₀ m = count - m
 
 candidates-requires : tie.Need-candidates-requires Inv-loop μ-loop
 candidates-requires c κs = search needs
 
+slice-aggregate-next-in : tie.Need-slice-aggregate-next-in Inv-loop μ-loop
+slice-aggregate-next-in c = search needs
+
+next-in-requires : tie.Need-next-in-requires Inv-loop μ-loop
+next-in-requires c κs = search needs
+
 loop-holds : tie.Need-loop-holds Inv-loop μ-loop
 loop-holds c = search search-begins
-
-none-ahead-requires : tie.Need-none-ahead-requires Inv-loop μ-loop
-none-ahead-requires c κs = search needs
 
 event-of-requires : tie.Need-event-of-requires Inv-loop μ-loop
 event-of-requires c κs = search needs
 
 board-of-requires : tie.Need-board-of-requires Inv-loop μ-loop
 board-of-requires c κs =
-    let l = c .before .before .before .before in
-    let a = l .before .before .before .before .before .before .before .before .args in
-    let inside : eventIn (a .class) (l .before .loop .m) < 2 * a .count = event-below (a .class) (l .before .loop .m) (a .count) (l .loop-test .taken) in
+    let l = c .before .before in
+    let a = l .before .before .before .before .before .before .before .args in
+    let inside : eventIn (a .class) (l .loop .m) < 2 * a .count = event-below (a .class) (l .loop .m) (a .count) (c .before .loop-test .taken) in
     search needs
 
-mul-at : tie.Need-mul-at Inv-loop μ-loop
-mul-at c = search needs
-
-element-copy-out-at : tie.Need-element-copy-out-at Inv-loop μ-loop
-element-copy-out-at c = search needs
+buffer-at-requires : tie.Need-buffer-at-requires Inv-loop μ-loop
+buffer-at-requires c κs = search needs
 
 fits-class-requires : tie.Need-fits-class-requires Inv-loop μ-loop
 fits-class-requires c κs = search needs
 
 returns : tie.Need-returns Inv-loop μ-loop
 returns c =
-    let b = c .before .before .before .before .before in
-    let l = b .before .before .before .before .before .before in
-    let a = l .before .before .before .before .before .before .before .args in
-    finds _ _ _ _ (a .t6) _ _ _ _ (a .t6 .done) (a .t6 .way) _ (l .loop .inv) (c .if2 .taken) (c .before .fits-class .ensures) refl refl
-    (own-buffer (a .t6) (a .boards .now) (a .class) (l .loop .m) _ _ (b .before .event-of .ensures) (b .board-of .ensures .0)) (search needs)
+    let f = c .before in
+    let b = f .before in
+    let d = b .before in
+    let i = d .before .before in
+    finds _ _ _ _ _ _ _ _ _ _ _ _ _ _ (i .before .loop .inv) (f .fits-class .ensures) (d .before .event-of .ensures) (d .board-of .ensures) (b .buffer-at .ensures) (i .loop-test .taken) (c .if1 .taken)
 
-add-m : tie.Need-add-m Inv-loop μ-loop
-add-m c = search needs
+add-if2 : tie.Need-add-if2 Inv-loop μ-loop
+add-if2 c = search needs
+
+returns-2 : tie.Need-returns-2 Inv-loop μ-loop
+returns-2 c =
+    let f = c .before .before in
+    let b = f .before in
+    let d = b .before in
+    let i = d .before .before in
+    finds-none-left _ _ _ _ _ _ _ _ _ _ _ _ _ _ (i .before .loop .inv) (f .fits-class .ensures) (d .before .event-of .ensures) (d .board-of .ensures) (b .buffer-at .ensures) (i .loop-test .taken) (c .before .if1 .left) (c .if2 .taken)
+
+slice-aggregate-next-in-2 : tie.Need-slice-aggregate-next-in-2 Inv-loop μ-loop
+slice-aggregate-next-in-2 c = search needs
+
+add-next-in : tie.Need-add-next-in Inv-loop μ-loop
+add-next-in c = search needs
+
+next-in-requires-2 : tie.Need-next-in-requires-2 Inv-loop μ-loop
+next-in-requires-2 c κs = search needs
 
 loop-less : tie.Need-loop-less Inv-loop μ-loop
 loop-less c = search needs
 
 loop-again : tie.Need-loop-again Inv-loop μ-loop
 loop-again c =
-    let b = c .before .before .before .before .before in
-    let l = b .before .before .before .before .before .before in
-    let a = l .before .before .before .before .before .before .before .args in
-    misses _ _ _ _ (a .t6) _ _ _ _ (a .t6 .done) (a .t6 .way) _ (l .loop .inv) (c .if2 .left) (c .before .fits-class .ensures) refl refl
-    (own-buffer (a .t6) (a .boards .now) (a .class) (l .loop .m) _ _ (b .before .event-of .ensures) (b .board-of .ensures .0)) (search needs)
+    let o = c .before .before .before in
+    let f = o .before in
+    let b = f .before in
+    let d = b .before in
+    let i = d .before .before in
+    let k = i .before .before .before .before in
+    goes-past _ _ _ _ _ _ _ _ _ _ _ _ _ _ (i .before .loop .inv) (f .fits-class .ensures) (d .before .event-of .ensures) (d .board-of .ensures) (b .buffer-at .ensures) (i .loop-test .taken) _ _ (o .if1 .left) (c .next-in2 .ensures)
+    (k .candidates .ensures) (k .before .before .before .before .pre .0 .few)
 
-add-m-2 : tie.Need-add-m-2 Inv-loop μ-loop
-add-m-2 c = search needs
-
-loop-less-2 : tie.Need-loop-less-2 Inv-loop μ-loop
-loop-less-2 c = search needs
-
-loop-again-2 : tie.Need-loop-again-2 Inv-loop μ-loop
-loop-again-2 c =
-    let l = c .before .before .before .before in
-    skips _ _ _ _ _ _ _ _ _ _ (l .loop .inv) (c .before .none-ahead .ensures) (l .before .candidates .ensures) (search needs) (search needs)
-
-returns-2 : tie.Need-returns-2 Inv-loop μ-loop
-returns-2 c = search finds-nothing
+returns-3 : tie.Need-returns-3 Inv-loop μ-loop
+returns-3 c = search finds-nothing
 
 pub lowest-spec : {M : Type 1} → statement M
 lowest-spec =
@@ -84,18 +92,19 @@ lowest-spec =
     Inv-loop
     μ-loop
     candidates-requires
+    slice-aggregate-next-in
+    next-in-requires
     loop-holds
-    none-ahead-requires
     event-of-requires
     board-of-requires
-    mul-at
-    element-copy-out-at
+    buffer-at-requires
     fits-class-requires
     returns
-    add-m
+    add-if2
+    returns-2
+    slice-aggregate-next-in-2
+    add-next-in
+    next-in-requires-2
     loop-less
     loop-again
-    add-m-2
-    loop-less-2
-    loop-again-2
-    returns-2)
+    returns-3)

@@ -14,7 +14,7 @@ use Rattle.model.specs.Order.{Event, sendOf, receiveOf, number, event, atOrBefo
 use Rattle.model.specs.Race.{RaceRule, byEvent, byOrigin, origin, escapes, isRace, races, lowestEvent, lowestMessage, lowestRace}
 use Rattle.model.specs.Bounded.{lowest}
 use Rattle.model.proofs.Events.{number-event, at-or-before-same}
-pub use Rattle.model.proofs.Events.{send-event, receive-event}
+use Rattle.model.proofs.Events.{send-event, receive-event}
 use Rattle.model.proofs.Bounded.{which, not-both, any-from, any-some, lowest-none, lowest-some, lowest-hit, lowest-miss}
 use Rattle.relation.specs.Width.{width}
 use Rattle.relation.specs.Rows.{holds}

@@ -20,7 +20,7 @@ use Rattle.relation.specs.Width.{width}
 use Rattle.relation.specs.Rows.{holds}
 use Rattle.relation.specs.Scenario.{scenarioIn}
 use Rattle.relation.proofs.Scenario.{before-at}
-use Rattle.race.proofs.Races.{send-event, receive-event}
+use Rattle.model.proofs.Events.{send-event, receive-event}
 use Rattle.channel.specs.declared.Buffer.{Buffer}
 use Rattle.channel.specs.declared.Channel.{Channel}
 use Rattle.channel.specs.declared.Run.{Run}

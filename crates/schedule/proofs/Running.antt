@@ -5,14 +5,14 @@ use mathlib.Core.List.{List, [], _∷_, _++_, append-assoc, append-nil}
 use mathlib.Core.Option.{Option, none, some}
 use Prim.Native.Nat.{ℕ, zero, suc, _+_, _*_, _-_, _<_, _≤_}
 use native.Mathlib.Omega.{arith}
-use native.Mathlib.Numerals.{add-one}
 use lib.ListN.{getD, length, take, drop, set, length-append, length-drop, length-set}
-use lib.Seq.{set-at, set-append-seam, drop-cons, drop-drop, append-snoc}
+use lib.Seq.{set-at, drop-drop, append-snoc}
 use Rattle.model.specs.Bounded.{lowest}
 use Rattle.model.specs.Order.{Scenario}
 use Rattle.model.specs.Channel.{Channel}
 use Rattle.model.specs.Run.{State, start, Step, send, deliver, consume, next, allowed}
 use Rattle.model.proofs.Bounded.{not-both, lowest-some}
+use Rattle.model.proofs.Phases.{phaseIn as kindOf, messageIn as messageOf}
 use Rattle.model.proofs.PointThree.{bytes-length}
 use Rattle.relation.specs.Scenario.{scenarioIn}
 use Rattle.channel.specs.declared.Channel as channel
@@ -28,17 +28,7 @@ use Rattle.schedule.specs.declared.Choice.the-variants as choice
 use Rattle.schedule.specs.Bridge.{classIn, foundIn, choiceIn, Below, fits, HeldIn, OfRuns, Lowest, stepIn, isNothing, kindIn, messageIn, Moved, Chosen, Scheduled}
 use Rattle.model.specs.Schedule.{Class, classesFor, choose, scheduleFrom, schedule, bytesOf}
 
--- the byte of a step's kind, and its message's
-abbrev pub kindOf : Step → ℕ
-kindOf (send m) = 0
-kindOf (deliver m) = 1
-kindOf (consume m) = 2
-
-abbrev pub messageOf : Step → ℕ
-messageOf (send m) = m
-messageOf (deliver m) = m
-messageOf (consume m) = m
-
+-- the bytes of one more step: its kind's, which is the phase that it ends, and its message's
 pub bytes-more : (ts : List Step) (t : Step) → bytesOf (ts ++ (t ∷ [])) ≡ bytesOf ts ++ (kindOf t ∷ messageOf t ∷ [])
 unfolding bytesOf
 bytes-more [] (send m) = refl

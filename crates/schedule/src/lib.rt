@@ -15,6 +15,7 @@ use channel::Buffer;
 use channel::Channel;
 use channel::Run;
 use relation::WIDTH;
+use relation::WORD_BITS;
 
 // The classes of steps, in the order in which they are tried.
 pub enum Class {
@@ -27,9 +28,6 @@ pub enum Class {
 }
 
 const CLASS_COUNT: usize = 6;
-
-// The bits of a word.
-const WORD_BITS: usize = 64;
 
 const CLASSES: [Class; CLASS_COUNT] = [
     Class::AnyConsume,

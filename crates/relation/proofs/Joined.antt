@@ -34,7 +34,7 @@ module _ (l : List ℕ) (a : ℕ) (other : List ℕ) (b : ℕ) where
   abbrev Gained : ℕ → ℕ → Type 0
   Gained n i = getD (gained n l a other b) (a + i) 0 ≡ bitOr (getD l (a + i) 0) (getD other (b + i) 0)
 
-  gained-at : (n i : ℕ) → i < n → a + n ≤ length l → Gained n i
+  pub gained-at : (n i : ℕ) → i < n → a + n ≤ length l → Gained n i
   unfolding gained
   gained-at zero i h room = absurd (omega arith)
   gained-at (suc n) i h room = go (ℕ-discrete i n) (λ h. gained-at n i h (omega arith))

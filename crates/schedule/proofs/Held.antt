@@ -7,12 +7,12 @@ use native.Mathlib.Nat.{zero-add, not-suc-le-zero, le-of-suc-le-suc}
 use native.Mathlib.Decide.{ℕ-discrete, decLt}
 use native.Mathlib.Omega.{arith}
 use lib.Bits.{bitOr}
-use lib.ListN.{length, getD, set, length-set, replicate, length-replicate}
-use lib.Seq.{getD-set-same, getD-set-other, ext-getD}
+use lib.ListN.{length, getD, replicate, length-replicate}
+use lib.Seq.{ext-getD}
 use Rattle.relation.specs.Width.{width, wordBits}
 use Rattle.relation.specs.Rows.{has, holds, gained, joinedFrom}
 use Rattle.relation.proofs.Bits.{has-zero}
-use Rattle.relation.proofs.Joined.{length-joined-from, joined-from-outside}
+use Rattle.relation.proofs.Joined.{gained-at, length-joined-from, joined-from-outside}
 use Rattle.channel.specs.declared.Buffer.{Buffer}
 use Rattle.channel.specs.declared.Run.{Run}
 use Rattle.channel.specs.Masks.{boardsMost}
@@ -20,29 +20,12 @@ use Rattle.channel.specs.State.{inRow, bufferOf}
 use Rattle.channel.proofs.Rows.{alone-row}
 use Rattle.schedule.specs.Bridge.{HeldIn}
 
--- the words of a row that gained those of another
-module _ (l other : List ℕ) (a b : ℕ) where
-  gained-long : (n : ℕ) → length (gained n l a other b) ≡ length l
-  unfolding gained
-  gained-long zero = refl
-  gained-long (suc n) = length-set (gained n l a other b) _ _ ∙ gained-long n
-
-  gained-word : (n i : ℕ) → i < n → a + n ≤ length l → getD (gained n l a other b) (a + i) 0 ≡ bitOr (getD l (a + i) 0) (getD other (b + i) 0)
-  unfolding gained
-  gained-word zero i h room = absurd (not-suc-le-zero h)
-  gained-word (suc n) i h room = go (ℕ-discrete i n) (λ g. gained-word n i g (omega arith))
-    where
-      go : Dec (i ≡ n) → (i < n → getD (gained n l a other b) (a + i) 0 ≡ bitOr (getD l (a + i) 0) (getD other (b + i) 0))
-          → getD (gained (suc n) l a other b) (a + i) 0 ≡ bitOr (getD l (a + i) 0) (getD other (b + i) 0)
-      go (yes e) earlier = rw e (getD-set-same (gained n l a other b) (a + n) _ 0 (omega (arith, gained-long n)))
-      go (no f) earlier = getD-set-other (gained n l a other b) (a + n) (a + i) _ 0 (λ e. f (omega arith)) ∙ earlier (omega arith)
-
 -- a row that was empty is the row it gains
 joined-word : (l : List ℕ) (to : ℕ) (other : List ℕ) (from i : ℕ) → to * width + width ≤ length l → i < width → getD l (to * width + i) 0 ≡ 0
     → getD (joinedFrom width l to other from) (to * width + i) 0 ≡ getD other (from * width + i) 0
 unfolding joinedFrom
 joined-word l to other from i room h z =
-    gained-word l other (to * width) (from * width) width i h room ∙ ap (λ (w : ℕ). bitOr w (getD other (from * width + i) 0)) z
+    gained-at l (to * width) other (from * width) width i h room ∙ ap (λ (w : ℕ). bitOr w (getD other (from * width + i) 0)) z
 
 beyond : {A : Type 0} (l : List A) (i : ℕ) (d : A) → length l ≤ i → getD l i d ≡ d
 beyond [] i d h = refl

@@ -1,16 +1,17 @@
 -- The buffers of a run in rows, a row a board: laid out row by row, and read back. Assumes nothing.
-use mathlib.Core.Path.{_≡_, refl, sym, ap, _∙_}
+use mathlib.Core.Path.{_≡_, sym, ap, _∙_}
 use mathlib.Core.Bool.{false}
-use mathlib.Core.List.{List, [], _∷_}
+use mathlib.Core.List.{List, []}
 use Prim.Native.Nat.{ℕ, zero, suc, _+_, _*_, _/_, _%_, _<_, _≤_}
-use native.Mathlib.Nat.{zero-add, not-suc-le-zero, le-of-suc-le-suc}
+use native.Mathlib.Nat.{zero-add, not-suc-le-zero}
 use native.Mathlib.Decide.{ℕ-discrete, decLt}
 use native.Mathlib.Omega.{arith}
 use lib.Bits.{bitOr}
-use lib.ListN.{length, getD, replicate, length-replicate}
+use lib.ListN.{length, getD, replicate, length-replicate, List·getD-eq-default}
 use lib.Seq.{ext-getD}
+use Rattle.model.proofs.Lists.{replicate-at}
 use Rattle.relation.specs.Width.{width, wordBits}
-use Rattle.relation.specs.Rows.{has, holds, gained, joinedFrom}
+use Rattle.relation.specs.Rows.{has, holds, joinedFrom}
 use Rattle.relation.proofs.Bits.{has-zero}
 use Rattle.relation.proofs.Joined.{gained-at, length-joined-from, joined-from-outside}
 use Rattle.channel.specs.declared.Buffer.{Buffer}
@@ -27,17 +28,6 @@ unfolding joinedFrom
 joined-word l to other from i room h z =
     gained-at l (to * width) other (from * width) width i h room ∙ ap (λ (w : ℕ). bitOr w (getD other (from * width + i) 0)) z
 
-beyond : {A : Type 0} (l : List A) (i : ℕ) (d : A) → length l ≤ i → getD l i d ≡ d
-beyond [] i d h = refl
-beyond (a ∷ l) zero d h = absurd (not-suc-le-zero h)
-beyond (a ∷ l) (suc i) d h = beyond l i d (le-of-suc-le-suc h)
-
--- the words of an empty row
-empty-word : (n i : ℕ) → _≡_ {A = ℕ} (getD (replicate n 0) i 0) 0
-empty-word zero i = refl
-empty-word (suc n) zero = refl
-empty-word (suc n) (suc i) = empty-word n i
-
 -- What the loop over the buffers keeps: those passed are laid out, and the other rows are empty.
 pub record Laid (run : Run) (rows : List ℕ) (b : ℕ) : Type 0 where
   pub long : (a : ℕ) → a < b → length (bufferOf run a .held) ≡ width
@@ -51,7 +41,7 @@ laid-start run =
     record {
       long = λ a h. absurd (not-suc-le-zero h);
       words = λ a i h l. absurd (not-suc-le-zero h);
-      empty = λ j h. empty-word (boardsMost * width) j;
+      empty = λ j h. replicate-at (boardsMost * width) j 0;
       room = length-replicate {A = ℕ} (boardsMost * width) 0;
       most = omega arith;
     }
@@ -92,7 +82,7 @@ read-back rows held board j l run p = ap (λ (w : List ℕ). record { held = w }
     long = ap length j ∙ length-joined-from width (replicate width 0) 0 rows board
 
     word : (i : ℕ) → i < width → getD held i 0 ≡ getD rows (board * width + i) 0
-    word i h = rw j (ap (λ (k : ℕ). getD (joinedFrom width (replicate width 0) 0 rows board) k 0) (sym (zero-add i)) ∙ joined-word (replicate width 0) 0 rows board i (omega arith) h (empty-word width (0 * width + i)))
+    word i h = rw j (ap (λ (k : ℕ). getD (joinedFrom width (replicate width 0) 0 rows board) k 0) (sym (zero-add i)) ∙ joined-word (replicate width 0) 0 rows board i (omega arith) h (replicate-at width (0 * width + i) 0))
 
     same : bufferOf run board .held ≡ held
     same =
@@ -112,4 +102,4 @@ in-no-buffer run rows k p h clear b = go (decLt b boardsMost)
     go (yes l) =
         alone-row width (bufferOf run b .held) k
         ∙ ap (λ (w : ℕ). has w (k % wordBits)) (sym (p .words b (k / wordBits) l (omega arith))) ∙ clear b l
-    go (no l) = rw (beyond (run .buffers) b (record { held = [] }) (omega (arith, p .boards))) nothing
+    go (no l) = rw (List·getD-eq-default (run .buffers) (record { held = [] }) {n = b} (omega (arith, p .boards))) nothing

@@ -1,13 +1,13 @@
--- `channel_check::check` meets its contract. Assumes nothing.
+-- `verdict::check` meets its contract. Assumes nothing.
 use borrow.Author.Needs.{needs}
 use native.Mathlib.Omega.{arith}
 use Prim.Native.Nat.{_*_}
 use lib.ListN.{length-take}
 use Rattle.model.specs.Limits.{messagesMost}
 use Rattle.relation.specs.Width.{width}
-use Rattle.channel_check.proofs.Whole.{refuses-channel, refuses-scratch, refuses-trace, answers}
-use Rattle.channel_check.proofs.check.Statement.{statement}
-use Rattle.channel_check.proofs.check.Tie as tie
+use Rattle.verdict.proofs.Whole.{refuses-channel, refuses-scratch, refuses-trace, answers}
+use Rattle.verdict.proofs.check.Statement.{statement}
+use Rattle.verdict.proofs.check.Tie as tie
 
 returns : tie.Need-returns
 returns c = search refuses-channel

@@ -1,8 +1,8 @@
--- `channel_check::decide` meets its contract. Assumes nothing.
+-- `verdict::decide` meets its contract. Assumes nothing.
 use borrow.Author.Needs.{needs}
-use Rattle.channel_check.proofs.Parts.{named, unnamed}
-use Rattle.channel_check.proofs.decide.Statement.{statement}
-use Rattle.channel_check.proofs.decide.Tie as tie
+use Rattle.verdict.proofs.Parts.{named, unnamed}
+use Rattle.verdict.proofs.decide.Statement.{statement}
+use Rattle.verdict.proofs.decide.Tie as tie
 
 rule-of-requires : tie.Need-rule-of-requires
 rule-of-requires c κs = search needs

@@ -17,14 +17,13 @@ use Rattle.model.specs.Channel.{channelOf}
 use Rattle.model.specs.Race.{raceRuleOf, lowestRace}
 use Rattle.model.specs.Schedule.{schedule}
 use Rattle.model.specs.Answer.{Answer, free, locked, refused, Numbers, refusedWord, sheetOf, acceptedOf, verdictOf, answerFor, answerOf, touchesNothing, numbersOf, scratchAfter, traceAfter}
-use Rattle.model.specs.Verdict.{PointThree}
+use Rattle.model.specs.Verdict.{PointThree, Checked}
+use Rattle.model.proofs.Accepted.{accepted-parts, sheet-meets}
 use Rattle.model.proofs.PointThree.{point-three}
 use Rattle.model.proofs.Lines.{Well, sheet-well}
 use Rattle.relation.specs.Rows.{cleared}
-use Rattle.channel_check.specs.declared.Answer as answer-type
-use Rattle.channel_check.specs.Contract.{Checked, numbersFor}
-use Rattle.channel_check.specs.Parts.{Small, Decides}
-use Rattle.channel_check.proofs.Small.{answer-small}
+use Rattle.verdict.specs.declared.Answer as answer-type
+use Rattle.verdict.specs.Parts.{numbersFor, Decides}
 
 -- What is answered, and left in the buffers, as the model says: then point 3 holds of it.
 pub checked-from : (text : List ℕ) (code : ℕ) (scratch scratchExit trace traceExit : List ℕ) (r : Numbers) (a : Answer)
@@ -35,6 +34,7 @@ checked-from text code scratch scratchExit trace traceExit r a e i s t =
       answer = i ∙ ap numbersOf (sym e);
       scratchLeft = s ∙ ap (λ b. scratchAfter b scratch) (sym e);
       traceLeft = t ∙ ap (λ b. traceAfter b trace) (sym e);
+      causalOrder = λ S h. sheet-meets text S (accepted-parts text code (length scratch) (length trace) S h .sheet);
       pointThree =
           subst⁻¹ (λ (n : Numbers). PointThree text code (length scratch) (length trace) n traceExit) (i ∙ ap numbersOf (sym e))
           (subst⁻¹ (λ (l : List ℕ). PointThree text code (length scratch) (length trace) (numbersOf (answerOf text code (length scratch) (length trace))) l)
@@ -114,14 +114,3 @@ module _ (text : List ℕ) (code : ℕ) (scratch trace : List ℕ) where
   answers scratchExit traceExit used n r h l k e m s d =
       checked-from text code scratch scratchExit trace traceExit (numbersFor r) (answerFor (sheetOf text) code)
       (by-sheet text code (length scratch) (length trace) h l k) (d .answer) (s ∙ scratch-left text code scratch used n e m) (d .traceLeft)
-
--- the numbers answered are small, and handing them on keeps the promise
-pub small-checked : (text : List ℕ) (code : ℕ) (scratch scratchExit trace traceExit : List ℕ) (r : Numbers)
-    → Checked text code scratch scratchExit trace traceExit r → Small r
-small-checked text code scratch scratchExit trace traceExit r h =
-    subst⁻¹ Small (h .answer) (answer-small text code (length scratch) (length trace))
-
-pub same-numbers : (text : List ℕ) (code : ℕ) (scratch scratchExit trace traceExit : List ℕ) (r q : Numbers)
-    → Checked text code scratch scratchExit trace traceExit r → q ≡ r → Checked text code scratch scratchExit trace traceExit q
-same-numbers text code scratch scratchExit trace traceExit r q h i =
-    subst⁻¹ (λ (n : Numbers). Checked text code scratch scratchExit trace traceExit n) i h

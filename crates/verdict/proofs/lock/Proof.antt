@@ -1,8 +1,9 @@
--- `channel_check::lock` meets its contract. Assumes nothing.
+-- `verdict::lock` meets its contract. Assumes nothing.
 use borrow.Author.Needs.{needs}
-use Rattle.channel_check.proofs.Parts.{race-below, locks}
-use Rattle.channel_check.proofs.lock.Statement.{statement}
-use Rattle.channel_check.proofs.lock.Tie as tie
+use Rattle.model.proofs.PointThree.{race-lowest}
+use Rattle.verdict.proofs.Parts.{locks}
+use Rattle.verdict.proofs.lock.Statement.{statement}
+use Rattle.verdict.proofs.lock.Tie as tie
 
 slice-aggregate-board-masks : tie.Need-slice-aggregate-board-masks
 slice-aggregate-board-masks c = search needs
@@ -26,7 +27,7 @@ schedule-requires c κs = (
     boardsBelow = c .before .before .before .before .before .before .before .before .before .pre .0 .boardsBelow;
     masksOf = c .before .before .before .before .board-masks .ensures;
   },
-  (race-below _ (c .before .before .before .before .before .before .before .before .before .args .code) _ _ (c .before .before .before .before .before .before .before .before .before .pre .1 .1) .0, search needs),
+  (race-lowest _ (c .before .before .before .before .before .before .before .before .before .args .code) _ _ (c .before .before .before .before .before .before .before .before .before .pre .1 .1) .inScenario .0, search needs),
 )
 
 same-length : tie.Need-same-length

@@ -1,14 +1,14 @@
--- `lock_steps::print_steps` is safe and ends. Assumes nothing.
-use borrow.Author.Needs.{needs}
+-- `report::print_steps` is safe and ends. Assumes nothing.
 use Prim.Native.Nat.{_≤_, _-_}
-use Rattle.lock_steps.proofs.print_steps.Statement.{statement}
-use Rattle.lock_steps.proofs.print_steps.Tie as tie
+use borrow.Author.Needs.{needs}
+use Rattle.report.proofs.print_steps.Statement.{statement}
+use Rattle.report.proofs.print_steps.Tie as tie
 
 abbrev Inv-loop : tie.InvT-loop
-Inv-loop trace steps i₀ i = i ≤ 384
+Inv-loop trace i₀ i-end i = i ≤ i-end
 
 abbrev μ-loop : tie.MeasureT-loop
-μ-loop trace steps i₀ i = 384 - i
+μ-loop trace i₀ i-end i = i-end - i
 
 loop-holds : tie.Need-loop-holds Inv-loop μ-loop
 loop-holds c = search needs
@@ -19,11 +19,11 @@ mul-at c = search needs
 add-behind : tie.Need-add-behind Inv-loop μ-loop
 add-behind c = search needs
 
-element-copy-out-print-step : tie.Need-element-copy-out-print-step Inv-loop μ-loop
-element-copy-out-print-step c = search needs
+shared-slice-read-print-step : tie.Need-shared-slice-read-print-step Inv-loop μ-loop
+shared-slice-read-print-step c = search needs
 
-element-copy-out-print-step-2 : tie.Need-element-copy-out-print-step-2 Inv-loop μ-loop
-element-copy-out-print-step-2 c = search needs
+shared-slice-read-print-step-2 : tie.Need-shared-slice-read-print-step-2 Inv-loop μ-loop
+shared-slice-read-print-step-2 c = search needs
 
 print-step-requires : tie.Need-print-step-requires Inv-loop μ-loop
 print-step-requires c κs = search needs
@@ -49,8 +49,8 @@ print-steps-spec =
     loop-holds
     mul-at
     add-behind
-    element-copy-out-print-step
-    element-copy-out-print-step-2
+    shared-slice-read-print-step
+    shared-slice-read-print-step-2
     print-step-requires
     add-i
     loop-less

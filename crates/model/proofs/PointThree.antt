@@ -28,6 +28,7 @@ use Rattle.model.proofs.Accepted.{accepted-parts, sheet-causal, sheet-c
 use Rattle.model.proofs.Phases.{view, view-start}
 use Rattle.model.proofs.Rules.{stuck-unfinished, stuck-forbids}
 use Rattle.model.proofs.Invariants.{inv-start}
+use Rattle.model.proofs.Trace.{bytes-length}
 use Rattle.model.proofs.Suited.{suited}
 use Rattle.model.proofs.Progress.{progress}
 use Rattle.model.proofs.Withholding.{schedule-order, schedule-stuck, course-start}
@@ -42,14 +43,6 @@ race-parts S r e x h =
     let b = S .before x (receiveOf e) in
     let both : (t && b) ≡ true = and-left (t && b) (escapes S r e x) h in
     (eqb-true (board S x) (S .target e) (and-left t b both), and-right t b both, and-right (t && b) (escapes S r e x) h)
-
--- the two bytes of each step
-pub bytes-length : (ts : List Step) → length (bytesOf ts) ≡ 2 * length ts
-unfolding bytesOf
-bytes-length [] = refl
-bytes-length (send m ∷ ts) = omega (arith, bytes-length ts)
-bytes-length (deliver m ∷ ts) = omega (arith, bytes-length ts)
-bytes-length (consume m ∷ ts) = omega (arith, bytes-length ts)
 
 never-escapes : (S : Scenario) (e : ℕ) (x : Event) → escapes S never e x ≡ false
 unfolding escapes

@@ -1,0 +1,43 @@
+-- From the code's run state to the model's. Assumes nothing.
+use mathlib.Core.Path.{_≡_}
+use mathlib.Core.Bool.{Bool, not, _&&_, _||_}
+use mathlib.Core.List.{List, []}
+use Prim.Native.Nat.{ℕ, _*_}
+use lib.Dec.{eqb}
+use lib.ListN.{getD}
+use Rattle.model.specs.Order.{number}
+use Rattle.model.specs.Run.{State, Step, next}
+use Rattle.relation.specs.Width.{width}
+use Rattle.relation.specs.Rows.{holds}
+use Rattle.relation.specs.Scenario.{scenarioIn}
+use Rattle.run.specs.declared.Buffer.{Buffer}
+use Rattle.run.specs.declared.Run.{Run}
+
+-- event k is in a row that stands by itself
+abbrev pub inRow : List ℕ → ℕ → Bool
+inRow row k = holds width row 0 k
+
+-- a row with event x besides, and one without it
+abbrev pub With : List ℕ → ℕ → List ℕ → Type 0
+With row x more = (k : ℕ) → inRow more k ≡ (inRow row k || eqb k x)
+
+abbrev pub Without : List ℕ → ℕ → List ℕ → Type 0
+Without row x rest = (k : ℕ) → inRow rest k ≡ (inRow row k && not (eqb k x))
+
+-- the buffer of board b; there is none beyond the last board
+abbrev pub bufferOf : Run → ℕ → Buffer
+bufferOf run b = getD (run .buffers) b (record { held = [] })
+
+-- a message under way, or in a buffer, is the bit of its send
+abbrev pub stateOf : Run → State
+stateOf run =
+    record {
+      done = λ x. inRow (run .done) (number x);
+      underWay = λ m. inRow (run .way) (2 * m);
+      holds = λ b m. inRow (bufferOf run b .held) (2 * m);
+    }
+
+-- the state behind a step, event k being on board `getD on k 0`, whatever else the scenario has
+abbrev pub Follows : List ℕ → Run → Step → Run → Type 0
+Follows on run step behind =
+    (count : ℕ) (words : List ℕ) → stateOf behind ≡ next (scenarioIn count on words) (stateOf run) step

@@ -1,7 +1,7 @@
 -- "Refusal table" and "Sheets to try": the answer for a text, a code and the lengths of the two buffers; what the
 -- buffers hold behind the call; and the word and three numbers of each answer. Assumes nothing.
 use Prim.Native.Nat.{ℕ, _*_}
-use mathlib.Core.Bool.{Bool, false, cond, _||_}
+use mathlib.Core.Bool.{cond, _||_}
 use mathlib.Core.List.{List, _++_}
 use mathlib.Core.Option.{none, some}
 use lib.Dec.{ltb, leb}
@@ -61,15 +61,15 @@ answerFor (refusal number line) code = refused number line
 unfoldable pub answerOf : List ℕ → ℕ → ℕ → ℕ → Answer
 answerOf text code scratchLength traceLength = answerFor (acceptedOf text code scratchLength traceLength) code
 
--- the refusals that touch neither buffer
-abbrev pub touchesNothing : Answer → Bool
-touchesNothing free = false
-touchesNothing (locked e x ts) = false
-touchesNothing (refused number line) = leb number benchRefusal
+-- the first 2,048 scratch words are zero and the rest are unchanged
+abbrev pub scratchCleared : List ℕ → List ℕ
+scratchCleared words = replicate scratchLeast 0 ++ drop scratchLeast words
 
--- behind every other call the first 2,048 scratch words are zero and the rest are unchanged
-unfoldable pub scratchAfter : Answer → List ℕ → List ℕ
-scratchAfter a words = cond (touchesNothing a) words (replicate scratchLeast 0 ++ drop scratchLeast words)
+-- The scratch behind a call that hands on the sheet or a refusal: refusals 1 and 2 do not touch it, and behind every other call it is
+-- cleared.
+unfoldable pub scratchBehind : {A : Type 0} → Out A → List ℕ → List ℕ
+scratchBehind (ok a) words = scratchCleared words
+scratchBehind (refusal number line) words = cond (leb number benchRefusal) words (scratchCleared words)
 
 -- the trace buffer changes only on "locked", in the bytes of the steps reported
 unfoldable pub traceAfter : Answer → List ℕ → List ℕ

@@ -12,7 +12,7 @@ use Rattle.model.specs.Channel.{channelOf}
 use Rattle.model.specs.Run.{Step, IsOrder, EndsStuck, EndsFinished, CanFinish}
 use Rattle.model.specs.Race.{raceRuleOf, isRace}
 use Rattle.model.specs.Schedule.{schedule, bytesOf}
-use Rattle.model.specs.Answer.{Numbers, freeWord, lockedWord, exchangeMet, acceptedOf, answerOf, numbersOf, scratchAfter, traceAfter}
+use Rattle.model.specs.Answer.{Numbers, freeWord, lockedWord, exchangeMet, acceptedOf, answerOf, numbersOf, scratchBehind, traceAfter}
 
 -- The scenario is what the walk of the text meets: its messages, their boards, and "before" exactly the paper's least transitive
 -- relation over them.
@@ -62,7 +62,7 @@ pub record Checked (text : List ℕ) (code : ℕ) (scratch scratchExit trace tra
   -- the answer is the paper's
   pub answer : r ≡ numbersOf (answerOf text code (length scratch) (length trace))
   -- refusals 1 and 2 touch neither buffer; behind every other call the first 2,048 scratch words are zero and the rest unchanged
-  pub scratchLeft : scratchExit ≡ scratchAfter (answerOf text code (length scratch) (length trace)) scratch
+  pub scratchLeft : scratchExit ≡ scratchBehind (acceptedOf text code (length scratch) (length trace)) scratch
   -- the trace changes only on locked, in the bytes of the steps counted
   pub traceLeft : traceExit ≡ traceAfter (answerOf text code (length scratch) (length trace)) trace
   -- an accepted sheet's scenario is what its walk meets, with "before" the paper's relation

@@ -1,116 +1,73 @@
 -- The whole promise, from what the parts of the check hand on. Assumes nothing.
-use mathlib.Core.Path.{_≡_, refl, sym, _∙_, ap, subst, subst⁻¹}
-use mathlib.Core.Bool.{true, false, or-true}
+use mathlib.Core.Path.{_≡_, refl, sym, _∙_, ap, subst⁻¹}
+use mathlib.Core.Bool.{or-true}
 use mathlib.Core.List.{List, _++_}
-use mathlib.Core.Option.{Option, none, some}
-use Prim.Native.Nat.{ℕ, _+_, _-_, _<_, _≤_}
+use Prim.Native.Nat.{ℕ, _<_, _≤_}
 use native.Mathlib.Omega.{arith}
-use borrow.Author.Tests.{lt-ltb, le-ltb, lt-leb}
-use lib.Dec.{ltb, leb}
-use lib.ListN.{length, drop, replicate}
-use lib.Seq.{drop-drop, drop-append-add}
-use Rattle.model.specs.Limits.{channels, scratchLeast, traceLeast, rowsMost}
-use Rattle.model.specs.Refusal.{Out, ok, refusal, channelRefusal, benchRefusal}
-use Rattle.model.specs.Place.{lineOf}
+use borrow.Author.Tests.{lt-ltb, le-ltb, le-leb}
+use lib.Dec.{ltb}
+use lib.ListN.{length, drop}
+use Rattle.model.specs.Limits.{channels, scratchLeast, traceLeast}
+use Rattle.model.specs.Refusal.{Out, refusal, channelRefusal, benchRefusal}
 use Rattle.model.specs.Order.{Scenario}
-use Rattle.model.specs.Channel.{channelOf}
-use Rattle.model.specs.Race.{raceRuleOf, lowestRace}
-use Rattle.model.specs.Schedule.{schedule}
-use Rattle.model.specs.Answer.{Answer, free, locked, refused, Numbers, refusedWord, sheetOf, acceptedOf, verdictOf, answerFor, answerOf, touchesNothing, numbersOf, scratchAfter, traceAfter}
+use Rattle.model.specs.Answer.{Numbers, refusedWord, sheetOf, acceptedOf, answerFor, answerOf, numbersOf, scratchBehind, traceAfter}
 use Rattle.model.specs.Verdict.{PointThree, Checked}
 use Rattle.model.proofs.Accepted.{accepted-parts, sheet-meets}
 use Rattle.model.proofs.PointThree.{point-three}
-use Rattle.model.proofs.Lines.{Well, sheet-well}
 use Rattle.relation.specs.Rows.{cleared}
-use Rattle.verdict.specs.declared.Answer as answer-type
+use Rattle.scenario.proofs.Laws.{scratch-behind}
+use Rattle.verdict.specs.declared.Answer.{Answer}
 use Rattle.verdict.specs.Parts.{numbersFor, Decides}
 
--- What is answered, and left in the buffers, as the model says: then point 3 holds of it.
-pub checked-from : (text : List ℕ) (code : ℕ) (scratch scratchExit trace traceExit : List ℕ) (r : Numbers) (a : Answer)
-    → answerOf text code (length scratch) (length trace) ≡ a → r ≡ numbersOf a → scratchExit ≡ scratchAfter a scratch
-    → traceExit ≡ traceAfter a trace → Checked text code scratch scratchExit trace traceExit r
-checked-from text code scratch scratchExit trace traceExit r a e i s t =
+-- What is answered, and left in the buffers, as the model says of the sheet accepted or refused: then point 3 holds of it.
+checked-from : (text : List ℕ) (code : ℕ) (scratch scratchExit trace traceExit : List ℕ) (r : Numbers) (o : Out Scenario)
+    → acceptedOf text code (length scratch) (length trace) ≡ o → r ≡ numbersOf (answerFor o code) → scratchExit ≡ scratchBehind o scratch
+    → traceExit ≡ traceAfter (answerFor o code) trace → Checked text code scratch scratchExit trace traceExit r
+unfolding answerOf
+checked-from text code scratch scratchExit trace traceExit r o e i s t =
+    let answered : r ≡ numbersOf (answerOf text code (length scratch) (length trace)) = i ∙ ap (λ p. numbersOf (answerFor p code)) (sym e) in
+    let written : traceExit ≡ traceAfter (answerOf text code (length scratch) (length trace)) trace =
+    t ∙ ap (λ p. traceAfter (answerFor p code) trace) (sym e) in
     record {
-      answer = i ∙ ap numbersOf (sym e);
-      scratchLeft = s ∙ ap (λ b. scratchAfter b scratch) (sym e);
-      traceLeft = t ∙ ap (λ b. traceAfter b trace) (sym e);
+      answer = answered;
+      scratchLeft = s ∙ ap (λ p. scratchBehind p scratch) (sym e);
+      traceLeft = written;
       causalOrder = λ S h. sheet-meets text S (accepted-parts text code (length scratch) (length trace) S h .sheet);
       pointThree =
-          subst⁻¹ (λ (n : Numbers). PointThree text code (length scratch) (length trace) n traceExit) (i ∙ ap numbersOf (sym e))
+          subst⁻¹ (λ (n : Numbers). PointThree text code (length scratch) (length trace) n traceExit) answered
           (subst⁻¹ (λ (l : List ℕ). PointThree text code (length scratch) (length trace) (numbersOf (answerOf text code (length scratch) (length trace))) l)
-          (t ∙ ap (λ b. traceAfter b trace) (sym e)) (point-three text code (length scratch) trace));
+          written (point-three text code (length scratch) trace));
     }
 
--- refusal 1: the code is above 5
-pub no-channel : (text : List ℕ) (code m n : ℕ) → channels ≤ code → answerOf text code m n ≡ refused channelRefusal 0
-unfolding answerOf answerFor acceptedOf
-no-channel text code m n h = rw (le-ltb code channels h)
-
--- refusal 2: a buffer is too short
-pub short-scratch : (text : List ℕ) (code m n : ℕ) → code < channels → m < scratchLeast → answerOf text code m n ≡ refused benchRefusal 0
-unfolding answerOf answerFor acceptedOf
-short-scratch text code m n h l = rw (lt-ltb code channels h, lt-ltb m scratchLeast l)
-
-pub short-trace : (text : List ℕ) (code m n : ℕ) → code < channels → n < traceLeast → answerOf text code m n ≡ refused benchRefusal 0
-unfolding answerOf answerFor acceptedOf
-short-trace text code m n h k = rw (lt-ltb code channels h, lt-ltb n traceLeast k, or-true (ltb m scratchLeast))
-
--- otherwise the sheet decides
-pub by-sheet : (text : List ℕ) (code m n : ℕ) → code < channels → scratchLeast ≤ m → traceLeast ≤ n → answerOf text code m n ≡ answerFor (sheetOf text) code
-unfolding answerOf acceptedOf
-by-sheet text code m n h l k = rw (lt-ltb code channels h, le-ltb m scratchLeast l, le-ltb n traceLeast k)
-
--- what the sheet decides touches the scratch
-touches : (text : List ℕ) (code : ℕ) → touchesNothing (answerFor (sheetOf text) code) ≡ false
-unfolding answerFor verdictOf
-touches text code = go (sheetOf text) (sheet-well text)
-  where
-    go : (o : Out Scenario) → Well (lineOf rowsMost) o → touchesNothing (answerFor o code) ≡ false
-    go (refusal number line) w = lt-leb number benchRefusal (w .behind)
-    go (ok S) w = by-race (lowestRace S (raceRuleOf code))
-      where
-        by-race : (o : Option (ℕ × ℕ))
-            → touchesNothing (elim o [ none ↦ free | some race ↦ locked (race .0) (race .1) (schedule S (channelOf code) (race .0)) ]) ≡ false
-        by-race none = refl
-        by-race (some race) = refl
-
--- the first words of the scratch were used and the rest not, and then the first 2,048 cleared
-pub scratch-left : (text : List ℕ) (code : ℕ) (scratch used : List ℕ) (n : ℕ) → length used ≡ n → n ≤ scratchLeast
-    → replicate scratchLeast 0 ++ drop scratchLeast (used ++ drop n scratch) ≡ scratchAfter (answerFor (sheetOf text) code) scratch
-unfolding scratchAfter
-scratch-left text code scratch used n e l =
-    let k = scratchLeast - n in
-    let at : length used + k ≡ scratchLeast = omega arith in
-    let back : n + k ≡ scratchLeast = omega arith in
-    let rest : drop scratchLeast (used ++ drop n scratch) ≡ drop scratchLeast scratch =
-    ap (λ j. drop j (used ++ drop n scratch)) (sym at) ∙ drop-append-add used (drop n scratch) k ∙ drop-drop k n scratch
-    ∙ ap (λ j. drop j scratch) back in
-    rw (touches text code, rest)
-
--- What each return of `check` is to show.
+-- What each return of `check` is to show: refusal 1 for a code above 5, refusal 2 for a short buffer, else what the sheet decides.
 module _ (text : List ℕ) (code : ℕ) (scratch trace : List ℕ) where
+  refuses : (number : ℕ) → number ≤ benchRefusal → acceptedOf text code (length scratch) (length trace) ≡ refusal number 0
+      → Checked text code scratch scratch trace trace (record { word = refusedWord; one = number; two = 0; three = 0 })
+  unfolding scratchBehind answerFor traceAfter
+  refuses number l e = checked-from text code scratch scratch trace trace _ (refusal number 0) e refl (rw (le-leb number benchRefusal l)) refl
+
   pub refuses-channel : channels ≤ code
       → Checked text code scratch scratch trace trace (record { word = refusedWord; one = channelRefusal; two = 0; three = 0 })
-  unfolding scratchAfter traceAfter
-  refuses-channel h =
-      checked-from text code scratch scratch trace trace _ (refused channelRefusal 0) (no-channel text code (length scratch) (length trace) h) refl refl refl
+  unfolding acceptedOf
+  refuses-channel h = refuses channelRefusal (omega arith) (rw (le-ltb code channels h))
 
   pub refuses-scratch : code < channels → length scratch < scratchLeast
       → Checked text code scratch scratch trace trace (record { word = refusedWord; one = benchRefusal; two = 0; three = 0 })
-  unfolding scratchAfter traceAfter
-  refuses-scratch h l =
-      checked-from text code scratch scratch trace trace _ (refused benchRefusal 0) (short-scratch text code (length scratch) (length trace) h l) refl refl refl
+  unfolding acceptedOf
+  refuses-scratch h l = refuses benchRefusal (omega arith) (rw (lt-ltb code channels h, lt-ltb (length scratch) scratchLeast l))
 
   pub refuses-trace : code < channels → length trace < traceLeast
       → Checked text code scratch scratch trace trace (record { word = refusedWord; one = benchRefusal; two = 0; three = 0 })
-  unfolding scratchAfter traceAfter
+  unfolding acceptedOf
   refuses-trace h l =
-      checked-from text code scratch scratch trace trace _ (refused benchRefusal 0) (short-trace text code (length scratch) (length trace) h l) refl refl refl
+      refuses benchRefusal (omega arith)
+      (rw (lt-ltb code channels h, lt-ltb (length trace) traceLeast l, or-true (ltb (length scratch) scratchLeast)))
 
-  pub answers : (scratchExit traceExit used : List ℕ) (n : ℕ) (r : answer-type.Answer) → code < channels → scratchLeast ≤ length scratch → traceLeast ≤ length trace
+  pub answers : (scratchExit traceExit used : List ℕ) (n : ℕ) (r : Answer) → code < channels → scratchLeast ≤ length scratch → traceLeast ≤ length trace
       → length used ≡ n → n ≤ scratchLeast → scratchExit ≡ cleared scratchLeast (used ++ drop n scratch) → Decides (sheetOf text) code trace traceExit r
       → Checked text code scratch scratchExit trace traceExit (numbersFor r)
-  unfolding cleared
+  unfolding acceptedOf
   answers scratchExit traceExit used n r h l k e m s d =
-      checked-from text code scratch scratchExit trace traceExit (numbersFor r) (answerFor (sheetOf text) code)
-      (by-sheet text code (length scratch) (length trace) h l k) (d .answer) (s ∙ scratch-left text code scratch used n e m) (d .traceLeft)
+      checked-from text code scratch scratchExit trace traceExit (numbersFor r) (sheetOf text)
+      (rw (lt-ltb code channels h, le-ltb (length scratch) scratchLeast l, le-ltb (length trace) traceLeast k))
+      (d .answer) (s ∙ scratch-behind text scratch used n e m) (d .traceLeft)

@@ -1,7 +1,7 @@
 -- The trace's bytes: two a step, and what they tell. Assumes nothing.
-use Prim.Native.Nat.{ℕ, _*_}
+use Prim.Native.Nat.{ℕ, zero, suc, _*_}
 use native.Mathlib.Omega.{arith}
-use mathlib.Core.Path.{_≡_, refl, ap}
+use mathlib.Core.Path.{_≡_, refl, sym, ap}
 use mathlib.Core.List.{List, [], _∷_, _++_}
 use mathlib.Core.Option.{some}
 use lib.ListN.{length}
@@ -24,3 +24,10 @@ pub told-back : (t : Step) → stepTold (kindOf t) (messageOfStep t) ≡ some t
 told-back (send m) = refl
 told-back (deliver m) = refl
 told-back (consume m) = refl
+
+-- and the bytes that tell a step are its own
+pub told-is : (kind m : ℕ) (t : Step) → stepTold kind m ≡ some t → (kindOf t ≡ kind) × (messageOfStep t ≡ m)
+told-is zero m t e = let i : send m ≡ t = cc in (ap kindOf (sym i), ap messageOfStep (sym i))
+told-is (suc zero) m t e = let i : deliver m ≡ t = cc in (ap kindOf (sym i), ap messageOfStep (sym i))
+told-is (suc (suc zero)) m t e = let i : consume m ≡ t = cc in (ap kindOf (sym i), ap messageOfStep (sym i))
+told-is (suc (suc (suc kind))) m t e = let z : _≡_ {A = ℕ} 0 1 = cc in absurd (omega arith)

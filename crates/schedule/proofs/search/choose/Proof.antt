@@ -1,9 +1,9 @@
--- `schedule::choose` meets its contract: the classes before k have no allowed step. Assumes nothing.
+-- `schedule::search::choose` meets its contract. Assumes nothing.
 use borrow.Author.Needs.{needs}
 use Prim.Native.Nat.{_-_}
-use Rattle.schedule.proofs.Running.{Tried, tried-none, tried-more, chooses, chooses-nothing}
-use Rattle.schedule.proofs.choose.Statement.{statement}
-use Rattle.schedule.proofs.choose.Tie as tie
+use Rattle.schedule.proofs.Searching.{Tried, tried-none, tried-more, chooses, chooses-nothing}
+use Rattle.schedule.proofs.search.choose.Statement.{statement}
+use Rattle.schedule.proofs.search.choose.Tie as tie
 
 abbrev Inv-loop : tie.InvT-loop
 Inv-loop words masks boards count c e done way rows k₀ k = Tried count boards words c done way rows e k
@@ -17,23 +17,20 @@ held-rows-requires c κs = search needs
 loop-holds : tie.Need-loop-holds Inv-loop μ-loop
 loop-holds c = search tried-none
 
-array-copy-out-class : tie.Need-array-copy-out-class Inv-loop μ-loop
-array-copy-out-class c = search needs
+class-at-requires : tie.Need-class-at-requires Inv-loop μ-loop
+class-at-requires c κs = search needs
 
 lowest-requires : tie.Need-lowest-requires Inv-loop μ-loop
 lowest-requires c κs = search needs
 
-enum-known-found : tie.Need-enum-known-found Inv-loop μ-loop
-enum-known-found c = search needs
-
-step-of-requires : tie.Need-step-of-requires Inv-loop μ-loop
-step-of-requires c κs = search needs
+enum-told : tie.Need-enum-told Inv-loop μ-loop
+enum-told c = search needs
 
 returns : tie.Need-returns Inv-loop μ-loop
 returns c = search chooses
 
-enum-told : tie.Need-enum-told Inv-loop μ-loop
-enum-told c = search needs
+enum-told-2 : tie.Need-enum-told-2 Inv-loop μ-loop
+enum-told-2 c = search needs
 
 add-k : tie.Need-add-k Inv-loop μ-loop
 add-k c = search needs
@@ -55,12 +52,11 @@ choose-spec =
     μ-loop
     held-rows-requires
     loop-holds
-    array-copy-out-class
+    class-at-requires
     lowest-requires
-    enum-known-found
-    step-of-requires
-    returns
     enum-told
+    returns
+    enum-told-2
     add-k
     loop-less
     loop-again

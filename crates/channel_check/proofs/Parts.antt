@@ -26,12 +26,12 @@ use Rattle.expansion.specs.declared.Expanded.{Expanded}
 use Rattle.expansion.specs.declared.Expanded.the-variants as expanded
 use Rattle.expansion.specs.Outcome as expands
 use Rattle.expansion.specs.Lent.{AreRead, RowsRead}
-use Rattle.channel.specs.Masks.{BoardsBelow}
+use Rattle.board.specs.Boards.{BoardsBelow}
 use Rattle.race.specs.declared.Rule.{Rule}
 use Rattle.race.specs.declared.Lowest.{Lowest}
 use Rattle.race.specs.declared.Lowest.the-variants as lowest
 use Rattle.race.specs.Bridge.{ruleIn, raceIn}
-use Rattle.schedule.specs.Bridge.{Scheduled}
+use Rattle.schedule.specs.Schedule.{Scheduled}
 use Rattle.channel_check.specs.declared.Answer.{Answer}
 use Rattle.channel_check.specs.declared.Answer.the-variants.{Free, Locked, Refused}
 use Rattle.channel_check.specs.Contract.{numbersFor}

@@ -10,7 +10,7 @@ use Rattle.model.specs.Order.{Scenario}
 use Rattle.model.specs.Race.{raceRuleOf, lowestRace}
 use Rattle.model.specs.Answer.{Numbers, answerFor, numbersOf, traceAfter}
 use Rattle.relation.specs.Width.{width}
-use Rattle.channel.specs.Masks.{BoardsBelow}
+use Rattle.board.specs.Boards.{BoardsBelow}
 use Rattle.channel_check.specs.declared.Answer.{Answer}
 use Rattle.channel_check.specs.Contract.{numbersFor}
 

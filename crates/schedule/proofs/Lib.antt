@@ -1,4 +1,2 @@
-pub mod Classes
-pub mod Held
+pub mod Searching
 pub mod Running
-pub mod Skipped

@@ -18,7 +18,7 @@ use Rattle.race.specs.declared.Rule.{Rule}
 use Rattle.race.specs.declared.Lowest.{Lowest}
 use Rattle.race.specs.declared.Lowest.the-variants as lowest
 use Rattle.race.specs.Bridge.{ruleIn, raceIn}
-use Rattle.schedule.specs.Bridge.{Scheduled}
+use Rattle.schedule.specs.Schedule.{Scheduled}
 use Rattle.verdict.specs.declared.Answer.{Answer}
 use Rattle.verdict.specs.declared.Answer.the-variants.{Free, Locked, Refused}
 use Rattle.verdict.specs.Parts.{IsRace, Decides}

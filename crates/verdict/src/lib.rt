@@ -35,9 +35,9 @@ fn lock(
     requires { ⌜ IsRace (scenarioIn count (now boards) (now words)) code e x ⌝ }
     ensures { λ r. ⌜ Decides (ok (scenarioIn count (now (boards .entry)) (now (words .entry)))) code (now (trace .entry)) (now (trace .exit)) r ⌝ }
 {
-    let mut masks = [0u64; channel::MASK_WORDS];
-    channel::board_masks(boards, count, &mut masks);
-    let c = channel::channel_of(code);
+    let mut masks = [0u64; board::MASK_WORDS];
+    board::board_masks(boards, count, &mut masks);
+    let c = channel_table::channel_of(code);
     let steps = schedule::schedule(words, &masks, boards, count, c, e, trace);
     Answer::Locked(e, x, steps)
 }

@@ -1,0 +1,2 @@
+mod AtEnd
+mod Going

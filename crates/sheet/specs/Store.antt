@@ -1,63 +1,50 @@
 -- What each function of the reader does with the columns, the table and the boards, as the twins say it.
 -- Assumes nothing.
-use Prim.Native.Nat.{ℕ, zero, suc, _+_, _*_, _≤_, _<_}
+use Prim.Native.Nat.{ℕ, zero, suc, _*_, _≤_, _<_}
 use Prim.Native.Char.{code}
 use mathlib.Core.Path.{_≡_}
 use mathlib.Core.Bool.{Bool, not, cond, _&&_}
-use mathlib.Core.List.{List, []}
+use mathlib.Core.List.{List}
 use mathlib.Core.Option.{Option, none, some}
 use lib.Dec.{eqb}
 use lib.ListN.{length, getD, drop}
-use Rattle.model.specs.Limits.{rowsMost, messagesMost}
+use Rattle.model.specs.Limits.{sheets, rowsMost, messagesMost}
 use Rattle.model.specs.Refusal.{Out, ok, refusal, andThen, absentRefusal}
 use Rattle.model.specs.Text.{Columns, linesOf}
 use Rattle.model.specs.Rows.{Row}
 use Rattle.model.specs.Place.{lineOf}
-use Rattle.sheet.specs.Bridge.{rowFrom, rowsOf, outcomeOf, startsOf, Store, Sized, KeptOn}
-use Rattle.sheet.specs.Scan.{firstLine}
-use Rattle.sheet.specs.Fields.{Onward}
-use Rattle.sheet.specs.Stand.{Stand, isOpen, standOf, judgedBy, Kept, readFrom, fresh, completed}
-use Rattle.sheet.specs.declared.rows.Position.{Position}
+use Rattle.fields.specs.Scan.{firstLine}
+use Rattle.fields.specs.Fields.{Onward}
+use Rattle.row.specs.Form.{rowFrom}
+use Rattle.place.specs.Stand.{Stand, isOpen, standOf}
+use Rattle.sheet.specs.Bridge.{outcomeOf, startsOf, Store, KeptOn}
+use Rattle.sheet.specs.Reading.{judgedBy, readFrom, fresh, completed}
 use Rattle.sheet.specs.declared.rows.Step.{Step}
-use Rattle.sheet.specs.declared.rows.Step.the-variants.{Next, Refused}
+use Rattle.sheet.specs.declared.rows.Step.the-variants as step
 use Rattle.sheet.specs.declared.Verdict.{Verdict}
 use Rattle.sheet.specs.declared.Verdict.the-variants as verdict
 
-abbrev pub rowsIn : Store → ℕ → List Row
-rowsIn s count = rowsOf (s .kind) (s .one) (s .two) count
+-- one row read, or refused
+abbrev pub stepAs : Step → ℕ → List ℕ → List ℕ → Out (Row × Stand)
+stepAs (step.Row kind one two next messages) row starts boards = ok (rowFrom kind one two, standOf starts boards messages)
+stepAs (step.Refused number) row starts boards = refusal number (lineOf row)
 
--- one row read and stored, or refused
-abbrev pub stepAs : Step → ℕ → Store → List ℕ → Out (Row × Stand)
-stepAs (Next next) row s boards =
-    ok (rowFrom (getD (s .kind) row 0) (getD (s .one) row 0) (getD (s .two) row 0), standOf (s .start) boards (next .messages))
-stepAs (Refused number) row s boards = refusal number (lineOf row)
-
--- where a row was stored, the next one begins behind it, and all is as long as it was
-pub record Stepped (text : List ℕ) (here next : Position) (s : Store) (boards : List ℕ) : Type 0 where
-  pub onward : Onward text (here .at) (next .at)
-  pub row : next .row ≡ here .row + 1
-  pub room : here .row < rowsMost
-  pub few : next .messages ≤ messagesMost
-  pub sized : Sized s
+-- where a row was read, the next one begins behind it, and the table and the boards have kept their lengths
+pub record Stepped (text : List ℕ) (at row next messages : ℕ) (starts boards : List ℕ) : Type 0 where
+  pub onward : Onward text at next
+  pub room : row < rowsMost
+  pub few : messages ≤ messagesMost
+  pub allStarts : length starts ≡ sheets
   pub allBoards : length boards ≡ 2 * messagesMost
 
-abbrev pub StepOn : List ℕ → Position → Store → List ℕ → Step → Type 0
-StepOn text here s boards (Next next) = Stepped text here next s boards
-StepOn text here s boards (Refused number) = Unit {0}
+abbrev pub StepOn : List ℕ → ℕ → ℕ → List ℕ → List ℕ → Step → Type 0
+StepOn text at row starts boards (step.Row kind one two next messages) = Stepped text at row next messages starts boards
+StepOn text at row starts boards (step.Refused number) = Unit {0}
 
-pub record StepAs (c : Columns) (text : List ℕ) (here : Position) (s s′ : Store) (boards boards′ : List ℕ) (r : Step) : Type 0 where
-  pub step : stepAs r (here .row) s′ boards′ ≡ judgedBy c (here .row) (standOf (s .start) boards (here .messages)) (firstLine (drop (here .at) text))
-  pub rows : rowsIn s′ (here .row) ≡ rowsIn s (here .row)
-  pub on : StepOn text here s′ boards′ r
-
--- all rows read and stored, or one refused
-abbrev pub keptOf : Verdict → Store → Out Kept
-keptOf (verdict.Rows count) s = ok (record { rows = rowsIn s count; starts = s .start })
-keptOf (verdict.Refused number line) s = refusal number line
-
-pub record RowsAs (c : Columns) (text : List ℕ) (first : ℕ) (s s′ : Store) (v : Verdict) : Type 0 where
-  pub kept : keptOf v s′ ≡ readFrom c 0 (record { starts = s .start; events = [] }) (linesOf (drop first text))
-  pub on : KeptOn s′ v
+-- the row with a number, at a position, judged from where the reader stands
+pub record StepAs (c : Columns) (text : List ℕ) (at row : ℕ) (s : Stand) (starts boards : List ℕ) (r : Step) : Type 0 where
+  pub step : stepAs r row starts boards ≡ judgedBy c row s (firstLine (drop at text))
+  pub on : StepOn text at row starts boards r
 
 -- a row of the given kind and number calls a sheet that has no start
 unfoldable pub isStray : ℕ → ℕ → List ℕ → Bool

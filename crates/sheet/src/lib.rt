@@ -1,16 +1,9 @@
 // The reader of sheet files: any bytes in; the rows, or refusal 3 to 7 with its line, out.
-mod fields;
-mod heading;
-mod limits;
-mod place;
 mod rows;
 
-use crate::heading::Heading;
-use crate::limits::HEADING;
-use crate::limits::LENGTH;
-use crate::limits::ROWS_MOST;
-use crate::limits::SHEETS;
-use crate::limits::TEXT_MOST;
+use heading::Heading;
+use model::ROWS_MOST;
+use model::SHEETS;
 ghost use Rattle.sheet.specs.Bridge.{ReadAs};
 
 // So many rows; or the refusal's number and line.
@@ -30,14 +23,14 @@ pub fn read(
     ensures { λ r. ⌜ ReadAs (now (text .entry)) (now (kind .exit)) (now (one .exit)) (now (two .exit)) (now (start .exit)) r ⌝ }
 {
     if text.len() == 0 {
-        return Verdict::Refused(LENGTH, 0);
+        return Verdict::Refused(model::LENGTH, 0);
     }
-    if TEXT_MOST < text.len() {
-        return Verdict::Refused(LENGTH, 0);
+    if model::TEXT_MOST < text.len() {
+        return Verdict::Refused(model::LENGTH, 0);
     }
     let h = heading::heading_of(text);
     match h {
-        Heading::Unnamed => Verdict::Refused(HEADING, 1),
-        Heading::Named(columns, first) => rows::body(text, first, columns, kind, one, two, start),
+        Heading::Unnamed => Verdict::Refused(model::HEADING, 1),
+        Heading::Named(columns, first) => rows::rows(text, first, columns, kind, one, two, start),
     }
 }

@@ -1,144 +1,53 @@
 // The rows, one by one: form (refusal 5) ahead of place (refusal 6); then the sheets that are absent (refusal 7).
 use crate::Verdict;
-use crate::fields;
-use crate::fields::Cuts;
-use crate::fields::Number;
-use crate::fields::Split;
-use crate::heading::Columns;
-use crate::limits::ABSENT;
-use crate::limits::EVENTS_MOST;
-use crate::limits::PLACE;
-use crate::limits::ROW;
-use crate::limits::ROWS_MOST;
-use crate::limits::SHEETS;
-use crate::place;
-use crate::place::Placed;
+use heading::Columns;
+use model::EVENTS_MOST;
+use model::ROWS_MOST;
+use model::SHEETS;
+use place::Placed;
+use row::Reading;
 ghost use mathlib.Core.Path.{_≡_};
-ghost use mathlib.Core.Bool.{cond};
-ghost use mathlib.Core.Option.{none, some};
 ghost use Prim.Native.Nat.{_*_, _≤_, _<_};
 ghost use lib.ListN.{length, getD};
 ghost use Rattle.model.specs.Limits.{sheets, rowsMost, messagesMost};
-ghost use Rattle.model.specs.Rows.{formed};
-ghost use Rattle.sheet.specs.Bridge.{rowFrom, storeOf, Sized};
-ghost use Rattle.sheet.specs.Fields.{Cut, Below, columnsFrom, RowAs, RowIn};
-ghost use Rattle.sheet.specs.Store.{StepAs, RowsAs, isStray, completeIn, BodyAs};
+ghost use Rattle.heading.specs.Names.{Below, columnsFrom};
+ghost use Rattle.place.specs.Stand.{standOf};
+ghost use Rattle.sheet.specs.Bridge.{storeOf};
+ghost use Rattle.sheet.specs.Store.{StepAs, isStray, completeIn, BodyAs};
 
-// A row's kind and numbers, and where the next one begins.
-enum Reading {
-    Row(u8, u8, u8, usize),
-    Malformed,
-}
-
-// Where the reader is: the row's place in the text and its number, and the messages of the open block.
-struct Position {
-    pub at: usize,
-    pub row: usize,
-    pub messages: usize,
-}
-
-// The position behind a row; or the refusal's number.
+// A row's kind and numbers, where the next one begins, and the messages of the open block behind it; or the refusal's number.
 enum Step {
-    Next(Position),
+    Row(u8, u8, u8, usize, usize),
     Refused(u8),
 }
 
-// The row at `at`.
-fn row_at(text: &[u8], at: usize, columns: Columns) -> Reading
-    requires { ⌜ (at ≤ length (now text)) × Below columns ⌝ }
-    ensures { λ r. ⌜ RowAs (columnsFrom columns) (now (text .entry)) at r ⌝ }
-{
-    let s = fields::cut(text, at);
-    match s {
-        Split::Other => Reading::Malformed,
-        Split::Three(cuts) => row_of(text, cuts, columns),
-    }
-}
-
-// The row of three fields: a letter and two numbers, as the heading orders them.
-fn row_of(text: &[u8], cuts: Cuts, columns: Columns) -> Reading
-    requires { ⌜ Cut (now text) cuts × Below columns ⌝ }
-    ensures { λ r. ⌜ RowIn (columnsFrom columns) (now (text .entry)) cuts r ⌝ }
-{
-    let letter = fields::field(cuts, columns.kind);
-    let from = letter.from;
-    if letter.to - from != 1 {
-        return Reading::Malformed;
-    }
-    let kind = text[from];
-    let Number::Is(one) = fields::number_in(text, fields::field(cuts, columns.one)) else {
-        return Reading::Malformed;
-    };
-    let Number::Is(two) = fields::number_in(text, fields::field(cuts, columns.two)) else {
-        return Reading::Malformed;
-    };
-    if is_formed(kind, one, two) {
-        return Reading::Row(kind, one, two, cuts.end + 1);
-    }
-    Reading::Malformed
-}
-
-// The letter is one of the five, and an unused field is 0.
-fn is_formed(kind: u8, one: u8, two: u8) -> bool
-    ensures { λ r. ⌜ cond r (some (rowFrom kind one two)) none ≡ formed kind one two ⌝ }
-{
-    if kind == b'M' {
-        return true;
-    }
-    if kind == b'P' {
-        return true;
-    }
-    if two != 0 {
-        return false;
-    }
-    if kind == b'S' {
-        return true;
-    }
-    if kind == b'C' {
-        return true;
-    }
-    if kind == b'B' {
-        return one == 0;
-    }
-    false
-}
-
-// Reads the row that the reader is at, and stores it.
+// The row with the number `row`, from 0, which begins at `at`, in a block of so many messages.
 fn take_row(
     text: &[u8],
-    here: Position,
+    at: usize,
+    row: usize,
+    messages: usize,
     columns: Columns,
-    kind: &mut [u8; ROWS_MOST],
-    one: &mut [u8; ROWS_MOST],
-    two: &mut [u8; ROWS_MOST],
     start: &mut [u16; SHEETS],
     boards: &mut [u8; EVENTS_MOST],
 ) -> Step
-    requires { ⌜ (here .at ≤ length (now text)) × Below columns × (here .messages ≤ messagesMost) × Sized (storeOf (now kind) (now one) (now two) (now start)) × (length (now boards) ≡ 2 * messagesMost) ⌝ }
-    ensures { λ r. ⌜ StepAs (columnsFrom columns) (now (text .entry)) here (storeOf (now (kind .entry)) (now (one .entry)) (now (two .entry)) (now (start .entry))) (storeOf (now (kind .exit)) (now (one .exit)) (now (two .exit)) (now (start .exit))) (now (boards .entry)) (now (boards .exit)) r ⌝ }
+    requires { ⌜ (at ≤ length (now text)) × Below columns × (messages ≤ messagesMost) × (length (now start) ≡ sheets) × (length (now boards) ≡ 2 * messagesMost) ⌝ }
+    ensures { λ r. ⌜ StepAs (columnsFrom columns) (now (text .entry)) at row (standOf (now (start .entry)) (now (boards .entry)) messages) (now (start .exit)) (now (boards .exit)) r ⌝ }
 {
-    let row = here.row;
     if ROWS_MOST <= row {
-        return Step::Refused(ROW);
+        return Step::Refused(model::ROW);
     }
-    let Reading::Row(k, a, b, at) = row_at(text, here.at, columns) else {
-        return Step::Refused(ROW);
+    let Reading::Row(kind, one, two, next) = row::row_at(text, at, columns) else {
+        return Step::Refused(model::ROW);
     };
-    let Placed::Messages(messages) = place::place(row, k, a, b, here.messages, start, boards) else {
-        return Step::Refused(PLACE);
+    let Placed::Messages(after) = place::place(row, kind, one, two, messages, start, boards) else {
+        return Step::Refused(model::PLACE);
     };
-    kind[row] = k;
-    one[row] = a;
-    two[row] = b;
-    Step::Next(Position {
-        at,
-        row: row + 1,
-        messages,
-    })
+    Step::Row(kind, one, two, next, after)
 }
 
-// All rows from `first` on.
-fn rows(
+// All rows from `first` on, which is behind the heading.
+pub fn rows(
     text: &[u8],
     first: usize,
     columns: Columns,
@@ -147,27 +56,34 @@ fn rows(
     two: &mut [u8; ROWS_MOST],
     start: &mut [u16; SHEETS],
 ) -> Verdict
-    requires { ⌜ (first ≤ length (now text)) × Below columns × Sized (storeOf (now kind) (now one) (now two) (now start)) ⌝ }
-    ensures { λ r. ⌜ RowsAs (columnsFrom columns) (now (text .entry)) first (storeOf (now (kind .entry)) (now (one .entry)) (now (two .entry)) (now (start .entry))) (storeOf (now (kind .exit)) (now (one .exit)) (now (two .exit)) (now (start .exit))) r ⌝ }
+    requires { ⌜ (first ≤ length (now text)) × Below columns ⌝ }
+    ensures { λ r. ⌜ BodyAs (columnsFrom columns) (now (text .entry)) first (storeOf (now (kind .exit)) (now (one .exit)) (now (two .exit)) (now (start .exit))) r ⌝ }
 {
+    *kind = [0u8; ROWS_MOST];
+    *one = [0u8; ROWS_MOST];
+    *two = [0u8; ROWS_MOST];
+    *start = [0u16; SHEETS];
     let mut boards = [0u8; EVENTS_MOST];
-    let mut here = Position {
-        at: first,
-        row: 0,
-        messages: 0,
-    };
-    while here.at < text.len() {
-        let s = take_row(text, here, columns, kind, one, two, start, &mut boards);
+    let mut at = first;
+    let mut row = 0;
+    let mut messages = 0;
+    while at < text.len() {
+        let s = take_row(text, at, row, messages, columns, start, &mut boards);
         match s {
             Step::Refused(number) => {
-                return Verdict::Refused(number, here.row + 2);
+                return Verdict::Refused(number, row + 2);
             }
-            Step::Next(next) => {
-                here = next;
+            Step::Row(k, a, b, next, after) => {
+                kind[row] = k;
+                one[row] = a;
+                two[row] = b;
+                at = next;
+                row += 1;
+                messages = after;
             }
         }
     }
-    Verdict::Rows(here.row)
+    complete(row, kind, one, start)
 }
 
 // Row i calls a sheet that is not there.
@@ -193,38 +109,14 @@ fn complete(
     ensures { λ r. ⌜ r ≡ completeIn (now (kind .entry)) (now (one .entry)) (now (start .entry)) count ⌝ }
 {
     if !place::is_open(start, 0) {
-        return Verdict::Refused(ABSENT, 0);
+        return Verdict::Refused(model::ABSENT, 0);
     }
     let mut i = 0;
     while i < count {
         if is_stray(kind, one, start, i) {
-            return Verdict::Refused(ABSENT, i + 2);
+            return Verdict::Refused(model::ABSENT, i + 2);
         }
         i += 1;
     }
     Verdict::Rows(count)
-}
-
-// The rows behind the heading, which ends ahead of `first`.
-pub fn body(
-    text: &[u8],
-    first: usize,
-    columns: Columns,
-    kind: &mut [u8; ROWS_MOST],
-    one: &mut [u8; ROWS_MOST],
-    two: &mut [u8; ROWS_MOST],
-    start: &mut [u16; SHEETS],
-) -> Verdict
-    requires { ⌜ (first ≤ length (now text)) × Below columns ⌝ }
-    ensures { λ r. ⌜ BodyAs (columnsFrom columns) (now (text .entry)) first (storeOf (now (kind .exit)) (now (one .exit)) (now (two .exit)) (now (start .exit))) r ⌝ }
-{
-    *kind = [0u8; ROWS_MOST];
-    *one = [0u8; ROWS_MOST];
-    *two = [0u8; ROWS_MOST];
-    *start = [0u16; SHEETS];
-    let v = rows(text, first, columns, kind, one, two, start);
-    match v {
-        Verdict::Refused(number, line) => Verdict::Refused(number, line),
-        Verdict::Rows(count) => complete(count, kind, one, start),
-    }
 }

@@ -19,8 +19,8 @@ enum-told c = search needs
 enum-known-h : tie.Need-enum-known-h
 enum-known-h c = search needs
 
-body-requires : tie.Need-body-requires
-body-requires c κs = search (first-inside, first-below)
+rows-requires : tie.Need-rows-requires
+rows-requires c κs = search (first-inside, first-below)
 
 returns-3 : tie.Need-returns-3
 returns-3 c = search read-unnamed
@@ -37,6 +37,6 @@ read-spec =
     heading-of-requires
     enum-told
     enum-known-h
-    body-requires
+    rows-requires
     returns-3
     returns-4)

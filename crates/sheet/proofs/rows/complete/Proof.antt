@@ -1,7 +1,7 @@
 -- `rows::complete` meets its contract. The loop's invariant: no call up to row `i` is stray. Assumes nothing.
 use borrow.Author.Needs.{needs}
 use Prim.Native.Nat.{_-_}
-use Rattle.sheet.proofs.Storing.{Searching, search-zero, search-begin, search-more, search-found, search-none}
+use Rattle.sheet.proofs.Body.{Searching, search-zero, search-begin, search-more, search-found, search-none}
 use Rattle.sheet.proofs.rows.complete.Statement.{statement}
 use Rattle.sheet.proofs.rows.complete.Tie as tie
 

@@ -1,5 +1,5 @@
 -- `rows::is_stray` meets its contract. Assumes nothing.
-use Rattle.sheet.proofs.Storing.{stray-call, stray-other}
+use Rattle.sheet.proofs.Body.{stray-call, stray-other}
 use borrow.Author.Needs.{needs}
 use Rattle.sheet.proofs.rows.is_stray.Statement.{statement}
 use Rattle.sheet.proofs.rows.is_stray.Tie as tie

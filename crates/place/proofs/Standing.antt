@@ -14,8 +14,8 @@ use Rattle.model.specs.Limits.{sheets, boards, messagesMost}
 use Rattle.model.specs.Rows.{Row, sheet, message, order, block, call}
 use Rattle.model.specs.Place.{withMessage, messageFits, orderFits, isSheet}
 use Rattle.place.specs.Stand.{isOpen, mayOpen, movedTo, stoodAt, standOf, placedFor, placedAs, FewMessages, PlaceAs}
-use Rattle.row.specs.Form.{rowFrom}
-use Rattle.row.proofs.Forms.{row-sheet, row-message, row-order, row-call, row-block}
+use Rattle.place.specs.Letters.{rowFrom}
+use Rattle.place.proofs.Letters.{row-sheet, row-message, row-order, row-call, row-block}
 use Rattle.place.specs.declared.Placed.{Placed}
 use Rattle.place.specs.declared.Placed.the-variants.{Messages, Nowhere}
 

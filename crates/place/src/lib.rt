@@ -8,8 +8,8 @@ ghost use Prim.Native.Nat.{_+_, _*_, _≤_, _<_};
 ghost use lib.ListN.{length, take, set};
 ghost use Rattle.model.specs.Limits.{sheets, rowsMost, messagesMost};
 ghost use Rattle.model.specs.Place.{messageFits, orderFits};
-ghost use Rattle.row.specs.Form.{rowFrom};
-ghost use Rattle.place.specs.Stand.{isOpen, mayOpen, standOf, placedFor, PlaceAs};
+ghost use Rattle.place.specs.Letters.{rowFrom};
+ghost use Rattle.place.specs.Stand.{mayOpen, standOf, placedFor, PlaceAs};
 
 // Boards are 0 to 15, in the type of a field.
 const BOARDS: u8 = model::BOARDS as u8;
@@ -18,15 +18,6 @@ const BOARDS: u8 = model::BOARDS as u8;
 pub enum Placed {
     Messages(usize),
     Nowhere,
-}
-
-// Sheet n is there.
-pub fn is_open(start: &[u16; SHEETS], n: u8) -> bool
-    requires { ⌜ length (now start) ≡ sheets ⌝ }
-    ensures { λ r. ⌜ r ≡ isOpen (now (start .entry)) n ⌝ }
-{
-    let k = n as usize;
-    if k < SHEETS { start[k] != 0 } else { false }
 }
 
 // `S n`, as row `row`: sheets 0 to 31, each at most once.

@@ -13,7 +13,7 @@ use borrow.Author.Tests.{ne-eqb, not-true, not-false}
 use lib.Dec.{T, eqb, leb}
 use lib.ListN.{length, drop, getD}
 use Rattle.model.specs.Text.{numberOf}
-use Rattle.model.specs.Rows.{sheet, message, order, block, call, formed, fromFields, rowOf}
+use Rattle.model.specs.Rows.{block, formed, fromFields, rowOf}
 use Rattle.fields.specs.Scan.{firstLine, letterOf}
 use Rattle.fields.specs.Fields.{fieldsIn, SplitAs, numberFrom}
 use Rattle.fields.specs.declared.Cuts.{Cuts}
@@ -24,29 +24,9 @@ use Rattle.fields.specs.declared.Number.the-variants.{Is, Bad}
 use Rattle.fields.proofs.Lines.{cut-known, line-ended, line-fields, line-other, onward}
 use Rattle.heading.specs.Names.{columnsFrom}
 use Rattle.heading.specs.declared.Columns.{Columns}
-use Rattle.row.specs.Form.{rowFrom, RowAs}
+use Rattle.place.specs.Letters.{rowFrom}
+use Rattle.row.specs.Form.{RowAs}
 use Rattle.row.specs.declared.Reading.the-variants.{Row, Malformed}
-
--- the rows by their letters
-pub row-sheet : (k a b : ℕ) → k ≡ code "S" → rowFrom k a b ≡ sheet a
-unfolding rowFrom
-row-sheet k a b e = rw e
-
-pub row-message : (k a b : ℕ) → k ≡ code "M" → rowFrom k a b ≡ message a b
-unfolding rowFrom
-row-message k a b e = rw e
-
-pub row-order : (k a b : ℕ) → k ≡ code "P" → rowFrom k a b ≡ order a b
-unfolding rowFrom
-row-order k a b e = rw e
-
-pub row-call : (k a b : ℕ) → k ≡ code "C" → rowFrom k a b ≡ call a
-unfolding rowFrom
-row-call k a b e = rw e
-
-pub row-block : (k a b : ℕ) → (k ≡ code "S" → ⊥) → (k ≡ code "M" → ⊥) → (k ≡ code "P" → ⊥) → (k ≡ code "C" → ⊥) → rowFrom k a b ≡ block
-unfolding rowFrom
-row-block k a b e f g h = rw (ne-eqb k (code "S") e, ne-eqb k (code "M") f, ne-eqb k (code "P") g, ne-eqb k (code "C") h)
 
 -- each way through the tests of the letter
 pub form-message : (k a b : ℕ) → k ≡ code "M" → cond true (some (rowFrom k a b)) none ≡ formed k a b

@@ -1,26 +1,16 @@
--- The reader's rows, as the model's. Assumes nothing.
+-- The row at a position of the text, as the model's. Assumes nothing.
 use Prim.Native.Nat.{ℕ}
-use Prim.Native.Char.{code}
 use mathlib.Core.Path.{_≡_}
-use mathlib.Core.Bool.{cond}
 use mathlib.Core.List.{List}
 use mathlib.Core.Option.{Option, none, some}
-use lib.Dec.{eqb}
 use lib.ListN.{drop}
 use Rattle.model.specs.Text.{Columns}
-use Rattle.model.specs.Rows.{Row, sheet, message, order, block, call, rowOf}
+use Rattle.model.specs.Rows.{Row, rowOf}
 use Rattle.fields.specs.Scan.{firstLine}
 use Rattle.fields.specs.Fields.{Onward}
+use Rattle.place.specs.Letters.{rowFrom}
 use Rattle.row.specs.declared.Reading.{Reading}
 use Rattle.row.specs.declared.Reading.the-variants as reading
-
--- the row of a kind, given by its letter, and two numbers; with no other letter it is a B row
-unfoldable pub rowFrom : ℕ → ℕ → ℕ → Row
-rowFrom kind one two =
-    cond (eqb kind (code "S")) (sheet one)
-    (cond (eqb kind (code "M")) (message one two)
-    (cond (eqb kind (code "P")) (order one two)
-    (cond (eqb kind (code "C")) (call one) block)))
 
 abbrev pub readingFrom : Reading → Option Row
 readingFrom (reading.Row kind one two next) = some (rowFrom kind one two)

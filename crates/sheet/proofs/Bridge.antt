@@ -10,7 +10,7 @@ use Rattle.model.specs.Refusal.{ok, refusal}
 use Rattle.model.specs.Rows.{Row}
 use Rattle.model.specs.Place.{readOf}
 use Rattle.model.proofs.Closure.{cells-at}
-pub use Rattle.row.proofs.Forms.{row-sheet, row-message, row-order, row-call, row-block}
+pub use Rattle.place.proofs.Letters.{row-sheet, row-message, row-order, row-call, row-block}
 use Rattle.sheet.specs.Bridge.{rowsAt, rowsOf, startIn, startsOf, outcomeOf, storeOf, Sized, KeptOn, ReadAs}
 use Rattle.sheet.specs.declared.Verdict.{Verdict}
 use Rattle.sheet.specs.declared.Verdict.the-variants.{Rows, Refused}

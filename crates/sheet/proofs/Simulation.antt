@@ -22,8 +22,9 @@ use Rattle.model.proofs.Lists.{replicate-at}
 use Rattle.model.proofs.Closure.{cells-length}
 use Rattle.sheet.specs.Bridge.{startIn, startsOf}
 use Rattle.sheet.proofs.Bridge.{start-at}
+use Rattle.row.specs.Judged.{judgedBy}
 use Rattle.place.specs.Stand.{Stand, isOpen, mayOpen, movedTo, stoodAt}
-use Rattle.sheet.specs.Reading.{judgedBy, Kept, aheadOf, readFrom, fresh, strayFrom, completed}
+use Rattle.sheet.specs.Reading.{Kept, aheadOf, readFrom, fresh, strayFrom, completed}
 
 -- a sheet has a start exactly when it is among those opened
 abbrev Agree : List ℕ → List ℕ → Type 0

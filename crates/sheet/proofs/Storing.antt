@@ -4,32 +4,23 @@ use native.Mathlib.Nat.{add-zero, zero-add}
 use native.Mathlib.Numerals.{add-one}
 use native.Mathlib.Omega.{arith}
 use mathlib.Core.Path.{_≡_, refl, sym, _∙_, ap, subst}
-use mathlib.Core.Bool.{Bool, true, false}
 use mathlib.Core.List.{List, [], _∷_, _++_}
-use mathlib.Core.Option.{none, some}
-use borrow.Author.Tests.{lt-ltb, le-ltb}
-use lib.Dec.{ltb}
 use lib.ListN.{length, getD, drop, set, replicate, length-set, length-replicate, drop-of-length-le}
 use lib.Seq.{getD-set-same, getD-set-other}
 use Rattle.model.specs.Limits.{sheets, rowsMost, messagesMost}
-use Rattle.model.specs.Refusal.{Out, ok, refusal, rowRefusal, placeRefusal}
+use Rattle.model.specs.Refusal.{Out, ok, refusal}
 use Rattle.model.specs.Text.{Line, Columns, linesOf}
-use Rattle.model.specs.Rows.{Row, rowOf}
+use Rattle.model.specs.Rows.{Row}
 use Rattle.model.specs.Place.{lineOf}
 use Rattle.fields.specs.Scan.{firstLine, behindLine}
-use Rattle.fields.specs.Fields.{Onward}
 use Rattle.fields.proofs.Lines.{lines-at}
-use Rattle.row.specs.Form.{readingFrom, RowAs}
-use Rattle.row.specs.declared.Reading.{Reading}
-use Rattle.row.specs.declared.Reading.the-variants as reading
-use Rattle.place.specs.Stand.{Stand, standOf, stoodAt, placedAs, PlaceAs}
-use Rattle.place.specs.declared.Placed.{Placed}
-use Rattle.place.specs.declared.Placed.the-variants.{Messages, Nowhere}
+use Rattle.row.specs.Judged.{judgedBy, StepAs}
+use Rattle.row.specs.declared.Step.{Step}
+use Rattle.row.specs.declared.Step.the-variants as step
+use Rattle.place.specs.Stand.{Stand, standOf}
 use Rattle.sheet.specs.Bridge.{rowFrom, rowsAt, rowsOf, storeOf, Sized}
-use Rattle.sheet.specs.Reading.{judgedBy, Kept, aheadOf, readFrom, fresh}
-use Rattle.sheet.specs.Store.{StepAs, completeIn, BodyAs}
-use Rattle.sheet.specs.declared.rows.Step.{Step}
-use Rattle.sheet.specs.declared.rows.Step.the-variants as step
+use Rattle.sheet.specs.Reading.{Kept, aheadOf, readFrom, fresh}
+use Rattle.sheet.specs.Store.{completeIn, BodyAs}
 use Rattle.sheet.specs.declared.Verdict.{Verdict}
 use Rattle.sheet.specs.declared.Verdict.the-variants as verdict
 use Rattle.sheet.proofs.Body.{body-refused, body-complete}
@@ -56,63 +47,6 @@ rows-snoc kind one two i (suc n) =
     ap (λ (l : List Row). rowFrom (getD kind i 0) (getD one i 0) (getD two i 0) ∷ l)
     (rows-snoc kind one two (suc i) n
     ∙ ap (λ (j : ℕ). rowsAt kind one two (suc i) n ++ (rowFrom (getD kind j 0) (getD one j 0) (getD two j 0) ∷ [])) e)
-
--- a row judged: too many, malformed, with no place, and with one
-module _ (c : Columns) (i : ℕ) (s : Stand) (l : Line) where
-  judged-full : rowsMost ≤ i → judgedBy c i s l ≡ refusal rowRefusal (lineOf i)
-  unfolding judgedBy
-  judged-full h = rw (le-ltb i rowsMost h, judgedBy)
-
-  judged-malformed : rowOf c l ≡ none → judgedBy c i s l ≡ refusal rowRefusal (lineOf i)
-  unfolding judgedBy
-  judged-malformed e = go (ltb i rowsMost) refl
-    where
-      go : (t : Bool) → ltb i rowsMost ≡ t → judgedBy c i s l ≡ refusal rowRefusal (lineOf i)
-      go true h = rw (h, e, judgedBy)
-      go false h = rw (h, judgedBy)
-
-  judged-nowhere : (r : Row) → i < rowsMost → rowOf c l ≡ some r → stoodAt i s r ≡ none → judgedBy c i s l ≡ refusal placeRefusal (lineOf i)
-  unfolding judgedBy
-  judged-nowhere r h e f = rw (lt-ltb i rowsMost h, e, f, judgedBy)
-
-  judged-placed : (r : Row) (q : Stand) → i < rowsMost → rowOf c l ≡ some r → stoodAt i s r ≡ some q → judgedBy c i s l ≡ ok (r, q)
-  unfolding judgedBy
-  judged-placed r q h e f = rw (lt-ltb i rowsMost h, e, f, judgedBy)
-
-module _ (c : Columns) (text : List ℕ) (at row : ℕ) (start boards : List ℕ) (messages : ℕ) where
-  abbrev stand : Stand
-  stand = standOf start boards messages
-
-  abbrev line : Line
-  line = firstLine (drop at text)
-
-  pub step-full : rowsMost ≤ row → StepAs c text at row stand start boards (step.Refused rowRefusal)
-  step-full h = record { step = sym (judged-full c row stand line h); on = tt }
-
-  pub step-malformed : (r : Reading) → RowAs c text at r → r ≡ reading.Malformed → StepAs c text at row stand start boards (step.Refused rowRefusal)
-  step-malformed r p e = record { step = sym (judged-malformed c row stand line (sym (p .row) ∙ ap readingFrom e)); on = tt }
-
-  module _ (r : Reading) (k a b next : ℕ) (p : RowAs c text at r) (e : r ≡ reading.Row k a b next) (h : row < rowsMost)
-      (q : Placed) (start′ boards′ : List ℕ) (f : PlaceAs row stand (rowFrom k a b) start′ boards′ q) where
-    row-is : rowOf c line ≡ some (rowFrom k a b)
-    row-is = sym (p .row) ∙ ap readingFrom e
-
-    pub step-nowhere : q ≡ Nowhere → StepAs c text at row stand start′ boards′ (step.Refused placeRefusal)
-    step-nowhere g =
-        record {
-          step = sym (judged-nowhere c row stand line (rowFrom k a b) h row-is (sym (f .stand) ∙ ap (λ (x : Placed). placedAs x start′ boards′) g));
-          on = tt;
-        }
-
-    pub step-row : (after : ℕ) → q ≡ Messages after → StepAs c text at row stand start′ boards′ (step.Row k a b next after)
-    step-row after g =
-        let p′ : RowAs c text at (reading.Row k a b next) = subst (λ (x : Reading). RowAs c text at x) e p in
-        let f′ : PlaceAs row stand (rowFrom k a b) start′ boards′ (Messages after) =
-        subst (λ (x : Placed). PlaceAs row stand (rowFrom k a b) start′ boards′ x) g f in
-        record {
-          step = sym (judged-placed c row stand line (rowFrom k a b) (standOf start′ boards′ after) h row-is (sym (f′ .stand)));
-          on = record { onward = p′ .next; room = h; few = f′ .few; allStarts = f′ .allStarts; allBoards = f′ .allBoards };
-        }
 
 -- rows ahead of what is still to be read
 pub aheadAll : List Row → Out Kept → Out Kept

@@ -4,22 +4,14 @@ use Prim.Native.Nat.{ℕ, suc}
 use mathlib.Core.Bool.{cond}
 use mathlib.Core.List.{List, [], _∷_}
 use mathlib.Core.Option.{Option, none, some}
-use lib.Dec.{ltb}
 use lib.ListN.{replicate}
-use Rattle.model.specs.Limits.{sheets, rowsMost}
-use Rattle.model.specs.Refusal.{Out, ok, refusal, rowRefusal, placeRefusal, absentRefusal}
+use Rattle.model.specs.Limits.{sheets}
+use Rattle.model.specs.Refusal.{Out, ok, refusal, absentRefusal}
 use Rattle.model.specs.Text.{Line, Columns}
-use Rattle.model.specs.Rows.{Row, sheet, message, order, block, call, rowOf}
+use Rattle.model.specs.Rows.{Row, sheet, message, order, block, call}
 use Rattle.model.specs.Place.{lineOf}
-use Rattle.place.specs.Stand.{Stand, isOpen, stoodAt}
-
--- a row and where the reader stands behind it, unless its form (5) or else its place (6) is refused
-unfoldable pub judgedBy : Columns → ℕ → Stand → Line → Out (Row × Stand)
-judgedBy c i s l =
-    elim (cond (ltb i rowsMost) (rowOf c l) none) [
-      | none ↦ refusal rowRefusal (lineOf i)
-      | some r ↦ elim (stoodAt i s r) [ none ↦ refusal placeRefusal (lineOf i) | some q ↦ ok (r, q) ]
-    ]
+use Rattle.place.specs.Stand.{Stand, isOpen}
+use Rattle.row.specs.Judged.{judgedBy}
 
 -- the rows read, and the table of starts behind them
 pub record Kept : Type 0 where

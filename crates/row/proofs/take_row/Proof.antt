@@ -1,9 +1,9 @@
--- `rows::take_row` meets its contract. Assumes nothing.
-use Rattle.sheet.proofs.Storing.{step-full, step-malformed, step-nowhere, step-row}
+-- `take_row` meets its contract. Assumes nothing.
+use Rattle.row.proofs.Judging.{step-full, step-malformed, step-nowhere, step-row}
 use native.Mathlib.Omega.{arith}
 use borrow.Author.Needs.{needs}
-use Rattle.sheet.proofs.rows.take_row.Statement.{statement}
-use Rattle.sheet.proofs.rows.take_row.Tie as tie
+use Rattle.row.proofs.take_row.Statement.{statement}
+use Rattle.row.proofs.take_row.Tie as tie
 
 returns : tie.Need-returns
 returns c = search step-full

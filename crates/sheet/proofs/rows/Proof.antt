@@ -1,11 +1,11 @@
--- `rows::rows` meets its contract. The loop's invariant: what is read of the rows so far, and where the reader stands. Assumes nothing.
+-- `rows` meets its contract. The loop's invariant: what is read of the rows so far, and where the reader stands. Assumes nothing.
 use borrow.Author.Needs.{needs}
 use Prim.Native.Nat.{_-_}
 use lib.ListN.{length}
 use Rattle.heading.specs.Names.{columnsFrom}
 use Rattle.sheet.proofs.Storing.{Looping, loop-begin, loop-refused, loop-room, loop-further, loop-more, loop-done}
-use Rattle.sheet.proofs.rows.rows.Statement.{statement}
-use Rattle.sheet.proofs.rows.rows.Tie as tie
+use Rattle.sheet.proofs.rows.Statement.{statement}
+use Rattle.sheet.proofs.rows.Tie as tie
 
 abbrev Inv-loop : tie.InvT-loop
 Inv-loop text first columns kind₀ one₀ two₀ start₀ boards₀ at₀ row₀ messages₀ kind one two start boards at row messages =

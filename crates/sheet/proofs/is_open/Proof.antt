@@ -1,9 +1,9 @@
 -- `is_open` meets its contract. Assumes nothing.
 use Rattle.place.specs.Stand.{isOpen}
 use Rattle.place.proofs.Standing.{open-beyond}
 use borrow.Author.Needs.{needs}
-use Rattle.place.proofs.is_open.Statement.{statement}
-use Rattle.place.proofs.is_open.Tie as tie
+use Rattle.sheet.proofs.is_open.Statement.{statement}
+use Rattle.sheet.proofs.is_open.Tie as tie
 
 mul-result : tie.Need-mul-result
 mul-result c = search needs

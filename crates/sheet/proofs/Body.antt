@@ -12,17 +12,18 @@ use borrow.Author.Tests.{ne-eqb, eqb-true, not-true, not-false}
 use lib.Dec.{eqb}
 use lib.ListN.{getD, drop}
 use Rattle.model.specs.Limits.{rowsMost}
+use Rattle.model.specs.Bounded.{among}
 use Rattle.model.specs.Refusal.{Out, ok, refusal, andThen, absentRefusal}
-use Rattle.model.specs.Text.{Columns, linesOf}
+use Rattle.model.specs.Text.{Line, Columns, linesOf}
 use Rattle.model.specs.Rows.{Row}
-use Rattle.model.specs.Place.{lineOf}
+use Rattle.model.specs.Place.{outside, lineOf, rowsFrom, opens, strayCall, complete}
 use Rattle.place.specs.Stand.{isOpen}
 use Rattle.sheet.specs.Bridge.{rowFrom, rowsAt, rowsOf, outcomeOf, startsOf, storeOf, Sized, KeptOn}
-use Rattle.sheet.specs.Reading.{Kept, readFrom, fresh, strayFrom, completed}
+use Rattle.sheet.specs.Reading.{readFrom, fresh}
 use Rattle.sheet.specs.Store.{isStray, strayIn, verdictOn, completeIn, BodyAs}
 use Rattle.sheet.specs.declared.Verdict.{Verdict}
 use Rattle.sheet.specs.declared.Verdict.the-variants.{Rows, Refused}
-use Rattle.sheet.proofs.Simulation.{starts-same}
+use Rattle.sheet.proofs.Simulation.{rows-refused, rows-read, starts-same, open-same}
 
 -- calls of sheets that are not there
 pub stray-call : (k n : ℕ) (starts : List ℕ) (r : Bool) → r ≡ isOpen starts n → k ≡ code "C" → not r ≡ isStray k n starts
@@ -71,35 +72,38 @@ search-none kind one starts count i v h =
     let s : strayIn kind one starts 0 count ≡ none = v .same ∙ rw e in
     rw (v .zero, s)
 
--- a stray call by its columns, and by its row
-stray-row : (starts : List ℕ) (k a b i : ℕ) (rs : List Row)
-    → strayFrom starts i (rowFrom k a b ∷ rs) ≡ cond (isStray k a starts) (some (lineOf i)) (strayFrom starts (suc i) rs)
-unfolding strayFrom rowFrom isStray
-stray-row starts k a b i rs = go (eqb k (code "S")) (eqb k (code "M")) (eqb k (code "P")) (eqb k (code "C")) refl refl refl refl
-  where
-    called : (t : Bool) → cond t (strayFrom starts (suc i) rs) (some (lineOf i)) ≡ cond (not t) (some (lineOf i)) (strayFrom starts (suc i) rs)
-    called true = refl
-    called false = refl
+-- Calls by the columns, and by the rows: a sheet has a start exactly when it is present.
+module _ (starts present : List ℕ) (agree : (n : ℕ) → isOpen starts n ≡ among n present) where
+  stray-row : (k a b i : ℕ) (rs : List Row)
+      → strayCall present i (rowFrom k a b ∷ rs) ≡ cond (isStray k a starts) (some (lineOf i)) (strayCall present (suc i) rs)
+  unfolding strayCall rowFrom isStray
+  stray-row k a b i rs = go (eqb k (code "S")) (eqb k (code "M")) (eqb k (code "P")) (eqb k (code "C")) refl refl refl refl
+    where
+      called : (t : Bool) → cond t (strayCall present (suc i) rs) (some (lineOf i)) ≡ cond (not t) (some (lineOf i)) (strayCall present (suc i) rs)
+      called true = refl
+      called false = refl
 
-    go : (s m p c : Bool) → eqb k (code "S") ≡ s → eqb k (code "M") ≡ m → eqb k (code "P") ≡ p → eqb k (code "C") ≡ c
-        → strayFrom starts i (rowFrom k a b ∷ rs) ≡ cond (isStray k a starts) (some (lineOf i)) (strayFrom starts (suc i) rs)
-    go true m p c e f g h = rw (eqb-true k (code "S") e)
-    go false true p c e f g h = rw (eqb-true k (code "M") f)
-    go false false true c e f g h = rw (eqb-true k (code "P") g)
-    go false false false true e f g h = rw (eqb-true k (code "C") h) (called (isOpen starts a))
-    go false false false false e f g h = rw (e, f, g, h)
+      go : (s m p c : Bool) → eqb k (code "S") ≡ s → eqb k (code "M") ≡ m → eqb k (code "P") ≡ p → eqb k (code "C") ≡ c
+          → strayCall present i (rowFrom k a b ∷ rs) ≡ cond (isStray k a starts) (some (lineOf i)) (strayCall present (suc i) rs)
+      go true m p c e f g h = rw (eqb-true k (code "S") e)
+      go false true p c e f g h = rw (eqb-true k (code "M") f)
+      go false false true c e f g h = rw (eqb-true k (code "P") g)
+      go false false false true e f g h = rw (eqb-true k (code "C") h, agree a) (called (among a present))
+      go false false false false e f g h = rw (e, f, g, h)
 
-stray-in : (kind one two starts : List ℕ) (n i : ℕ) → strayIn kind one starts i n ≡ strayFrom starts i (rowsAt kind one two i n)
-unfolding strayIn strayFrom rowsAt
-stray-in kind one two starts zero i = refl
-stray-in kind one two starts (suc n) i =
-    rw (stray-in kind one two starts n (suc i)) (sym (stray-row starts (getD kind i 0) (getD one i 0) (getD two i 0) i (rowsAt kind one two (suc i) n)))
+  stray-in : (kind one two : List ℕ) (n i : ℕ) → strayIn kind one starts i n ≡ strayCall present i (rowsAt kind one two i n)
+  unfolding strayIn strayCall rowsAt
+  stray-in kind one two zero i = refl
+  stray-in kind one two (suc n) i =
+      rw (stray-in kind one two n (suc i)) (sym (stray-row (getD kind i 0) (getD one i 0) (getD two i 0) i (rowsAt kind one two (suc i) n)))
 
 -- the verdict on the columns is that on their rows
-complete-in : (kind one two starts : List ℕ) (count : ℕ)
-    → outcomeOf (completeIn kind one starts count) kind one two ≡ completed (record { rows = rowsOf kind one two count; starts = starts })
-unfolding completeIn completed verdictOn
-complete-in kind one two starts count = rw (stray-in kind one two starts count 0) (go (isOpen starts 0) (strayFrom starts 0 (rowsOf kind one two count)))
+complete-in : (kind one two starts : List ℕ) (count : ℕ) → ((n : ℕ) → isOpen starts n ≡ among n (opens (rowsOf kind one two count)))
+    → outcomeOf (completeIn kind one starts count) kind one two ≡ complete (rowsOf kind one two count)
+unfolding completeIn complete verdictOn
+complete-in kind one two starts count agree =
+    rw (stray-in starts (opens (rowsOf kind one two count)) agree kind one two count 0, agree 0)
+    (go (among 0 (opens (rowsOf kind one two count))) (strayCall (opens (rowsOf kind one two count)) 0 (rowsOf kind one two count)))
   where
     go : (t : Bool) (o : Option ℕ)
         → outcomeOf (cond t (verdictOn o count) (Refused absentRefusal 0)) kind one two
@@ -118,13 +122,13 @@ complete-kept kind one two start count h = go (isOpen start 0) (strayIn kind one
     go true (some line) = tt
     go false o = tt
 
-completed-rows : (k : Kept) (rs : List Row) → completed k ≡ ok rs → k .rows ≡ rs
-unfolding completed
-completed-rows k rs = go (isOpen (k .starts) 0) (strayFrom (k .starts) 0 (k .rows))
+complete-rows : (rs qs : List Row) → complete rs ≡ ok qs → rs ≡ qs
+unfolding complete
+complete-rows rs qs = go (among 0 (opens rs)) (strayCall (opens rs) 0 rs)
   where
     go : (t : Bool) (o : Option ℕ)
-        → _≡_ {A = Out (List Row)} (cond t (elim o [ none ↦ ok (k .rows) | some line ↦ refusal absentRefusal line ]) (refusal absentRefusal 0)) (ok rs)
-        → k .rows ≡ rs
+        → _≡_ {A = Out (List Row)} (cond t (elim o [ none ↦ ok rs | some line ↦ refusal absentRefusal line ]) (refusal absentRefusal 0)) (ok qs)
+        → rs ≡ qs
     go true none h = cc
     go true (some line) h = cc
     go false o h = cc
@@ -134,21 +138,22 @@ no-rows o number line rs e f = let z : _≡_ {A = ℕ} 0 1 = cc in absurd (omega
 
 -- the rows refused, and the rows read and judged as a whole
 module _ (c : Columns) (text : List ℕ) (first : ℕ) (kind one two start : List ℕ) where
-  pub body-refused : (number line : ℕ) → readFrom c 0 fresh (linesOf (drop first text)) ≡ refusal number line
-      → BodyAs c text first (storeOf kind one two start) (Refused number line)
+  abbrev lines : List Line
+  lines = linesOf (drop first text)
+
+  pub body-refused : (number line : ℕ) → readFrom c 0 fresh lines ≡ refusal number line → BodyAs c text first (storeOf kind one two start) (Refused number line)
   unfolding andThen
   body-refused number line e =
-      let o : andThen (readFrom c 0 fresh (linesOf (drop first text))) completed ≡ refusal number line = rw e in
+      let o : andThen (rowsFrom c 0 outside lines) complete ≡ refusal number line = rw (rows-refused c lines number line e) in
       record { outcome = sym o; starts = λ rs h. no-rows _ number line rs o h; kept = tt }
 
-  pub body-complete : (count : ℕ) (r : Verdict) → readFrom c 0 fresh (linesOf (drop first text)) ≡ ok (record { rows = rowsOf kind one two count; starts = start })
+  pub body-complete : (count : ℕ) (r : Verdict) → readFrom c 0 fresh lines ≡ ok (record { rows = rowsOf kind one two count; starts = start })
       → count ≤ rowsMost → Sized (storeOf kind one two start) → r ≡ completeIn kind one start count → BodyAs c text first (storeOf kind one two start) r
   unfolding andThen
   body-complete count r e few sized h =
-      let k : Kept = record { rows = rowsOf kind one two count; starts = start } in
-      let o : andThen (readFrom c 0 fresh (linesOf (drop first text))) completed ≡ completed k = rw e in
+      let o : andThen (rowsFrom c 0 outside lines) complete ≡ complete (rowsOf kind one two count) = rw (rows-read c lines _ e) in
       record {
-        outcome = ap (λ (x : Verdict). outcomeOf x kind one two) h ∙ complete-in kind one two start count ∙ sym o;
-        starts = λ rs g. starts-same c (linesOf (drop first text)) k e ∙ ap startsOf (completed-rows k rs (sym o ∙ g));
+        outcome = ap (λ (x : Verdict). outcomeOf x kind one two) h ∙ complete-in kind one two start count (open-same c lines _ e) ∙ sym o;
+        starts = λ rs g. starts-same c lines _ e ∙ ap startsOf (complete-rows (rowsOf kind one two count) rs (sym o ∙ g));
         kept = subst (λ (x : Verdict). KeptOn (storeOf kind one two start) x) (sym h) (complete-kept kind one two start count (few, sized));
       }

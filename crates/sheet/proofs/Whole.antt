@@ -9,7 +9,7 @@ use lib.ListN.{length, drop}
 use Rattle.model.specs.Limits.{textMost}
 use Rattle.model.specs.Refusal.{refusal, andThen, lengthRefusal, headingRefusal}
 use Rattle.model.specs.Text.{linesOf, headingOf}
-use Rattle.model.specs.Place.{bodyOf, readOf}
+use Rattle.model.specs.Place.{outside, rowsFrom, complete, bodyOf, readOf}
 use Rattle.fields.specs.Scan.{firstLine, behindLine}
 use Rattle.fields.specs.Fields.{Onward}
 use Rattle.fields.proofs.Lines.{lines-at}
@@ -18,11 +18,9 @@ use Rattle.heading.specs.declared.Columns.{Columns}
 use Rattle.heading.specs.declared.Heading.{Heading}
 use Rattle.heading.specs.declared.Heading.the-variants.{Named, Unnamed}
 use Rattle.sheet.specs.Bridge.{storeOf, ReadAs}
-use Rattle.sheet.specs.Reading.{readFrom, fresh, completed}
 use Rattle.sheet.specs.Store.{BodyAs}
 use Rattle.sheet.specs.declared.Verdict.{Verdict}
 use Rattle.sheet.specs.declared.Verdict.the-variants.{Refused}
-use Rattle.sheet.proofs.Simulation.{read-same}
 use Rattle.sheet.proofs.Body.{no-rows}
 
 -- the text: its length, its heading, and the rows behind
@@ -56,9 +54,8 @@ module _ (text kind one two start : List ℕ) where
     read-named h c first v p e b =
         let p′ : HeadingAs text (Named c first) = subst (λ (x : Heading). HeadingAs text x) e p in
         let q : headingOf (firstLine text) ≡ some (columnsFrom c) = sym (p′ .heading) in
-        let r : readOf text ≡ andThen (readFrom (columnsFrom c) 0 fresh (linesOf (drop first text))) completed =
-        read-body ∙ rw (q, bodyOf) (read-same (columnsFrom c) (linesOf (behindLine text))
-        ∙ ap (λ (l : List ℕ). andThen (readFrom (columnsFrom c) 0 fresh (linesOf l)) completed) (sym (p′ .named .0 .behind))) in
+        let r : readOf text ≡ andThen (rowsFrom (columnsFrom c) 0 outside (linesOf (drop first text))) complete =
+        read-body ∙ rw (q, bodyOf) (ap (λ (l : List ℕ). andThen (rowsFrom (columnsFrom c) 0 outside (linesOf l)) complete) (sym (p′ .named .0 .behind))) in
         record { outcome = b .outcome ∙ sym r; starts = λ rs g. b .starts rs (sym r ∙ g); kept = b .kept }
 
 rows-begin : (text : List ℕ) (h : Heading) (c : Columns) (first : ℕ) → HeadingAs text h → h ≡ Named c first → Onward text 0 first × Below c

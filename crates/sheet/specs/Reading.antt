@@ -1,16 +1,13 @@
--- Code-shaped twins of the model's reading, with the table of starts in place of the list of sheets opened.
+-- Code-shaped twin of the model's rows, with the table of starts in place of the list of sheets opened.
 -- Assumes nothing.
 use Prim.Native.Nat.{ℕ, suc}
-use mathlib.Core.Bool.{cond}
 use mathlib.Core.List.{List, [], _∷_}
-use mathlib.Core.Option.{Option, none, some}
 use lib.ListN.{replicate}
 use Rattle.model.specs.Limits.{sheets}
-use Rattle.model.specs.Refusal.{Out, ok, refusal, absentRefusal}
+use Rattle.model.specs.Refusal.{Out, ok, refusal}
 use Rattle.model.specs.Text.{Line, Columns}
-use Rattle.model.specs.Rows.{Row, sheet, message, order, block, call}
-use Rattle.model.specs.Place.{lineOf}
-use Rattle.place.specs.Stand.{Stand, isOpen}
+use Rattle.model.specs.Rows.{Row}
+use Rattle.place.specs.Stand.{Stand}
 use Rattle.row.specs.Judged.{judgedBy}
 
 -- the rows read, and the table of starts behind them
@@ -31,19 +28,3 @@ readFrom c i s (l ∷ ls) =
 -- a table with no sheet, ahead of the first row
 abbrev pub fresh : Stand
 fresh = record { starts = replicate sheets 0; events = [] }
-
--- the line of the first call to a sheet that has no start; i is the number of the first row
-unfoldable pub strayFrom : List ℕ → ℕ → List Row → Option ℕ
-strayFrom starts i [] = none
-strayFrom starts i (sheet n ∷ rs) = strayFrom starts (suc i) rs
-strayFrom starts i (message a b ∷ rs) = strayFrom starts (suc i) rs
-strayFrom starts i (order x y ∷ rs) = strayFrom starts (suc i) rs
-strayFrom starts i (block ∷ rs) = strayFrom starts (suc i) rs
-strayFrom starts i (call n ∷ rs) = cond (isOpen starts n) (strayFrom starts (suc i) rs) (some (lineOf i))
-
--- sheet 0 has a start, and so has every sheet that is called
-unfoldable pub completed : Kept → Out (List Row)
-completed k =
-    cond (isOpen (k .starts) 0)
-    (elim (strayFrom (k .starts) 0 (k .rows)) [ none ↦ ok (k .rows) | some line ↦ refusal absentRefusal line ])
-    (refusal absentRefusal 0)

@@ -11,10 +11,9 @@ use lib.ListN.{getD, drop}
 use Rattle.model.specs.Refusal.{ok, andThen, absentRefusal}
 use Rattle.model.specs.Text.{Columns, linesOf}
 use Rattle.model.specs.Rows.{Row}
-use Rattle.model.specs.Place.{lineOf}
+use Rattle.model.specs.Place.{outside, lineOf, rowsFrom, complete}
 use Rattle.place.specs.Stand.{isOpen}
 use Rattle.sheet.specs.Bridge.{outcomeOf, startsOf, Store, KeptOn}
-use Rattle.sheet.specs.Reading.{readFrom, fresh, completed}
 use Rattle.sheet.specs.declared.Verdict.{Verdict}
 use Rattle.sheet.specs.declared.Verdict.the-variants as verdict
 
@@ -38,6 +37,6 @@ completeIn kind one starts count =
 
 -- the rows behind the heading, complete
 pub record BodyAs (c : Columns) (text : List ℕ) (first : ℕ) (s : Store) (v : Verdict) : Type 0 where
-  pub outcome : outcomeOf v (s .kind) (s .one) (s .two) ≡ andThen (readFrom c 0 fresh (linesOf (drop first text))) completed
-  pub starts : (rs : List Row) → andThen (readFrom c 0 fresh (linesOf (drop first text))) completed ≡ ok rs → s .start ≡ startsOf rs
+  pub outcome : outcomeOf v (s .kind) (s .one) (s .two) ≡ andThen (rowsFrom c 0 outside (linesOf (drop first text))) complete
+  pub starts : (rs : List Row) → andThen (rowsFrom c 0 outside (linesOf (drop first text))) complete ≡ ok rs → s .start ≡ startsOf rs
   pub kept : KeptOn s v

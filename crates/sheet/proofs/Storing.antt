@@ -89,16 +89,15 @@ pub record Looping (c : Columns) (text : List ℕ) (first at row messages : ℕ)
   pub read : readFrom c 0 fresh (linesOf (drop first text))
       ≡ aheadAll (rowsOf kind one two row) (readFrom c row (standOf start boards messages) (linesOf (drop at text)))
 
-pub loop-begin : (c : Columns) (text : List ℕ) (first : ℕ) → first ≤ length text
-    → Looping c text first first 0 0 (replicate rowsMost 0) (replicate rowsMost 0) (replicate rowsMost 0) (replicate sheets 0) (replicate (2 * messagesMost) 0)
+pub loop-begin : (c : Columns) (text : List ℕ) (first : ℕ) (kind one two start : List ℕ) → first ≤ length text → Sized (storeOf kind one two start)
+    → Looping c text first first 0 0 kind one two (replicate sheets 0) (replicate (2 * messagesMost) 0)
 unfolding aheadAll rowsAt
-loop-begin c text first h =
-    let column : length (replicate {A = ℕ} rowsMost 0) ≡ rowsMost = length-replicate {A = ℕ} rowsMost 0 in
+loop-begin c text first kind one two start h z =
     record {
       inside = h;
       few = omega arith;
       count = omega arith;
-      sized = record { kind = column; one = column; two = column; start = length-replicate {A = ℕ} sheets 0 };
+      sized = record { kind = z .kind; one = z .one; two = z .two; start = length-replicate {A = ℕ} sheets 0 };
       allBoards = length-replicate {A = ℕ} (2 * messagesMost) 0;
       read = refl;
     }

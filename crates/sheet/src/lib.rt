@@ -11,7 +11,7 @@ ghost use lib.ListN.{length, getD};
 ghost use Rattle.model.specs.Limits.{sheets, rowsMost};
 ghost use Rattle.heading.specs.Names.{Below, columnsFrom};
 ghost use Rattle.place.specs.Stand.{isOpen};
-ghost use Rattle.sheet.specs.Bridge.{storeOf, ReadAs};
+ghost use Rattle.sheet.specs.Bridge.{storeOf, Sized, ReadAs};
 ghost use Rattle.sheet.specs.Store.{isStray, completeIn, BodyAs};
 
 // So many rows; or the refusal's number and line.
@@ -21,6 +21,7 @@ pub enum Verdict {
 }
 
 // Reads a text into three columns of `Rows(count)` rows, and notes at `start[n]` the number of the row behind `S n` (0: no sheet n).
+// Of the columns only these rows are written, so what they are lent with does not matter but for their lengths.
 pub fn read(
     text: &[u8],
     kind: &mut [u8; ROWS_MOST],
@@ -28,6 +29,7 @@ pub fn read(
     two: &mut [u8; ROWS_MOST],
     start: &mut [u16; SHEETS],
 ) -> Verdict
+    requires { ⌜ Sized (storeOf (now kind) (now one) (now two) (now start)) ⌝ }
     ensures { λ r. ⌜ ReadAs (now (text .entry)) (now (kind .exit)) (now (one .exit)) (now (two .exit)) (now (start .exit)) r ⌝ }
 {
     if text.len() == 0 {
@@ -53,12 +55,9 @@ fn rows(
     two: &mut [u8; ROWS_MOST],
     start: &mut [u16; SHEETS],
 ) -> Verdict
-    requires { ⌜ (first ≤ length (now text)) × Below columns ⌝ }
+    requires { ⌜ (first ≤ length (now text)) × Below columns × Sized (storeOf (now kind) (now one) (now two) (now start)) ⌝ }
     ensures { λ r. ⌜ BodyAs (columnsFrom columns) (now (text .entry)) first (storeOf (now (kind .exit)) (now (one .exit)) (now (two .exit)) (now (start .exit))) r ⌝ }
 {
-    *kind = [0u8; ROWS_MOST];
-    *one = [0u8; ROWS_MOST];
-    *two = [0u8; ROWS_MOST];
     *start = [0u16; SHEETS];
     let mut boards = [0u8; EVENTS_MOST];
     let mut at = first;

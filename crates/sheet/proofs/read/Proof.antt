@@ -20,7 +20,7 @@ enum-known-h : tie.Need-enum-known-h
 enum-known-h c = search needs
 
 rows-requires : tie.Need-rows-requires
-rows-requires c κs = search (first-inside, first-below)
+rows-requires c κs = (search first-inside, search first-below, search needs)
 
 returns-3 : tie.Need-returns-3
 returns-3 c = search read-unnamed

@@ -22,11 +22,10 @@ pub enum Heading {
 pub fn heading_of(text: &[u8]) -> Heading
     ensures { λ r. ⌜ HeadingAs (now (text .entry)) r ⌝ }
 {
-    let s = fields::cut(text, 0);
-    match s {
-        Split::Other => Heading::Unnamed,
-        Split::Three(cuts) => columns_in(text, cuts),
-    }
+    let Split::Three(cuts) = fields::cut(text, 0) else {
+        return Heading::Unnamed;
+    };
+    columns_in(text, cuts)
 }
 
 // The columns that three fields name.

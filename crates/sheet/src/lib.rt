@@ -38,11 +38,10 @@ pub fn read(
     if model::TEXT_MOST < text.len() {
         return Verdict::Refused(model::LENGTH, 0);
     }
-    let h = heading::heading_of(text);
-    match h {
-        Heading::Unnamed => Verdict::Refused(model::HEADING, 1),
-        Heading::Named(columns, first) => rows(text, first, columns, kind, one, two, start),
-    }
+    let Heading::Named(columns, first) = heading::heading_of(text) else {
+        return Verdict::Refused(model::HEADING, 1);
+    };
+    rows(text, first, columns, kind, one, two, start)
 }
 
 // All rows from `first` on, which is behind the heading.

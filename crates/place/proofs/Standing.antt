@@ -3,7 +3,7 @@ use Prim.Native.Nat.{ℕ, suc, _+_, _*_, _≤_, _<_}
 use Prim.Native.Char.{code}
 use native.Mathlib.Omega.{arith}
 use mathlib.Core.Path.{_≡_, refl, sym, _∙_, ap}
-use mathlib.Core.Bool.{Bool, true, false, cond, _&&_}
+use mathlib.Core.Bool.{Bool, true, false, cond, _&&_, or-true}
 use mathlib.Core.List.{List, [], _∷_, _++_, append-assoc}
 use borrow.Author.Tests.{lt-ltb, le-ltb, eq-eqb, ne-eqb, ltb-true}
 use lib.Dec.{eqb, ltb}
@@ -13,7 +13,7 @@ use Rattle.model.proofs.Bounded.{and-right}
 use Rattle.model.specs.Limits.{sheets, boards, messagesMost}
 use Rattle.model.specs.Rows.{Row, sheet, message, order, block, call}
 use Rattle.model.specs.Place.{withMessage, messageFits, orderFits, isSheet}
-use Rattle.place.specs.Stand.{isOpen, mayOpen, movedTo, stoodAt, standOf, placedFor, placedAs, FewMessages, PlaceAs}
+use Rattle.place.specs.Stand.{isOpen, mayOpen, movedTo, stoodAt, standOf, placedFor, placedAs, FewMessages, BlockAs, PlaceAs}
 use Rattle.place.specs.Letters.{rowFrom}
 use Rattle.place.proofs.Letters.{row-sheet, row-message, row-order, row-call, row-block}
 use Rattle.place.specs.declared.Placed.{Placed}
@@ -107,67 +107,64 @@ take-two bs m a b h l =
     ∙ ap (λ (x : List ℕ). x ++ (b ∷ [])) (ap (λ (i : ℕ). take i (set bs (2 * m) a)) k ∙ take-suc-set bs (2 * m) a (omega arith))
     ∙ append-assoc (take (2 * m) bs) (a ∷ []) (b ∷ [])
 
-module _ (row k a b m : ℕ) (starts bs : List ℕ) (few : m ≤ messagesMost) (long : length starts ≡ sheets) (long′ : length bs ≡ 2 * messagesMost) where
-  place-by : (r : Row) (starts′ bs′ : List ℕ) (p : Placed) → rowFrom k a b ≡ r
-      → placedAs p starts′ bs′ ≡ stoodAt row (standOf starts bs m) r → FewMessages p → length starts′ ≡ sheets → length bs′ ≡ 2 * messagesMost
-      → PlaceAs row (standOf starts bs m) (rowFrom k a b) starts′ bs′ p
-  place-by r starts′ bs′ p e h f l l′ =
-      record { stand = h ∙ ap (stoodAt row (standOf starts bs m)) (sym e); few = f; allStarts = l; allBoards = l′ }
+-- a row that is no S row, by its letter
+module _ (k a b m : ℕ) (bs : List ℕ) (few : m ≤ messagesMost) (long : length bs ≡ 2 * messagesMost) where
+  block-by : (r : Row) (bs′ : List ℕ) (p : Placed) → rowFrom k a b ≡ r → ((starts : List ℕ) (i : ℕ) → placedAs p starts bs′ ≡ movedTo i (standOf starts bs m) r)
+      → FewMessages p → length bs′ ≡ 2 * messagesMost → BlockAs m (rowFrom k a b) bs bs′ p
+  block-by r bs′ p e h f l = record { stand = λ starts i. h starts i ∙ ap (movedTo i (standOf starts bs m)) (sym e); few = f; allBoards = l }
 
-  pub place-sheet : (p : Placed) (fits : Bool) (starts′ : List ℕ) → k ≡ code "S" → fits ≡ mayOpen starts a
+  pub block-message : (p : Placed) (fits : Bool) (bs′ : List ℕ) → k ≡ code "M" → fits ≡ messageFits (take (2 * m) bs) a b
+      → bs′ ≡ cond fits (set (set bs (2 * m) a) (2 * m + 1) b) bs → p ≡ placedFor fits (m + 1) → BlockAs m (rowFrom k a b) bs bs′ p
+  unfolding movedTo
+  block-message p fits bs′ e f g h = rw (g, h) (go fits f)
+    where
+      go : (t : Bool) → t ≡ messageFits (take (2 * m) bs) a b
+          → BlockAs m (rowFrom k a b) bs (cond t (set (set bs (2 * m) a) (2 * m + 1) b) bs) (placedFor t (m + 1))
+      go true c =
+          let l : m < messagesMost = room bs m a b few long (sym c) in
+          block-by (message a b) (set (set bs (2 * m) a) (2 * m + 1) b) (Messages (m + 1)) (row-message k a b e)
+          (λ starts i. rw (← c, take-two bs m a b l long)) (omega arith)
+          (length-set (set bs (2 * m) a) (2 * m + 1) b ∙ length-set bs (2 * m) a ∙ long)
+      go false c = block-by (message a b) bs Nowhere (row-message k a b e) (λ starts i. rw (← c)) tt long
+
+  pub block-order : (p : Placed) (fits : Bool) → k ≡ code "P" → fits ≡ orderFits (take (2 * m) bs) a b → p ≡ placedFor fits m → BlockAs m (rowFrom k a b) bs bs p
+  unfolding movedTo
+  block-order p fits e f h = rw h (go fits f)
+    where
+      go : (t : Bool) → t ≡ orderFits (take (2 * m) bs) a b → BlockAs m (rowFrom k a b) bs bs (placedFor t m)
+      go true c = block-by (order a b) bs (Messages m) (row-order k a b e) (λ starts i. rw (← c)) few long
+      go false c = block-by (order a b) bs Nowhere (row-order k a b e) (λ starts i. rw (← c)) tt long
+
+  pub block-call : (p : Placed) → k ≡ code "C" → p ≡ placedFor (ltb a sheets) 0 → BlockAs m (rowFrom k a b) bs bs p
+  unfolding movedTo
+  block-call p e q = rw q (go (ltb a sheets) refl)
+    where
+      go : (t : Bool) → ltb a sheets ≡ t → BlockAs m (rowFrom k a b) bs bs (placedFor t 0)
+      go true c = block-by (call a) bs (Messages 0) (row-call k a b e) (λ starts i. rw c) (omega arith) long
+      go false c = block-by (call a) bs Nowhere (row-call k a b e) (λ starts i. rw c) tt long
+
+  pub block-next : (k ≡ code "S" → ⊥) → (k ≡ code "M" → ⊥) → (k ≡ code "P" → ⊥) → (k ≡ code "C" → ⊥) → BlockAs m (rowFrom k a b) bs bs (Messages 0)
+  unfolding movedTo
+  block-next e f g h = block-by block bs (Messages 0) (row-block k a b e f g h) (λ starts i. refl) (omega arith) long
+
+-- any row: an S row, one ahead of any S row, and one behind it
+module _ (row k a b m : ℕ) (starts bs : List ℕ) (long : length starts ≡ sheets) where
+  pub place-sheet : (p : Placed) (fits : Bool) (starts′ : List ℕ) → length bs ≡ 2 * messagesMost → k ≡ code "S" → fits ≡ mayOpen starts a
       → starts′ ≡ cond fits (set starts a (row + 1)) starts → p ≡ placedFor fits 0
       → PlaceAs row (standOf starts bs m) (rowFrom k a b) starts′ bs p
   unfolding stoodAt movedTo isSheet
-  place-sheet p fits starts′ e f g h =
-      rw (g, h) (go fits f)
+  place-sheet p fits starts′ l e f g h = rw (g, h, row-sheet k a b e) (go fits f)
     where
-      go : (t : Bool) → t ≡ mayOpen starts a → PlaceAs row (standOf starts bs m) (rowFrom k a b) (cond t (set starts a (row + 1)) starts) bs (placedFor t 0)
-      go true c =
-          place-by (sheet a) (set starts a (row + 1)) bs (Messages 0) (row-sheet k a b e) (rw (← c)) (omega arith)
-          (length-set starts a (row + 1) ∙ long) long′
-      go false c = place-by (sheet a) starts bs Nowhere (row-sheet k a b e) (rw (← c)) tt long long′
+      go : (t : Bool) → t ≡ mayOpen starts a → PlaceAs row (standOf starts bs m) (sheet a) (cond t (set starts a (row + 1)) starts) bs (placedFor t 0)
+      go true c = record { stand = rw (← c); few = omega arith; allStarts = length-set starts a (row + 1) ∙ long; allBoards = l }
+      go false c = record { stand = rw (← c); few = tt; allStarts = long; allBoards = l }
 
-  pub place-outside : row ≡ 0 → (k ≡ code "S" → ⊥) → PlaceAs row (standOf starts bs m) (rowFrom k a b) starts bs Nowhere
+  pub place-outside : length bs ≡ 2 * messagesMost → row ≡ 0 → (k ≡ code "S" → ⊥) → PlaceAs row (standOf starts bs m) (rowFrom k a b) starts bs Nowhere
   unfolding stoodAt
-  place-outside e f = record { stand = rw (not-sheet k a b f, e); few = tt; allStarts = long; allBoards = long′ }
+  place-outside l e f = record { stand = rw (not-sheet k a b f, e); few = tt; allStarts = long; allBoards = l }
 
-  module _ (below : (row ≡ 0 → ⊥)) where
-    later : ltb 0 row ≡ true
-    later = lt-ltb 0 row (omega arith)
-
-    pub place-message : (p : Placed) (fits : Bool) (bs′ : List ℕ) → k ≡ code "M" → fits ≡ messageFits (take (2 * m) bs) a b
-        → bs′ ≡ cond fits (set (set bs (2 * m) a) (2 * m + 1) b) bs → p ≡ placedFor fits (m + 1)
-        → PlaceAs row (standOf starts bs m) (rowFrom k a b) starts bs′ p
-    unfolding stoodAt movedTo isSheet
-    place-message p fits bs′ e f g h = rw (g, h) (go fits f)
-      where
-        go : (t : Bool) → t ≡ messageFits (take (2 * m) bs) a b
-            → PlaceAs row (standOf starts bs m) (rowFrom k a b) starts (cond t (set (set bs (2 * m) a) (2 * m + 1) b) bs) (placedFor t (m + 1))
-        go true c =
-            let l : m < messagesMost = room bs m a b few long′ (sym c) in
-            place-by (message a b) starts (set (set bs (2 * m) a) (2 * m + 1) b) (Messages (m + 1)) (row-message k a b e)
-            (rw (later, ← c, take-two bs m a b l long′)) (omega arith) long
-            (length-set (set bs (2 * m) a) (2 * m + 1) b ∙ length-set bs (2 * m) a ∙ long′)
-        go false c = place-by (message a b) starts bs Nowhere (row-message k a b e) (rw (later, ← c)) tt long long′
-
-    pub place-order : (p : Placed) (fits : Bool) → k ≡ code "P" → fits ≡ orderFits (take (2 * m) bs) a b → p ≡ placedFor fits m
-        → PlaceAs row (standOf starts bs m) (rowFrom k a b) starts bs p
-    unfolding stoodAt movedTo isSheet
-    place-order p fits e f h = rw h (go fits f)
-      where
-        go : (t : Bool) → t ≡ orderFits (take (2 * m) bs) a b → PlaceAs row (standOf starts bs m) (rowFrom k a b) starts bs (placedFor t m)
-        go true c = place-by (order a b) starts bs (Messages m) (row-order k a b e) (rw (later, ← c)) few long long′
-        go false c = place-by (order a b) starts bs Nowhere (row-order k a b e) (rw (later, ← c)) tt long long′
-
-    pub place-call : (p : Placed) → k ≡ code "C" → p ≡ placedFor (ltb a sheets) 0 → PlaceAs row (standOf starts bs m) (rowFrom k a b) starts bs p
-    unfolding stoodAt movedTo isSheet
-    place-call p e q = rw q (go (ltb a sheets) refl)
-      where
-        go : (t : Bool) → ltb a sheets ≡ t → PlaceAs row (standOf starts bs m) (rowFrom k a b) starts bs (placedFor t 0)
-        go true c = place-by (call a) starts bs (Messages 0) (row-call k a b e) (rw (later, c)) (omega arith) long long′
-        go false c = place-by (call a) starts bs Nowhere (row-call k a b e) (rw (later, c)) tt long long′
-
-    pub place-block : (k ≡ code "S" → ⊥) → (k ≡ code "M" → ⊥) → (k ≡ code "P" → ⊥) → (k ≡ code "C" → ⊥)
-        → PlaceAs row (standOf starts bs m) (rowFrom k a b) starts bs (Messages 0)
-    unfolding stoodAt movedTo isSheet
-    place-block e f g h = place-by block starts bs (Messages 0) (row-block k a b e f g h) (rw later) (omega arith) long long′
+  pub place-behind : (p : Placed) (bs′ : List ℕ) → (row ≡ 0 → ⊥) → BlockAs m (rowFrom k a b) bs bs′ p → PlaceAs row (standOf starts bs m) (rowFrom k a b) starts bs′ p
+  unfolding stoodAt
+  place-behind p bs′ e h =
+      let later : ltb 0 row ≡ true = lt-ltb 0 row (omega arith) in
+      record { stand = h .stand starts row ∙ rw (later, or-true (isSheet (rowFrom k a b))); few = h .few; allStarts = long; allBoards = h .allBoards }

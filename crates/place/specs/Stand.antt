@@ -1,6 +1,7 @@
 -- Code-shaped twins of the model's place: the sheets opened are those with a start in the table.
 -- Assumes nothing.
 use Prim.Native.Nat.{ℕ, _+_, _*_, _≤_}
+use Prim.Native.Char.{code}
 use mathlib.Core.Path.{_≡_}
 use mathlib.Core.Bool.{Bool, not, cond, _&&_, _||_}
 use mathlib.Core.List.{List, []}
@@ -54,6 +55,17 @@ abbrev pub FewMessages : Placed → Type 0
 FewMessages (Messages m) = m ≤ messagesMost
 FewMessages Nowhere = Unit {0}
 
+-- a kind that is not an S row's
+abbrev pub OtherThanS : ℕ → Type 0
+OtherThanS kind = kind ≡ code "S" → ⊥
+
+-- a row that is no S row, in a block of m messages: whatever the table of starts holds, it stays as it is
+pub record BlockAs (m : ℕ) (r : Row) (boards boards′ : List ℕ) (p : Placed) : Type 0 where
+  pub stand : (starts : List ℕ) (i : ℕ) → placedAs p starts boards′ ≡ movedTo i (standOf starts boards m) r
+  pub few : FewMessages p
+  pub allBoards : length boards′ ≡ 2 * messagesMost
+
+-- any row, as row `row`
 pub record PlaceAs (row : ℕ) (s : Stand) (r : Row) (starts boards : List ℕ) (p : Placed) : Type 0 where
   pub stand : placedAs p starts boards ≡ stoodAt row s r
   pub few : FewMessages p

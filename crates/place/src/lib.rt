@@ -9,7 +9,7 @@ ghost use lib.ListN.{length, take, set};
 ghost use Rattle.model.specs.Limits.{sheets, rowsMost, messagesMost};
 ghost use Rattle.model.specs.Place.{messageFits, orderFits};
 ghost use Rattle.place.specs.Letters.{rowFrom};
-ghost use Rattle.place.specs.Stand.{mayOpen, standOf, placedFor, PlaceAs};
+ghost use Rattle.place.specs.Stand.{mayOpen, standOf, placedFor, OtherThanS, BlockAs, PlaceAs};
 
 // Boards are 0 to 15, in the type of a field.
 const BOARDS: u8 = model::BOARDS as u8;
@@ -90,6 +90,24 @@ fn placed_if(fits: bool, messages: usize) -> Placed
     }
 }
 
+// A row that is no S row, in a block of so many messages: a message joins the block, an order is within it, any other opens the next.
+fn in_block(kind: u8, one: u8, two: u8, messages: usize, boards: &mut [u8; EVENTS_MOST]) -> Placed
+    requires { ⌜ OtherThanS kind × (messages ≤ messagesMost) × (length (now boards) ≡ 2 * messagesMost) ⌝ }
+    ensures { λ r. ⌜ BlockAs messages (rowFrom kind one two) (now (boards .entry)) (now (boards .exit)) r ⌝ }
+{
+    if kind == b'M' {
+        return placed_if(add_message(messages, boards, one, two), messages + 1);
+    }
+    if kind == b'P' {
+        return placed_if(may_order(messages, boards, one, two), messages);
+    }
+    if kind == b'C' {
+        let n = one as usize;
+        return placed_if(n < SHEETS, 0);
+    }
+    Placed::Messages(0)
+}
+
 // A row of the given kind and numbers, as row `row`: every row but an S row stands behind one.
 pub fn place(
     row: usize,
@@ -109,15 +127,5 @@ pub fn place(
     if row == 0 {
         return Placed::Nowhere;
     }
-    if kind == b'M' {
-        return placed_if(add_message(messages, boards, one, two), messages + 1);
-    }
-    if kind == b'P' {
-        return placed_if(may_order(messages, boards, one, two), messages);
-    }
-    if kind == b'C' {
-        let n = one as usize;
-        return placed_if(n < SHEETS, 0);
-    }
-    Placed::Messages(0)
+    in_block(kind, one, two, messages, boards)
 }

@@ -45,15 +45,16 @@ module _ (c : Columns) (i : ℕ) (s : Stand) (l : Line) where
   unfolding judgedBy
   judged-placed r q h e f = rw (lt-ltb i rowsMost h, e, f, judgedBy)
 
+pub step-full : (c : Columns) (text : List ℕ) (at row : ℕ) (s : Stand) (start boards : List ℕ) → rowsMost ≤ row
+    → StepAs c text at row s start boards (step.Refused rowRefusal)
+step-full c text at row s start boards h = record { step = sym (judged-full c row s (firstLine (drop at text)) h); on = tt }
+
 module _ (c : Columns) (text : List ℕ) (at row : ℕ) (start boards : List ℕ) (messages : ℕ) where
   abbrev stand : Stand
   stand = standOf start boards messages
 
   abbrev line : Line
   line = firstLine (drop at text)
-
-  pub step-full : rowsMost ≤ row → StepAs c text at row stand start boards (step.Refused rowRefusal)
-  step-full h = record { step = sym (judged-full c row stand line h); on = tt }
 
   pub step-malformed : (r : Reading) → RowAs c text at r → r ≡ reading.Malformed → StepAs c text at row stand start boards (step.Refused rowRefusal)
   step-malformed r p e = record { step = sym (judged-malformed c row stand line (sym (p .row) ∙ ap readingFrom e)); on = tt }

@@ -6,7 +6,7 @@ use Rattle.row.proofs.take_row.Statement.{statement}
 use Rattle.row.proofs.take_row.Tie as tie
 
 returns : tie.Need-returns
-returns c = search step-full
+returns c = step-full _ _ _ _ _ _ _ (omega arith)
 
 row-at-requires : tie.Need-row-at-requires
 row-at-requires c κs = search needs

@@ -1,37 +1,15 @@
--- The reader's cuts, spans and numbers, as the model's lists. Assumes nothing.
-use Prim.Native.Nat.{ℕ, _+_, _≤_, _<_}
-use mathlib.Core.Path.{_≡_}
-use mathlib.Core.Bool.{cond}
+-- The reader's spans, letters and numbers, as the model's. Assumes nothing.
+use Prim.Native.Nat.{ℕ, _+_}
+use mathlib.Core.Bool.{cond, _&&_}
 use mathlib.Core.List.{List, [], _∷_}
 use mathlib.Core.Option.{Option, none, some}
-use lib.Dec.{eqb}
-use lib.ListN.{length, drop}
-use lib.Seq.{slice}
-use Rattle.fields.specs.Scan.{behindLine, firstField, behindField, Parts, three, other, partsOf}
+use lib.Dec.{eqb, leb}
+use Rattle.model.specs.Limits.{numberMost}
+use Rattle.model.specs.Text.{digitsOnly, decimal}
+use Rattle.line.specs.declared.Cuts.{Cuts}
 use Rattle.fields.specs.declared.Span.{Span}
-use Rattle.fields.specs.declared.Cuts.{Cuts}
-use Rattle.fields.specs.declared.Split.{Split}
-use Rattle.fields.specs.declared.Split.the-variants.{Three, Other}
 use Rattle.fields.specs.declared.Number.{Number}
 use Rattle.fields.specs.declared.Number.the-variants.{Is, Bad}
-
--- a field ends at r
-pub record FieldEnd (text : List ℕ) (at r : ℕ) : Type 0 where
-  pub from : at ≤ r
-  pub to : r ≤ length text
-  pub field : slice at r text ≡ firstField (drop at text)
-  pub behind : drop r text ≡ behindField (drop at text)
-
--- the cuts lie in the text, one behind the other, and the three fields between them
-pub record Cut (text : List ℕ) (c : Cuts) : Type 0 where
-  pub one : c .at ≤ c .first
-  pub two : c .first < c .second
-  pub three : c .second < c .end
-  pub inside : c .end < length text
-
-abbrev pub fieldsIn : List ℕ → Cuts → List (List ℕ)
-fieldsIn text c =
-    slice (c .at) (c .first) text ∷ slice (c .first + 1) (c .second) text ∷ slice (c .second + 1) (c .end) text ∷ []
 
 -- the span of the field with the given number
 unfoldable pub spanOf : Cuts → ℕ → Span
@@ -39,27 +17,16 @@ spanOf c place =
     cond (eqb place 0) (record { from = c .at; to = c .first })
     (cond (eqb place 1) (record { from = c .first + 1; to = c .second }) (record { from = c .second + 1; to = c .end }))
 
--- a split of the text from a position on, as parts
-abbrev pub partsIn : List ℕ → Split → Parts
-partsIn text (Three c) =
-    three (slice (c .at) (c .first) text) (slice (c .first + 1) (c .second) text) (slice (c .second + 1) (c .end) text) (drop (c .end + 1) text)
-partsIn text Other = other
+-- the letter of a field of one byte; 0, which is no letter, of any other
+unfoldable pub letterOf : List ℕ → ℕ
+letterOf [] = 0
+letterOf (b ∷ []) = b
+letterOf (b ∷ c ∷ s) = 0
 
--- the cuts of a split begin at the position given, and lie in the text
-abbrev pub CutFrom : List ℕ → ℕ → Split → Type 0
-CutFrom text at (Three c) = (c .at ≡ at) × Cut text c
-CutFrom text at Other = Unit {0}
-
-pub record SplitAs (text : List ℕ) (at : ℕ) (r : Split) : Type 0 where
-  pub parts : partsIn text r ≡ partsOf (drop at text)
-  pub cut : CutFrom text at r
+-- the number of the digits, behind digits of value n
+unfoldable pub numeral : ℕ → List ℕ → Option ℕ
+numeral n ds = cond (digitsOnly ds && leb (decimal n ds) numberMost) (some (decimal n ds)) none
 
 abbrev pub numberFrom : Number → Option ℕ
 numberFrom (Is n) = some n
 numberFrom Bad = none
-
--- the next line begins behind the one that begins at a position
-pub record Onward (text : List ℕ) (at next : ℕ) : Type 0 where
-  pub further : at < next
-  pub inside : next ≤ length text
-  pub behind : drop next text ≡ behindLine (drop at text)

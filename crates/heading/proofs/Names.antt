@@ -8,12 +8,12 @@ use borrow.Author.Tests.{lt-ltb, le-ltb}
 use lib.ListN.{getD}
 use Rattle.model.specs.Bounded.{same}
 use Rattle.model.specs.Text.{ascii, placeOf, columnsOf, areColumns, headingOf}
-use Rattle.fields.specs.Scan.{firstLine}
-use Rattle.fields.specs.Fields.{fieldsIn, SplitAs, Onward}
-use Rattle.fields.specs.declared.Cuts.{Cuts}
-use Rattle.fields.specs.declared.Split.{Split}
-use Rattle.fields.specs.declared.Split.the-variants.{Three, Other}
-use Rattle.fields.proofs.Lines.{line-ended, line-fields, line-other, onward}
+use Rattle.line.specs.Scan.{firstLine}
+use Rattle.line.specs.Parts.{fieldsIn, SplitAs, Onward}
+use Rattle.line.specs.declared.Cuts.{Cuts}
+use Rattle.line.specs.declared.Split.{Split}
+use Rattle.line.specs.declared.Split.the-variants.{Three, Other}
+use Rattle.line.proofs.Lines.{line-ended, line-fields, line-other, onward}
 use Rattle.heading.specs.Names.{columnsNamed, HeadingIn, HeadingAs, headingFrom, NamedFrom}
 use Rattle.heading.specs.declared.Heading.{Heading}
 use Rattle.heading.specs.declared.Heading.the-variants.{Named, Unnamed}

@@ -6,9 +6,9 @@ use mathlib.Core.List.{List}
 use mathlib.Core.Option.{Option, none, some}
 use Rattle.model.specs.Text.{headingOf, columnsOf, areColumns}
 use Rattle.model.specs.Text as text
-use Rattle.fields.specs.Scan.{firstLine}
-use Rattle.fields.specs.Fields.{fieldsIn, Onward}
-use Rattle.fields.specs.declared.Cuts.{Cuts}
+use Rattle.line.specs.Scan.{firstLine}
+use Rattle.line.specs.Parts.{fieldsIn, Onward}
+use Rattle.line.specs.declared.Cuts.{Cuts}
 use Rattle.heading.specs.declared.Columns.{Columns}
 use Rattle.heading.specs.declared.Heading.{Heading}
 use Rattle.heading.specs.declared.Heading.the-variants.{Named, Unnamed}

@@ -1,9 +1,9 @@
 // The heading (refusal 4): which field of each row is its kind, its one and its two.
-use fields::Cuts;
-use fields::Split;
+use line::Cuts;
+use line::Split;
 ghost use mathlib.Core.Path.{_≡_};
 ghost use Rattle.model.specs.Text.{placeOf};
-ghost use Rattle.fields.specs.Fields.{Cut, fieldsIn};
+ghost use Rattle.line.specs.Parts.{Cut, fieldsIn};
 ghost use Rattle.heading.specs.Names.{HeadingAs, HeadingIn};
 
 pub struct Columns {
@@ -22,7 +22,7 @@ pub enum Heading {
 pub fn heading_of(text: &[u8]) -> Heading
     ensures { λ r. ⌜ HeadingAs (now (text .entry)) r ⌝ }
 {
-    let Split::Three(cuts) = fields::cut(text, 0) else {
+    let Split::Three(cuts) = line::cut(text, 0) else {
         return Heading::Unnamed;
     };
     columns_in(text, cuts)

@@ -14,14 +14,15 @@ use lib.Dec.{T, eqb, leb}
 use lib.ListN.{length, drop, getD}
 use Rattle.model.specs.Text.{numberOf}
 use Rattle.model.specs.Rows.{block, formed, fromFields, rowOf}
-use Rattle.fields.specs.Scan.{firstLine, letterOf}
-use Rattle.fields.specs.Fields.{fieldsIn, SplitAs, numberFrom}
-use Rattle.fields.specs.declared.Cuts.{Cuts}
-use Rattle.fields.specs.declared.Split.{Split}
-use Rattle.fields.specs.declared.Split.the-variants.{Three, Other}
+use Rattle.line.specs.Scan.{firstLine}
+use Rattle.line.specs.Parts.{fieldsIn, SplitAs}
+use Rattle.fields.specs.Fields.{letterOf, numberFrom}
+use Rattle.line.specs.declared.Cuts.{Cuts}
+use Rattle.line.specs.declared.Split.{Split}
+use Rattle.line.specs.declared.Split.the-variants.{Three, Other}
 use Rattle.fields.specs.declared.Number.{Number}
 use Rattle.fields.specs.declared.Number.the-variants.{Is, Bad}
-use Rattle.fields.proofs.Lines.{cut-known, line-ended, line-fields, line-other, onward}
+use Rattle.line.proofs.Lines.{cut-known, line-ended, line-fields, line-other, onward}
 use Rattle.heading.specs.Names.{columnsFrom}
 use Rattle.heading.specs.declared.Columns.{Columns}
 use Rattle.place.specs.Letters.{rowFrom}

@@ -12,7 +12,7 @@ use Rattle.model.specs.Refusal.{ok, refusal, rowRefusal, placeRefusal}
 use Rattle.model.specs.Text.{Line, Columns}
 use Rattle.model.specs.Rows.{Row, rowOf}
 use Rattle.model.specs.Place.{lineOf}
-use Rattle.fields.specs.Scan.{firstLine}
+use Rattle.line.specs.Scan.{firstLine}
 use Rattle.place.specs.Letters.{rowFrom}
 use Rattle.place.specs.Stand.{Stand, standOf, stoodAt, placedAs, PlaceAs}
 use Rattle.place.specs.declared.Placed.{Placed}

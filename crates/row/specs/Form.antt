@@ -6,8 +6,8 @@ use mathlib.Core.Option.{Option, none, some}
 use lib.ListN.{drop}
 use Rattle.model.specs.Text.{Columns}
 use Rattle.model.specs.Rows.{Row, rowOf}
-use Rattle.fields.specs.Scan.{firstLine}
-use Rattle.fields.specs.Fields.{Onward}
+use Rattle.line.specs.Scan.{firstLine}
+use Rattle.line.specs.Parts.{Onward}
 use Rattle.place.specs.Letters.{rowFrom}
 use Rattle.row.specs.declared.Reading.{Reading}
 use Rattle.row.specs.declared.Reading.the-variants as reading

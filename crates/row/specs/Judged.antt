@@ -11,8 +11,8 @@ use Rattle.model.specs.Refusal.{Out, ok, refusal, rowRefusal, placeRefusal}
 use Rattle.model.specs.Text.{Line, Columns}
 use Rattle.model.specs.Rows.{Row, rowOf}
 use Rattle.model.specs.Place.{lineOf}
-use Rattle.fields.specs.Scan.{firstLine}
-use Rattle.fields.specs.Fields.{Onward}
+use Rattle.line.specs.Scan.{firstLine}
+use Rattle.line.specs.Parts.{Onward}
 use Rattle.place.specs.Letters.{rowFrom}
 use Rattle.place.specs.Stand.{Stand, stoodAt, standOf}
 use Rattle.row.specs.declared.Step.{Step}

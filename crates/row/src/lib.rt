@@ -1,7 +1,7 @@
 // A row: its form (refusal 5), a letter and two numbers in the heading's order, ahead of its place (refusal 6).
 use fields::Number;
-use fields::Split;
 use heading::Columns;
+use line::Split;
 use model::EVENTS_MOST;
 use model::SHEETS;
 use place::Placed;
@@ -60,7 +60,7 @@ fn row_at(text: &[u8], at: usize, columns: Columns) -> Reading
     requires { ⌜ (at ≤ length (now text)) × Below columns ⌝ }
     ensures { λ r. ⌜ RowAs (columnsFrom columns) (now (text .entry)) at r ⌝ }
 {
-    let Split::Three(cuts) = fields::cut(text, at) else {
+    let Split::Three(cuts) = line::cut(text, at) else {
         return Reading::Malformed;
     };
     let kind = fields::letter_in(text, cuts, columns.kind);

@@ -12,8 +12,8 @@ use Rattle.model.specs.Refusal.{Out, ok, refusal}
 use Rattle.model.specs.Text.{Line, Columns, linesOf}
 use Rattle.model.specs.Rows.{Row}
 use Rattle.model.specs.Place.{lineOf}
-use Rattle.fields.specs.Scan.{firstLine, behindLine}
-use Rattle.fields.proofs.Lines.{lines-at}
+use Rattle.line.specs.Scan.{firstLine, behindLine}
+use Rattle.line.proofs.Lines.{lines-at}
 use Rattle.row.specs.Judged.{judgedBy, StepAs}
 use Rattle.row.specs.declared.Step.{Step}
 use Rattle.row.specs.declared.Step.the-variants as step

@@ -10,9 +10,9 @@ use Rattle.model.specs.Limits.{textMost}
 use Rattle.model.specs.Refusal.{refusal, andThen, lengthRefusal, headingRefusal}
 use Rattle.model.specs.Text.{linesOf, headingOf}
 use Rattle.model.specs.Place.{outside, rowsFrom, complete, bodyOf, readOf}
-use Rattle.fields.specs.Scan.{firstLine, behindLine}
-use Rattle.fields.specs.Fields.{Onward}
-use Rattle.fields.proofs.Lines.{lines-at}
+use Rattle.line.specs.Scan.{firstLine, behindLine}
+use Rattle.line.specs.Parts.{Onward}
+use Rattle.line.proofs.Lines.{lines-at}
 use Rattle.heading.specs.Names.{columnsFrom, headingFrom, HeadingAs, Below}
 use Rattle.heading.specs.declared.Columns.{Columns}
 use Rattle.heading.specs.declared.Heading.{Heading}

@@ -1,5 +1,5 @@
 -- `heading_of` meets its contract. Assumes nothing.
-use Rattle.fields.proofs.Lines.{cut-known}
+use Rattle.line.proofs.Lines.{cut-known}
 use Rattle.heading.proofs.Names.{heading-split, heading-unsplit}
 use borrow.Author.Needs.{needs}
 use Rattle.heading.proofs.heading_of.Statement.{statement}

@@ -1,5 +1,5 @@
 -- `row_at` meets its contract. Assumes nothing.
-use Rattle.fields.proofs.Lines.{cut-known}
+use Rattle.line.proofs.Lines.{cut-known}
 use Rattle.row.proofs.Forms.{next-fits, row-unsplit, row-no-one, row-no-two, row-formed, row-unformed}
 use borrow.Author.Needs.{needs}
 use Rattle.row.proofs.row_at.Statement.{statement}

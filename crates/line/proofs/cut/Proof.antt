@@ -1,8 +1,8 @@
 -- `cut` meets its contract. Assumes nothing.
-use Rattle.fields.proofs.Spans.{begun-inside, cut-one, cut-two, cut-three, cut-whole}
+use Rattle.line.proofs.Cutting.{begun-inside, cut-one, cut-two, cut-three, cut-whole}
 use borrow.Author.Needs.{needs}
-use Rattle.fields.proofs.cut.Statement.{statement}
-use Rattle.fields.proofs.cut.Tie as tie
+use Rattle.line.proofs.cut.Statement.{statement}
+use Rattle.line.proofs.cut.Tie as tie
 
 field-end-requires : tie.Need-field-end-requires
 field-end-requires c κs = search needs

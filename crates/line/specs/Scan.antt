@@ -1,12 +1,10 @@
 -- Code-shaped twins of the model's lines and fields, structural on the bytes from a position on: what the scan of a text meets.
 -- Assumes nothing.
 use Prim.Native.Nat.{ℕ}
-use mathlib.Core.Bool.{Bool, true, false, cond, _||_, _&&_}
+use mathlib.Core.Bool.{Bool, true, false, cond, _||_}
 use mathlib.Core.List.{List, [], _∷_}
-use mathlib.Core.Option.{Option, none, some}
-use lib.Dec.{eqb, leb}
-use Rattle.model.specs.Limits.{numberMost}
-use Rattle.model.specs.Text.{Line, lineEnd, space, digitsOnly, decimal}
+use lib.Dec.{eqb}
+use Rattle.model.specs.Text.{Line, lineEnd, space}
 
 -- the line that the bytes begin with, and the bytes behind it
 unfoldable pub firstLine : List ℕ → Line
@@ -51,13 +49,3 @@ partsOf s =
     behindByte space (behindField s) (λ t.
     behindByte space (behindField t) (λ u.
     behindByte lineEnd (behindField u) (λ rest. three (firstField s) (firstField t) (firstField u) rest)))
-
--- the letter of a field of one byte; 0, which is no letter, of any other
-unfoldable pub letterOf : List ℕ → ℕ
-letterOf [] = 0
-letterOf (b ∷ []) = b
-letterOf (b ∷ c ∷ s) = 0
-
--- the number of the digits, behind digits of value n
-unfoldable pub numeral : ℕ → List ℕ → Option ℕ
-numeral n ds = cond (digitsOnly ds && leb (decimal n ds) numberMost) (some (decimal n ds)) none

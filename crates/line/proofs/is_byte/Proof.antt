@@ -1,8 +1,8 @@
 -- `is_byte` meets its contract. Assumes nothing.
-use Rattle.fields.proofs.Scan.{begins-in, begins-out}
+use Rattle.line.proofs.Scan.{begins-in, begins-out}
 use borrow.Author.Needs.{needs}
-use Rattle.fields.proofs.is_byte.Statement.{statement}
-use Rattle.fields.proofs.is_byte.Tie as tie
+use Rattle.line.proofs.is_byte.Statement.{statement}
+use Rattle.line.proofs.is_byte.Tie as tie
 
 shared-slice-read-result : tie.Need-shared-slice-read-result
 shared-slice-read-result c = search needs

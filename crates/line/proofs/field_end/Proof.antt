@@ -2,9 +2,9 @@
 use borrow.Author.Needs.{needs}
 use Prim.Native.Nat.{_-_}
 use lib.ListN.{length}
-use Rattle.fields.proofs.Scan.{Scanned, scan-begin, scan-more, scan-end, scan-space, scan-line-end}
-use Rattle.fields.proofs.field_end.Statement.{statement}
-use Rattle.fields.proofs.field_end.Tie as tie
+use Rattle.line.proofs.Scan.{Scanned, scan-begin, scan-more, scan-end, scan-space, scan-line-end}
+use Rattle.line.proofs.field_end.Statement.{statement}
+use Rattle.line.proofs.field_end.Tie as tie
 
 abbrev Inv-loop : tie.InvT-loop
 Inv-loop text at i₀ i = Scanned text at i

@@ -9,11 +9,11 @@ use lib.Dec.{eqb}
 use lib.ListN.{length, getD, drop}
 use lib.Seq.{drop-cons}
 use Rattle.model.specs.Text.{lineEnd, space, linesOf, aheadOfLine, fieldsOf, aheadOfField}
-use Rattle.fields.specs.Scan.{firstLine, behindLine, firstField, behindField, behindByte, Parts, three, other, partsOf}
-use Rattle.fields.specs.Fields.{Cut, fieldsIn, partsIn, SplitAs, Onward}
-use Rattle.fields.specs.declared.Cuts.{Cuts}
-use Rattle.fields.specs.declared.Split.{Split}
-use Rattle.fields.specs.declared.Split.the-variants.{Three, Other}
+use Rattle.line.specs.Scan.{firstLine, behindLine, firstField, behindField, behindByte, Parts, three, other, partsOf}
+use Rattle.line.specs.Parts.{Cut, fieldsIn, partsIn, SplitAs, Onward}
+use Rattle.line.specs.declared.Cuts.{Cuts}
+use Rattle.line.specs.declared.Split.{Split}
+use Rattle.line.specs.declared.Split.the-variants.{Three, Other}
 
 -- a text that is not empty is its first line and the lines behind it
 lines-cons : (b : ℕ) (s : List ℕ) → linesOf (b ∷ s) ≡ firstLine (b ∷ s) ∷ linesOf (behindLine (b ∷ s))

@@ -14,7 +14,7 @@ use Rattle.line.specs.declared.Cuts.{Cuts}
 use Rattle.line.specs.declared.Split.{Split}
 use Rattle.line.specs.declared.Split.the-variants.{Three, Other}
 use Rattle.line.proofs.Lines.{line-ended, line-fields, line-other, onward}
-use Rattle.heading.specs.Names.{columnsNamed, HeadingIn, HeadingAs, headingFrom, NamedFrom}
+use Rattle.heading.specs.Names.{columnsNamed, HeadingIn, HeadingAs, NamedFrom}
 use Rattle.heading.specs.declared.Heading.{Heading}
 use Rattle.heading.specs.declared.Heading.the-variants.{Named, Unnamed}
 

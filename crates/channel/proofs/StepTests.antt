@@ -16,9 +16,9 @@ use Rattle.board.specs.Boards.{boardsMost}
 use Rattle.board.specs.Masks.{Standing}
 use Rattle.run.specs.declared.Buffer.{Buffer}
 use Rattle.run.specs.declared.Run.{Run}
-use Rattle.run.specs.declared.step.Step.{Step}
-use Rattle.run.specs.declared.step.Step.the-variants.{Send, Deliver, Consume}
-use Rattle.run.specs.Step.{messageIn, eventIn}
+use Rattle.step.specs.declared.Step.{Step}
+use Rattle.step.specs.declared.Step.the-variants.{Send, Deliver, Consume}
+use Rattle.step.specs.Steps.{messageIn, eventIn}
 use Rattle.run.specs.State.{inRow}
 use Rattle.rules.specs.Tests.{freeIn}
 use Rattle.rules.specs.Rules.{SaysReady, SaysSendRule, SaysDeliverRule}

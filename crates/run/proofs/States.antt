@@ -22,10 +22,10 @@ use Rattle.relation.proofs.Tests.{eqb-same}
 use Rattle.relation.proofs.Words.{alone-row}
 use Rattle.run.specs.declared.Buffer.{Buffer}
 use Rattle.run.specs.declared.Run.{Run}
-use Rattle.run.specs.declared.step.Step.{Step}
-use Rattle.run.specs.declared.step.Step.the-variants.{Send, Deliver, Consume}
-use Rattle.run.specs.Step.{stepIn, messageIn, Reaches}
-use Rattle.run.specs.State.{inRow, With, Without, DoneBehind, WayBehind, HeldBehind, bufferOf, stateOf, Follows}
+use Rattle.step.specs.declared.Step.{Step}
+use Rattle.step.specs.declared.Step.the-variants.{Send, Deliver, Consume}
+use Rattle.step.specs.Steps.{stepIn, messageIn}
+use Rattle.run.specs.State.{inRow, With, Without, DoneBehind, WayBehind, HeldBehind, bufferOf, stateOf, Reaches, Follows}
 use Rattle.run.proofs.Run.{the-row}
 
 -- a message is the bit of its send

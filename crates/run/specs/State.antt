@@ -2,19 +2,22 @@
 use mathlib.Core.Path.{_≡_}
 use mathlib.Core.Bool.{Bool, not, _&&_, _||_}
 use mathlib.Core.List.{List, []}
-use Prim.Native.Nat.{ℕ, _+_, _*_}
+use Prim.Native.Nat.{ℕ, _+_, _*_, _<_}
 use lib.Dec.{eqb}
-use lib.ListN.{getD}
+use lib.ListN.{length, getD}
+use Rattle.model.specs.Limits.{messagesMost}
 use Rattle.model.specs.Order.{number}
 use Rattle.model.specs.Run as model
 use Rattle.model.specs.Run.{State, next}
 use Rattle.relation.specs.Width.{width}
 use Rattle.relation.specs.Rows.{holds}
 use Rattle.relation.specs.Scenario.{scenarioIn}
+use Rattle.board.specs.Boards.{boardsMost}
+use Rattle.step.specs.Steps.{messageIn}
 use Rattle.run.specs.declared.Buffer.{Buffer}
 use Rattle.run.specs.declared.Run.{Run}
-use Rattle.run.specs.declared.step.Step.{Step}
-use Rattle.run.specs.declared.step.Step.the-variants as step
+use Rattle.step.specs.declared.Step.{Step}
+use Rattle.step.specs.declared.Step.the-variants as step
 
 -- event k is in a row that stands by itself
 abbrev pub inRow : List ℕ → ℕ → Bool
@@ -55,6 +58,12 @@ stateOf run =
       underWay = λ m. inRow (run .way) (2 * m);
       holds = λ b m. inRow (bufferOf run b .held) (2 * m);
     }
+
+-- the step's message has a receiver, event k being on board `getD on k 0`
+pub record Reaches (on : List ℕ) (s : Step) : Type 0 where
+  pub few : messageIn s < messagesMost
+  pub long : 2 * messageIn s + 1 < length on
+  pub below : getD on (2 * messageIn s + 1) 0 < boardsMost
 
 -- the state behind a step, event k being on board `getD on k 0`, whatever else the scenario has
 abbrev pub Follows : List ℕ → Run → model.Step → Run → Type 0

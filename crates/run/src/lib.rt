@@ -1,20 +1,17 @@
 // The state of a run, and the state behind a step.
+mod row;
+
 ghost use mathlib.Core.Path.{_≡_};
 ghost use Prim.Native.Nat.{_<_};
 ghost use Rattle.model.specs.Limits.{messagesMost};
 ghost use Rattle.model.specs.Run.{start};
-ghost use Rattle.run.specs.Step.{stepIn, messageIn, Reaches};
-ghost use Rattle.run.specs.State.{stateOf, DoneBehind, WayBehind, HeldBehind, Follows};
+ghost use Rattle.step.specs.Steps.{stepIn, messageIn};
+ghost use Rattle.run.specs.State.{stateOf, DoneBehind, WayBehind, HeldBehind, Reaches, Follows};
 use crate::row::with;
+pub use crate::row::without;
 use board::board_of;
 use relation::WIDTH;
-
-mod row;
-mod step;
-
-pub use crate::row::without;
-pub use crate::step::Step;
-pub use crate::step::StepOrNone;
+use step::Step;
 
 // The messages that a board's buffer holds, as bits of their sends.
 pub struct Buffer {

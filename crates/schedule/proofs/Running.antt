@@ -17,11 +17,11 @@ use Rattle.channel_table.specs.declared.Channel as channel
 use Rattle.channel_table.specs.Table.{channelIn}
 use Rattle.board.specs.Masks.{Standing}
 use Rattle.run.specs.declared.Run.{Run}
-use Rattle.run.specs.declared.step.Step as code
-use Rattle.run.specs.declared.step.StepOrNone.{StepOrNone}
-use Rattle.run.specs.declared.step.StepOrNone.the-variants as maybe
-use Rattle.run.specs.Step.{stepIn, messageIn, stepOrNone, Reaches}
-use Rattle.run.specs.State.{stateOf, Follows}
+use Rattle.step.specs.declared.Step as code
+use Rattle.step.specs.declared.StepOrNone.{StepOrNone}
+use Rattle.step.specs.declared.StepOrNone.the-variants as maybe
+use Rattle.step.specs.Steps.{stepIn, messageIn, stepOrNone}
+use Rattle.run.specs.State.{stateOf, Reaches, Follows}
 use Rattle.schedule.specs.Search.{Chosen}
 use Rattle.schedule.specs.Schedule.{Scheduled}
 use Rattle.schedule.proofs.Searching.{chosen-inside}

@@ -23,10 +23,10 @@ use Rattle.board.specs.Boards.{boardsMost}
 use Rattle.board.specs.Masks.{Standing}
 use Rattle.run.specs.declared.Buffer.{Buffer}
 use Rattle.run.specs.declared.Run.{Run}
-use Rattle.run.specs.declared.step.Step as code
-use Rattle.run.specs.declared.step.StepOrNone.{StepOrNone}
-use Rattle.run.specs.declared.step.StepOrNone.the-variants as maybe
-use Rattle.run.specs.Step.{stepIn, messageIn, eventIn, stepOrNone}
+use Rattle.step.specs.declared.Step as code
+use Rattle.step.specs.declared.StepOrNone.{StepOrNone}
+use Rattle.step.specs.declared.StepOrNone.the-variants as maybe
+use Rattle.step.specs.Steps.{stepIn, messageIn, eventIn, stepOrNone}
 use Rattle.run.specs.State.{bufferOf, stateOf}
 use Rattle.buffers.specs.Held.{HeldIn}
 use Rattle.candidates.specs.declared.classes.Class.{Class}

@@ -1,7 +1,7 @@
--- `run::step::Step::told` meets its contract. Assumes nothing.
-use Rattle.run.proofs.Steps.{other-kind}
-use Rattle.run.proofs.step.Step.told.Statement.{statement}
-use Rattle.run.proofs.step.Step.told.Tie as tie
+-- `step::Step::told` meets its contract. Assumes nothing.
+use Rattle.step.proofs.Steps.{other-kind}
+use Rattle.step.proofs.Step.told.Statement.{statement}
+use Rattle.step.proofs.Step.told.Tie as tie
 
 returns : tie.Need-returns
 returns c = rw (c .match .keys1)

@@ -1,8 +1,8 @@
--- `run::step::Step::event` meets its contract. Assumes nothing.
+-- `step::Step::event` meets its contract. Assumes nothing.
 use borrow.Author.Needs.{needs}
-use Rattle.run.proofs.Steps.{event-send, event-deliver, event-consume}
-use Rattle.run.proofs.step.Step.event.Statement.{statement}
-use Rattle.run.proofs.step.Step.event.Tie as tie
+use Rattle.step.proofs.Steps.{event-send, event-deliver, event-consume}
+use Rattle.step.proofs.Step.event.Statement.{statement}
+use Rattle.step.proofs.Step.event.Tie as tie
 
 message-requires : tie.Need-message-requires
 message-requires c κs = search needs

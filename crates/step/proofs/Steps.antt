@@ -3,9 +3,9 @@ use mathlib.Core.Path.{_≡_, refl}
 use mathlib.Core.Option.{none}
 use Prim.Native.Nat.{ℕ, zero, suc, _+_, _*_}
 use Rattle.model.specs.Schedule.{stepTold}
-use Rattle.run.specs.declared.step.Step.{Step}
-use Rattle.run.specs.declared.step.Step.the-variants.{Send, Deliver, Consume}
-use Rattle.run.specs.Step.{messageIn, eventIn}
+use Rattle.step.specs.declared.Step.{Step}
+use Rattle.step.specs.declared.Step.the-variants.{Send, Deliver, Consume}
+use Rattle.step.specs.Steps.{messageIn, eventIn}
 
 -- what each return of `event` is to show
 module _ (s : Step) (n m : ℕ) where

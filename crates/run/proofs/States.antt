@@ -1,5 +1,5 @@
 -- The run state behind each step is the model's. Assumes nothing.
-use mathlib.Core.Path.{_≡_, refl, sym, ap, _∙_, fun-ext, subst, subst⁻¹}
+use mathlib.Core.Path.{_≡_, refl, ap, _∙_, fun-ext, subst, subst⁻¹}
 use mathlib.Core.Bool.{Bool, true, false, not, cond, _&&_, _||_, or-comm, or-false, or-true, and-true, and-false}
 use mathlib.Core.List.{List, [], _∷_}
 use Prim.Native.Nat.{ℕ, zero, suc, _+_, _*_, _/_, _%_, _<_}
@@ -20,11 +20,13 @@ use Rattle.relation.specs.Width.{width, wordBits}
 use Rattle.relation.proofs.Bits.{has-zero}
 use Rattle.relation.proofs.Tests.{eqb-same}
 use Rattle.relation.proofs.Words.{alone-row}
+use Rattle.board.specs.Masks.{Standing}
 use Rattle.run.specs.declared.Buffer.{Buffer}
 use Rattle.run.specs.declared.Run.{Run}
 use Rattle.step.specs.declared.Step.{Step}
 use Rattle.step.specs.declared.Step.the-variants.{Send, Deliver, Consume}
-use Rattle.step.specs.Steps.{stepIn, messageIn}
+use Rattle.step.specs.Steps.{stepIn, messageIn, eventIn}
+use Rattle.step.proofs.Steps.{event-inside}
 use Rattle.run.specs.State.{inRow, With, Without, DoneBehind, WayBehind, HeldBehind, bufferOf, stateOf, Reaches, Follows}
 use Rattle.run.proofs.Run.{the-row}
 
@@ -99,6 +101,22 @@ buffer-read run b at other e h = rw (← e) (getD-inside (run .buffers) b (recor
 -- the buffer of a board that there is, whatever stands for one that there is not
 there : (run : Run) (b : ℕ) (other : Buffer) → b < length (run .buffers) → getD (run .buffers) b other .held ≡ bufferOf run b .held
 there run b other inside = ap (λ (u : Buffer). u .held) (getD-inside (run .buffers) b other (record { held = [] }) inside)
+
+-- A step on a message of the scenario reaches a board; its event is one of the scenario's, and the board of that has a buffer.
+module _ (count : ℕ) (on words masks : List ℕ) (s : Step) where
+  pub reaches : Standing count on words masks → messageIn s < count → Reaches on s
+  reaches t h =
+      record {
+        few = omega (arith, t .few);
+        long = omega (arith, t .boardsLong);
+        below = t .boardsBelow (2 * messageIn s + 1) (omega arith);
+      }
+
+  pub event-below : (x : ℕ) → x ≡ eventIn s → Standing count on words masks → messageIn s < count → x < length on
+  event-below x i t h = omega (arith, t .boardsLong, event-inside s count h)
+
+  pub board-below : (x b : ℕ) → b ≡ getD on x 0 → x ≡ eventIn s → Standing count on words masks → messageIn s < count → b < boards
+  board-below x b e i t h = rw (e, i) (t .boardsBelow (eventIn s) (event-inside s count h))
 
 -- the receiver's board, as it is read, has a buffer
 pub target-inside : (on : List ℕ) (s : Step) (m b : ℕ) → b ≡ getD on (2 * m + 1) 0 → m ≡ messageIn s → Reaches on s → b < boards

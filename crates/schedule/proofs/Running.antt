@@ -22,6 +22,7 @@ use Rattle.step.specs.declared.StepOrNone.{StepOrNone}
 use Rattle.step.specs.declared.StepOrNone.the-variants as maybe
 use Rattle.step.specs.Steps.{stepIn, messageIn, stepOrNone}
 use Rattle.run.specs.State.{stateOf, Reaches, Follows}
+use Rattle.run.proofs.States.{reaches}
 use Rattle.schedule.specs.Search.{Chosen}
 use Rattle.schedule.specs.Schedule.{Scheduled}
 use Rattle.schedule.proofs.Searching.{chosen-inside}
@@ -161,13 +162,7 @@ module _ (count : ℕ) (boards words : List ℕ) (c : channel.Channel) (e : ℕ)
     step-inside = chosen-inside S (channelIn c) (classesFor S e) (stateOf run) (stepIn s) taken
 
     pub step-reaches : (masks : List ℕ) → Standing count boards words masks → Reaches boards s
-    step-reaches masks t =
-        let l : messageIn s < count = step-inside in
-        record {
-          few = omega (arith, t .few);
-          long = omega (arith, t .boardsLong);
-          below = t .boardsBelow (2 * messageIn s + 1) (omega arith);
-        }
+    step-reaches masks t = reaches count boards words masks s t step-inside
 
     pub step-few : (masks : List ℕ) → Standing count boards words masks → messageIn s < messagesMost
     step-few masks t = step-reaches masks t .few

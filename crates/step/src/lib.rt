@@ -2,7 +2,7 @@
 ghost use mathlib.Core.Path.{_≡_};
 ghost use Prim.Native.Nat.{_<_};
 ghost use Rattle.model.specs.Limits.{messagesMost};
-ghost use Rattle.model.specs.Schedule.{kindOf, messageOfStep, stepTold};
+ghost use Rattle.model.specs.Schedule.{kindOf, stepTold};
 ghost use Rattle.step.specs.Steps.{stepIn, messageIn, eventIn, stepOrNone};
 
 // A message is sent, delivered or consumed.

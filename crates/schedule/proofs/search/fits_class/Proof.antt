@@ -24,7 +24,7 @@ board-of-requires : tie.Need-board-of-requires
 board-of-requires c κs = search (event-below, message-below)
 
 buffer-at-requires : tie.Need-buffer-at-requires
-buffer-at-requires c κs = search (board-below, message-below)
+buffer-at-requires c κs = search (board-below, message-below, needs)
 
 allowed-requires : tie.Need-allowed-requires
 allowed-requires c κs = (search needs, search message-below)

@@ -3,39 +3,37 @@ use mathlib.Core.Path.{_≡_, refl, sym, _∙_, ap, subst, subst⁻¹}
 use mathlib.Core.Bool.{Bool, true, false, not, _&&_}
 use mathlib.Core.List.{List, [], _∷_}
 use mathlib.Core.Option.{Option, none, some}
-use Prim.Native.Nat.{ℕ, zero, suc, _+_, _*_, _<_, _≤_}
+use Prim.Native.Nat.{ℕ, zero, suc, _+_, _<_, _≤_}
 use native.Mathlib.Omega.{arith}
 use native.Mathlib.Decide.{ℕ-discrete, decLt}
-use lib.ListN.{length, getD, drop}
-use borrow.Author.Tests.{not-true, not-false, le-ltb}
+use lib.ListN.{getD, drop}
+use borrow.Author.Tests.{not-true, not-false}
 use Rattle.model.specs.Limits.{messagesMost}
 use Rattle.model.specs.Bounded.{lowest}
 use Rattle.model.specs.Order.{Scenario}
 use Rattle.model.specs.Channel as model
-use Rattle.model.specs.Run.{State, Step, send, deliver, consume, allowed}
+use Rattle.model.specs.Run.{State, Step, allowed}
 use Rattle.model.specs.Schedule as plan
 use Rattle.model.specs.Schedule.{classesFor, choose, messageOfStep}
 use Rattle.model.proofs.Bounded.{and-right, not-both, lowest-hit, lowest-miss, lowest-some}
 use Rattle.relation.specs.Scenario.{scenarioIn}
 use Rattle.channel_table.specs.declared.Channel.{Channel}
 use Rattle.channel_table.specs.Table.{channelIn}
-use Rattle.board.specs.Boards.{boardsMost}
-use Rattle.board.specs.Masks.{Standing}
 use Rattle.run.specs.declared.Buffer.{Buffer}
 use Rattle.run.specs.declared.Run.{Run}
-use Rattle.run.specs.declared.step.Step as code
-use Rattle.run.specs.declared.step.StepOrNone.{StepOrNone}
-use Rattle.run.specs.declared.step.StepOrNone.the-variants as maybe
-use Rattle.run.specs.Step.{stepIn, messageIn, eventIn, stepOrNone}
+use Rattle.step.specs.declared.Step as code
+use Rattle.step.specs.declared.StepOrNone.{StepOrNone}
+use Rattle.step.specs.declared.StepOrNone.the-variants as maybe
+use Rattle.step.specs.Steps.{stepIn, messageIn, eventIn, stepOrNone}
 use Rattle.run.specs.State.{bufferOf, stateOf}
 use Rattle.buffers.specs.Held.{HeldIn}
 use Rattle.candidates.specs.declared.classes.Class.{Class}
-use Rattle.candidates.specs.declared.classes.Class.the-variants.{AnyConsume, DeliveryOf, NeededDelivery, NeededSend, AnyDelivery, AnySend}
+use Rattle.candidates.specs.declared.classes.Class.the-variants.{AnySend}
 use Rattle.candidates.specs.Classes.{classIn, stepFor}
 use Rattle.candidates.specs.Candidates.{fits, OfRuns, Candidates, NextIn}
 use Rattle.candidates.proofs.EachClass.{step-is, message-is}
 use Rattle.channel.specs.Steps.{SaysStep}
-use Rattle.channel.proofs.StepTests.{event-inside}
+use Rattle.channel.proofs.StepTests.{unknown-step}
 use Rattle.schedule.specs.Search.{classAt, Fits, Lowest, Chosen}
 
 -- the class behind the first five is the last
@@ -48,20 +46,9 @@ last-class (suc (suc (suc (suc zero)))) a b c d e = absurd (e refl)
 last-class (suc (suc (suc (suc (suc zero))))) a b c d e = refl
 last-class (suc (suc (suc (suc (suc (suc k)))))) a b c d e = refl
 
--- The step of a class on a message of the scenario: its message, its event, and the buffer of its board.
-module _ (q : Class) (m : ℕ) (step : code.Step) (i : step ≡ stepFor q m) where
-  same-message : messageIn step ≡ m
-  same-message = rw i (message-is q m)
-
-  pub message-below : (count : ℕ) → m < count → messageIn step < count
-  message-below count l = rw same-message l
-
-  module _ (count : ℕ) (boards words masks : List ℕ) (s : Standing count boards words masks) (l : m < count) (x : ℕ) (j : x ≡ eventIn step) where
-    pub event-below : x < length boards
-    event-below = omega (arith, s .boardsLong, j, event-inside step count (message-below count l))
-
-    pub board-below : (b : ℕ) → b ≡ getD boards x 0 → b < boardsMost
-    board-below b e = rw (e, j) (s .boardsBelow (eventIn step) (event-inside step count (message-below count l)))
+-- the step of a class on a message of the scenario
+pub message-below : (q : Class) (m : ℕ) (step : code.Step) (count : ℕ) → step ≡ stepFor q m → m < count → messageIn step < count
+message-below q m step count i l = rw (i, message-is q m) l
 
 -- What each return of `fits_class` is to show.
 module _ (count : ℕ) (boards words : List ℕ) (c : Channel) (done way rows : List ℕ) (e : ℕ) (q : Class) (m : ℕ) where
@@ -107,22 +94,11 @@ module _ (S : Scenario) (c : model.Channel) where
 
   -- a step that is chosen is allowed, so its message is one of the scenario's
   allowed-inside : (s : State) (t : Step) → allowed S c s t ≡ true → messageOfStep t < S .count
-  unfolding allowed
-  allowed-inside s (send m) a = go (decLt m (S .count))
+  allowed-inside s t a = go (decLt (messageOfStep t) (S .count))
     where
-      go : Dec (m < S .count) → m < S .count
+      go : Dec (messageOfStep t < S .count) → messageOfStep t < S .count
       go (yes l) = l
-      go (no g) = not-both (allowed S c s (send m)) a (rw (le-ltb m (S .count) (omega arith)))
-  allowed-inside s (deliver m) a = go (decLt m (S .count))
-    where
-      go : Dec (m < S .count) → m < S .count
-      go (yes l) = l
-      go (no g) = not-both (allowed S c s (deliver m)) a (rw (le-ltb m (S .count) (omega arith)))
-  allowed-inside s (consume m) a = go (decLt m (S .count))
-    where
-      go : Dec (m < S .count) → m < S .count
-      go (yes l) = l
-      go (no g) = not-both (allowed S c s (consume m)) a (rw (le-ltb m (S .count) (omega arith)))
+      go (no g) = not-both (allowed S c s t) a (sym (unknown-step S c s t (omega arith)))
 
   pub chosen-inside : (ks : List plan.Class) (s : State) (t : Step) → choose S c ks s ≡ some t → messageOfStep t < S .count
   chosen-inside [] s t h = let z : none ≡ some t = sym (choose-none s) ∙ h in absurd (let n : _≡_ {A = ℕ} 0 1 = cc in omega arith)

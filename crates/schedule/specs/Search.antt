@@ -9,8 +9,8 @@ use Rattle.relation.specs.Scenario.{scenarioIn}
 use Rattle.channel_table.specs.declared.Channel.{Channel}
 use Rattle.channel_table.specs.Table.{channelIn}
 use Rattle.run.specs.declared.Run.{Run}
-use Rattle.run.specs.declared.step.StepOrNone.{StepOrNone}
-use Rattle.run.specs.Step.{stepOrNone}
+use Rattle.step.specs.declared.StepOrNone.{StepOrNone}
+use Rattle.step.specs.Steps.{stepOrNone}
 use Rattle.run.specs.State.{stateOf}
 use Rattle.candidates.specs.declared.classes.Class.{Class}
 use Rattle.candidates.specs.declared.classes.Class.the-variants.{AnyConsume, DeliveryOf, NeededDelivery, NeededSend, AnyDelivery, AnySend}

@@ -9,7 +9,7 @@ use candidates::Class;
 use channel_table::Channel;
 use relation::WIDTH;
 use run::Run;
-use run::StepOrNone;
+use step::StepOrNone;
 
 // Message m is of the class and its step is allowed, in every run with these parts: what is done, what is under way, and the
 // rows of the buffers.

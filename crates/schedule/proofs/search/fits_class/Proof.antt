@@ -1,6 +1,7 @@
 -- `schedule::search::fits_class` meets its contract. Assumes nothing.
 use borrow.Author.Needs.{needs}
-use Rattle.schedule.proofs.Searching.{message-below, event-below, board-below, other-class, in-class}
+use Rattle.run.proofs.States.{event-below, board-below}
+use Rattle.schedule.proofs.Searching.{message-below, other-class, in-class}
 use Rattle.schedule.proofs.search.fits_class.Statement.{statement}
 use Rattle.schedule.proofs.search.fits_class.Tie as tie
 
@@ -16,14 +17,14 @@ step-of-requires c κs = search needs
 event-requires : tie.Need-event-requires
 event-requires c κs =
     let s = c .before .before .before .before .before .before in
-    let inside = message-below (s .args .class) (s .args .m) _ (c .step-of .ensures) _ (s .pre .1 .1) in
+    let inside = message-below (s .args .class) (s .args .m) _ _ (c .step-of .ensures) (s .pre .1 .1) in
     search needs
 
 board-of-requires : tie.Need-board-of-requires
-board-of-requires c κs = search event-below
+board-of-requires c κs = search (event-below, message-below)
 
 buffer-at-requires : tie.Need-buffer-at-requires
-buffer-at-requires c κs = search board-below
+buffer-at-requires c κs = search (board-below, message-below, needs)
 
 allowed-requires : tie.Need-allowed-requires
 allowed-requires c κs = (search needs, search message-below)

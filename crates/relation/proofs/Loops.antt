@@ -30,9 +30,9 @@ unfolding merged
 merging-start op W l a other b = record { exact = refl; long = refl; most = omega arith }
 
 module _ (op : ℕ → ℕ → ℕ) (W n : ℕ) (l : List ℕ) (a : ℕ) (other : List ℕ) (b : ℕ) (words : List ℕ) (j : Merging op W n l a other b words) (h : n < W)
-    where
-  pub merging-more : Merging op W (n + 1) l a other b (set words (a + n) (op (getD words (a + n) 0) (getD other (b + n) 0)))
-  merging-more = record { exact = rw (j .exact) (merged-more op l a other b n); long = simp length-set (j .long); most = omega arith }
+  where
+    pub merging-more : Merging op W (n + 1) l a other b (set words (a + n) (op (getD words (a + n) 0) (getD other (b + n) 0)))
+    merging-more = record { exact = rw (j .exact) (merged-more op l a other b n); long = simp length-set (j .long); most = omega arith }
 
 pub merging-end : (op : ℕ → ℕ → ℕ) (W n : ℕ) (l : List ℕ) (a : ℕ) (other : List ℕ) (b : ℕ) (words : List ℕ) → Merging op W n l a other b words → W ≤ n
     → words ≡ merged op W l a other b

@@ -1,30 +1,18 @@
--- What the loops over the boards and over a block's events keep, and what each store's parts come to.
+-- What the loop over a block's events keeps, and what the rows of a message come to.
 -- Assumes nothing.
 use Prim.Native.Nat.{ℕ, suc, _+_, _-_, _*_, _<_, _≤_}
 use native.Mathlib.Nat.{le-antisymm, sub-self, mul-le-mul-right}
 use native.Mathlib.Omega.{arith}
 use mathlib.Core.Path.{_≡_, refl, sym, _∙_, ap}
-use mathlib.Core.List.{List, _++_, append-nil}
-use lib.ListN.{length, getD, replicate, drop-of-length-le}
-use Rattle.model.specs.Limits.{boards, messagesMost}
+use mathlib.Core.List.{List}
+use lib.ListN.{length, getD}
+use Rattle.model.specs.Limits.{boards}
 use Rattle.relation.specs.Width.{width}
-use Rattle.relation.specs.Rows.{marked, joined, joinedFrom, cleared}
-use Rattle.relation.proofs.Loops.{Clearing, clearing-end}
+use Rattle.relation.specs.Rows.{marked, joined, joinedFrom, copiedFrom}
 use Rattle.relation.proofs.Marked.{length-marked}
 use Rattle.relation.proofs.Joined.{length-joined-from}
-use Rattle.expansion.specs.Store.{zeros, begun, added, passedAt, passedIn, passed}
-use Rattle.expansion.specs.Room.{storeOf, Room}
-
--- all of a list cleared is so many zeros
-pub cleared-zeros : (n : ℕ) (l : List ℕ) → length l ≡ n → cleared n l ≡ zeros n
-unfolding cleared zeros
-cleared-zeros n l e =
-    ap (λ (r : List ℕ). replicate n 0 ++ r) (drop-of-length-le l {i = n} (omega arith)) ∙ append-nil (replicate n 0)
-
--- so the boards are zeros once the loop over them is done
-pub boards-zero : (l : List ℕ) (i : ℕ) (now : List ℕ) → Clearing (2 * messagesMost) l i now → 2 * messagesMost ≤ i → length l ≡ 2 * messagesMost
-    → now ≡ zeros (2 * messagesMost)
-boards-zero l i now j h e = clearing-end (2 * messagesMost) l i now j h ∙ cleared-zeros (2 * messagesMost) l e
+use Rattle.blocks.specs.Store.{storeOf, begun, added, passedAt, passedIn, passed}
+use Rattle.blocks.specs.Room.{Room}
 
 -- the events from .. e - 1 are past
 pub record Passing (past events words : List ℕ) (from to e : ℕ) (now : List ℕ) : Type 0 where
@@ -79,8 +67,8 @@ module _ (first count : ℕ) (events words past : List ℕ) (from to e : ℕ) (n
 
 -- the rows of a message, part by part
 pub added-parts : (words past w₁ w₂ w₃ w₄ : List ℕ) (m a b : ℕ) → w₄ ≡ marked width w₃ (2 * m + 1) (2 * m) → w₃ ≡ joined width w₂ (2 * m + 1) (2 * m)
-    → w₂ ≡ joinedFrom width w₁ (2 * m + 1) past b
-    → w₁ ≡ joinedFrom width words (2 * m) past a
+    → w₂ ≡ copiedFrom width w₁ (2 * m + 1) past b
+    → w₁ ≡ copiedFrom width words (2 * m) past a
     → w₄ ≡ added width words past m a b
 unfolding added begun
 added-parts words past w₁ w₂ w₃ w₄ m a b d c b′ a′ = rw (d, c, b′, a′)

@@ -5,7 +5,7 @@ use native.Mathlib.Decide.{decLt}
 use native.Mathlib.Omega.{arith}
 use mathlib.Core.Path.{_≡_, refl, sym, _∙_, subst}
 use mathlib.Core.Logic.{_⊎_, inl, inr, ⊎-elim}
-use mathlib.Core.Bool.{Bool, true, false, _&&_, _||_, or-false}
+use mathlib.Core.Bool.{Bool, true, false, not, _&&_, _||_, and-false, or-false}
 use mathlib.Core.List.{List}
 use lib.Dec.{eqb, leb, ltb}
 use lib.ListN.{length, getD}
@@ -20,9 +20,9 @@ use Rattle.relation.specs.Rows.{holds, inserted}
 use Rattle.relation.specs.Order.{before, Within, linked}
 use Rattle.relation.proofs.Inserted.{length-inserted, holds-inserted}
 use Rattle.relation.proofs.Closed.{linked-holds, linked-pair, linked-least, inserted-linked, inserted-closed}
-use Rattle.expansion.specs.Store.{Store, passed, storeOps}
-use Rattle.expansion.proofs.Passed.{length-passed, passed-kept, passed-event, passed-only}
-use Rattle.expansion.proofs.Sim.{Orders, Sim, inRow, bits}
+use Rattle.blocks.specs.Store.{Store, passed, storeOps}
+use Rattle.blocks.proofs.Passed.{length-passed, passed-kept, passed-event, passed-only}
+use Rattle.blocks.proofs.Sim.{Orders, Sim, inRow, bits}
 
 -- a P row between two events of the open block
 module _ (w : Walk) (m : Met) (t : Store) (h : Sound (record { walk = w; kept = m })) (r : Sim w m t) (x₀ y₀ : ℕ)
@@ -60,26 +60,25 @@ module _ (w : Walk) (m : Met) (t : Store) (h : Sound (record { walk = w; kept = 
       go (no f) = absurd (out (omega arith) l)
 
   row-linked : (a b : ℕ) → a < n → b < n → inRow′ a b ≡ linked (inRow t) x′ y′ a b
-  row-linked = inserted-linked width n (t .words) x′ y′ (2 * w .first) n few hx₀ hy₀ room covers
+  row-linked = inserted-linked width n (t .words) x′ y′ (2 * w .first) n few hx₀ hy₀ room covers (r .ordered .closed)
 
   -- a row that is not of the open block is as it was
   row-earlier : (x y : ℕ) → x < bits → y < 2 * w .first → inRow′ x y ≡ inRow t x y
   row-earlier x y hx l =
       holds-inserted width (t .words) x′ y′ (2 * w .first) n y x room (omega (arith, few)) (omega (arith, few)) hx
-      ∙ rw (lt-leb (2 * w .first) y l, or-false)
+      ∙ rw (lt-leb (2 * w .first) y l, and-false, or-false)
 
-  row-inside : (x y : ℕ) → x < bits → inRow′ x y ≡ true → (x < n) × (y < n)
-  row-inside x y hx i =
+  row-inside : (x y : ℕ) → x < bits → y < n → inRow′ x y ≡ true → x < n
+  row-inside x y hx l i =
+      let there = not (holds width (t .words) y′ x′) in
       let range = leb (2 * w .first) y && ltb y n in
       let py = eqb y y′ || holds width (t .words) y y′ in
       let px = eqb x x′ || holds width (t .words) x′ x in
       ⊎-elim
-      (λ p. r .inside x y hx p)
-      (λ p. let q = and-right range (py && px) p in (
-        ⊎-elim (λ e. omega (arith, eqb-true x x′ e)) (λ z. r .inside x x′ hx z .0) (or-cases (eqb x x′) (holds width (t .words) x′ x) (and-right py px q)),
-        ⊎-elim (λ e. omega (arith, eqb-true y y′ e)) (λ z. r .inside y′ y (omega (arith, few)) z .1) (or-cases (eqb y y′) (holds width (t .words) y y′) (and-left py px q)),
-      ))
-      (or-cases (holds width (t .words) y x) (range && (py && px))
+      (λ p. r .inside x y hx l p)
+      (λ p. ⊎-elim (λ e. omega (arith, eqb-true x x′ e)) (λ z. r .inside x x′ hx hx₀ z)
+      (or-cases (eqb x x′) (holds width (t .words) x′ x) (and-right py px (and-right range (py && px) (and-right there (range && (py && px)) p)))))
+      (or-cases (holds width (t .words) y x) (there && (range && (py && px)))
       (sym (holds-inserted width (t .words) x′ y′ (2 * w .first) n y x room (omega (arith, few)) (omega (arith, few)) hx) ∙ i))
 
   kept : Within n (inRow t) inRow′
@@ -181,7 +180,7 @@ module _ (w : Walk) (m : Met) (t : Store) (h : Sound (record { walk = w; kept = 
         ordered = r .ordered;
         least = r .least;
         inside = r .inside;
-        earlier = λ x y hx l i. r .inside x y hx i .0;
+        earlier = λ x y hx l i. r .inside x y hx l i;
         pastHolds = holds′;
         pastOnly = only′;
       }

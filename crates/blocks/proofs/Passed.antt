@@ -15,7 +15,7 @@ use Rattle.relation.specs.Width.{wordBits}
 use Rattle.relation.specs.Rows.{holds, joinedFrom}
 use Rattle.relation.proofs.Marked.{length-marked, holds-marked}
 use Rattle.relation.proofs.Joined.{length-joined-from, holds-joined-from}
-use Rattle.expansion.specs.Store.{passedAt, passedIn, passed}
+use Rattle.blocks.specs.Store.{passedAt, passedIn, passed}
 
 -- what a row had stays; it gains an event and what is before it; and nothing else
 module _ (h e s t : Bool) where

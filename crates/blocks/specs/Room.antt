@@ -6,10 +6,7 @@ use mathlib.Core.List.{List}
 use lib.ListN.{length, getD}
 use Rattle.model.specs.Limits.{boards, messagesMost}
 use Rattle.relation.specs.Width.{width}
-use Rattle.expansion.specs.Store.{Store}
-
-abbrev pub storeOf : List ℕ → List ℕ → List ℕ → Store
-storeOf events words past = record { events = events; words = words; past = past }
+use Rattle.blocks.specs.Store.{Store}
 
 -- a walk that has met so many messages, and whose open block begins at `first`
 pub record Room (first count : ℕ) (t : Store) : Type 0 where

@@ -16,10 +16,10 @@ use Rattle.model.specs.Expansion.{Walk, freshWalk, Progress, startOf, blockOpen
 use Rattle.model.specs.Order.{Met, nothingMet, metOps}
 use Rattle.model.proofs.Standing.{Fits, sheet-fits}
 use Rattle.model.proofs.Walked.{Sound, Opened, OnOneBoard, message-parts, order-parts, sound-start, sound-message, opened-message, sound-order, opened-order, sound-block, opened-block, sound-call}
-use Rattle.expansion.specs.Store.{Store, freshStore, storeOps}
-use Rattle.expansion.proofs.Sim.{Sim, sim-start}
-use Rattle.expansion.proofs.SimMessage.{sim-message}
-use Rattle.expansion.proofs.SimOrder.{sim-order, sim-block, sim-call}
+use Rattle.blocks.specs.Store.{Store, storeOps}
+use Rattle.blocks.proofs.Sim.{Sim, Begins, sim-start}
+use Rattle.blocks.proofs.SimMessage.{sim-message}
+use Rattle.blocks.proofs.SimOrder.{sim-order, sim-block, sim-call}
 
 abbrev pub met : Walk → Met → Progress Met
 met w m = record { walk = w; kept = m }
@@ -106,8 +106,8 @@ module _ (file : List Row) (fits : Fits [] file) where
           (record { calls = w₁ .calls; first = w₁ .count; count = w₁ .count }) (metOps .withBlock w₁ m) (storeOps .withBlock w₁ t)
           (sheet-fits n [] file fits) (sound-block (met w₁ m) h₁) (opened-block (met w₁ m) h₁) (sim-block w₁ m t h₁ (sim-call w m t h r))
 
-  pub expand-match : Match (expand metOps file nothingMet) (expand storeOps file freshStore)
+  pub expand-match : (t : Store) → Begins t → Match (expand metOps file nothingMet) (expand storeOps file t)
   unfolding expand
-  expand-match =
+  expand-match t z =
       rows-match (callAt metOps levels file) (callAt storeOps levels file) (call-match levels) [] (drop (startOf 0 file) file) (lineOf (startOf 0 file))
-      freshWalk nothingMet freshStore (sheet-fits 0 [] file fits) sound-start refl sim-start
+      freshWalk nothingMet t (sheet-fits 0 [] file fits) sound-start refl (sim-start t z)

@@ -13,14 +13,14 @@ use borrow.Author.Tests.{eq-eqb, eqb-true}
 use Rattle.model.specs.Limits.{boards, messagesMost}
 use Rattle.model.specs.Expansion.{Walk}
 use Rattle.model.specs.Order.{Met, metOps}
-use Rattle.model.proofs.Bounded.{or-cases, or-left, or-right, which}
+use Rattle.model.proofs.Bounded.{or-cases, or-left, or-right}
 use Rattle.model.proofs.Walked.{Sound}
 use Rattle.relation.specs.Width.{width}
 use Rattle.relation.specs.Rows.{holds}
 use Rattle.relation.specs.Order.{before, Transitive, Within}
-use Rattle.expansion.specs.Store.{Store, seated, added, storeOps}
-use Rattle.expansion.proofs.Added.{length-added, added-other, added-send, added-receive}
-use Rattle.expansion.proofs.Sim.{Orders, Sim, inRow, inPast, bits}
+use Rattle.blocks.specs.Store.{Store, seated, added, storeOps}
+use Rattle.blocks.proofs.Added.{length-added, added-other, added-send, added-receive}
+use Rattle.blocks.proofs.Sim.{Orders, Sim, inRow, inPast, bits}
 
 module _ (w : Walk) (m : Met) (t : Store) (h : Sound (record { walk = w; kept = m })) (r : Sim w m t) (a b : ℕ)
     (ha : a < boards) (hb : b < boards) (room : w .count < messagesMost) where
@@ -103,19 +103,11 @@ module _ (w : Walk) (m : Met) (t : Store) (h : Sound (record { walk = w; kept = 
   row-old x y hx l =
       added-other width (t .words) (t .past) c a b room-words x hx (omega arith) y (λ e. omega arith) (λ e. omega arith)
 
-  empty : (x : ℕ) → x < bits → (y : ℕ) → 2 * c ≤ y → holds width (t .words) y x ≡ false
-  empty x hx y l =
-      ⊎-elim (λ i. absurd (omega (arith, r .inside x y hx i .1))) (λ f. f) (which (holds width (t .words) y x))
-
   row-send : (x : ℕ) → x < bits → inRow′ x (2 * c) ≡ inPast t a x
-  row-send x hx = added-send width (t .words) (t .past) c a b room-words x hx (omega arith) (empty x hx)
+  row-send x hx = added-send width (t .words) (t .past) c a b room-words x hx (omega arith)
 
   row-receive : (x : ℕ) → x < bits → inRow′ x (2 * c + 1) ≡ ((inPast t b x || inPast t a x) || eqb x (2 * c))
-  row-receive x hx = added-receive width (t .words) (t .past) c a b room-words x hx (omega arith) (empty x hx)
-
-  row-beyond : (x y : ℕ) → x < bits → 2 * c + 1 < y → inRow′ x y ≡ inRow t x y
-  row-beyond x y hx l =
-      added-other width (t .words) (t .past) c a b room-words x hx (omega arith) y (λ e. omega arith) (λ e. omega arith)
+  row-receive x hx = added-receive width (t .words) (t .past) c a b room-words x hx (omega arith)
 
   -- what is past is of earlier blocks; what is before an event past on a board is past there too
   past-inside : (p x : ℕ) → p < boards → x < bits → inPast t p x ≡ true → x < 2 * w .first
@@ -127,10 +119,11 @@ module _ (w : Walk) (m : Met) (t : Store) (h : Sound (record { walk = w; kept = 
   past-before p x y hp hx hy i q =
       let o = r .pastOnly p y hp hy i in
       let l : o .0 < 2 * c = omega (arith, o .1, h .firstMost) in
+      let ly : y < 2 * c = omega (arith, past-inside p y hp hy i, h .firstMost) in
       subst (λ (k : ℕ). inPast t k x ≡ true) (o .2)
       (r .pastHolds (o .0) x hx (o .1)
       (inr (⊎-elim (λ (e : y ≡ o .0). subst (λ (k : ℕ). inRow t x k ≡ true) e q)
-      (λ z. r .ordered .closed x y (o .0) (r .inside x y hx q .0) (r .inside x y hx q .1) l q z) (o .3))))
+      (λ z. r .ordered .closed x y (o .0) (r .inside x y hx ly q) ly l q z) (o .3))))
 
   -- the last event: it is one met before, the send, or the receive
   which-event : (y : ℕ) → y < 2 * suc c → (y < 2 * c) ⊎ ((y ≡ 2 * c) ⊎ (y ≡ 2 * c + 1))
@@ -162,9 +155,11 @@ module _ (w : Walk) (m : Met) (t : Store) (h : Sound (record { walk = w; kept = 
   row-at : (x y z : ℕ) → y ≡ z → inRow′ x y ≡ true → inRow′ x z ≡ true
   row-at x y z e i = subst (λ (k : ℕ). inRow′ x k ≡ true) e i
 
-  inside′ : (x y : ℕ) → x < bits → inRow′ x y ≡ true → (x < 2 * suc c) × (y < 2 * suc c)
+  inside′ : (x y : ℕ) → x < bits → y < 2 * suc c → inRow′ x y ≡ true → x < 2 * suc c
   unfolding Received
-  inside′ x y hx i = go (decLt y (2 * suc c))
+  inside′ x y hx l i =
+      ⊎-elim (λ (o : y < 2 * c). let q : x < 2 * c = r .inside x y hx o (sym (row-old x y hx o) ∙ i) in omega arith)
+      (⊎-elim send (λ e. receive (received x hx (row-at x y (2 * c + 1) e i)))) (which-event y l)
     where
       first : w .first ≤ c
       first = h .firstMost
@@ -176,14 +171,6 @@ module _ (w : Walk) (m : Met) (t : Store) (h : Sound (record { walk = w; kept = 
       receive (inl p) = omega (arith, past-inside b x hb hx p)
       receive (inr (inl p)) = omega (arith, past-inside a x ha hx p)
       receive (inr (inr e)) = omega arith
-
-      go : Dec (y < 2 * suc c) → (x < 2 * suc c) × (y < 2 * suc c)
-      go (no n) = absurd (omega (arith, r .inside x y hx (sym (row-beyond x y hx (omega arith)) ∙ i) .1))
-      go (yes l) = (
-        ⊎-elim (λ (o : y < 2 * c). let q : x < 2 * c = r .inside x y hx (sym (row-old x y hx o) ∙ i) .0 in omega arith)
-            (⊎-elim send (λ e. receive (received x hx (row-at x y (2 * c + 1) e i)))) (which-event y l),
-        l,
-      )
 
   -- the rows hold the sources, and are transitive
   earliers′ : (x y : ℕ) → x < 2 * suc c → y < 2 * suc c → getD events′ x 0 ≡ getD events′ y 0
@@ -240,9 +227,9 @@ module _ (w : Walk) (m : Met) (t : Store) (h : Sound (record { walk = w; kept = 
       old : z < 2 * c → inRow′ x z ≡ true
       old o =
           let yz : inRow t y z ≡ true = sym (row-old y z hy o) ∙ q in
-          let oy : y < 2 * c = r .inside y z hy yz .0 in
+          let oy : y < 2 * c = r .inside y z hy o yz in
           let xy : inRow t x y ≡ true = sym (row-old x y hx oy) ∙ p in
-          row-old x z hx o ∙ r .ordered .closed x y z (r .inside x y hx xy .0) oy o xy yz
+          row-old x z hx o ∙ r .ordered .closed x y z (r .inside x y hx oy xy) oy o xy yz
 
       send : z ≡ 2 * c → inRow′ x z ≡ true
       send i =
@@ -297,7 +284,7 @@ module _ (w : Walk) (m : Met) (t : Store) (h : Sound (record { walk = w; kept = 
         (omega (arith, block-old (u .0 / 2) (omega arith), block-new (y / 2) ey, h .earlierBlocks (u .0 / 2) (omega (arith, u .1)))) in
         ⊎-elim
         (λ (s : x ≡ u .0). subst (λ (k : ℕ). Q k y ≡ true) (sym s) there)
-        (λ q. let lx : x < 2 * c = r .inside x (u .0) hx q .0 in
+        (λ q. let lx : x < 2 * c = r .inside x (u .0) hx le q in
         o .closed x (u .0) y (omega arith) (omega arith) (omega arith) (r .least Q fewer x (u .0) lx le q) there)
         (u .3)
 
@@ -320,7 +307,7 @@ module _ (w : Walk) (m : Met) (t : Store) (h : Sound (record { walk = w; kept = 
         old : y < 2 * c → Q x y ≡ true
         old l =
             let q : inRow t x y ≡ true = sym (row-old x y hx l) ∙ i in
-            r .least Q fewer x y (r .inside x y hx q .0) l q
+            r .least Q fewer x y (r .inside x y hx l q) l q
 
         send : y ≡ 2 * c → Q x y ≡ true
         send e = at (2 * c) (sym e) (to-send (sym (row-send x hx) ∙ row-at x y (2 * c) e i))

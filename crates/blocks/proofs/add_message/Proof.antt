@@ -1,12 +1,12 @@
--- `expansion::add_message` meets its contract: its four calls are the parts of `added`. Assumes nothing.
+-- `blocks::add_message` meets its contract: its four calls are the parts of `added`. Assumes nothing.
 use native.Mathlib.Omega.{arith}
 use mathlib.Core.Path.{refl}
 use lib.ListN.{length-set}
+use Rattle.blocks.specs.Store.{seated}
+use Rattle.blocks.proofs.Turns.{added-parts}
 use borrow.Author.Needs.{needs}
-use Rattle.expansion.specs.Store.{seated}
-use Rattle.expansion.proofs.Turns.{added-parts}
-use Rattle.expansion.proofs.add_message.Statement.{statement}
-use Rattle.expansion.proofs.add_message.Tie as tie
+use Rattle.blocks.proofs.add_message.Statement.{statement}
+use Rattle.blocks.proofs.add_message.Tie as tie
 
 mul-send : tie.Need-mul-send
 mul-send c = search needs
@@ -14,23 +14,17 @@ mul-send c = search needs
 add-receive : tie.Need-add-receive
 add-receive c = search needs
 
-cast-boards : tie.Need-cast-boards
-cast-boards c = search needs
-
 slice-write-boards : tie.Need-slice-write-boards
 slice-write-boards c = search needs
-
-cast-boards-2 : tie.Need-cast-boards-2
-cast-boards-2 c = search needs
 
 slice-write-boards-2 : tie.Need-slice-write-boards-2
 slice-write-boards-2 c = simp length-set (omega arith)
 
-join-from-requires : tie.Need-join-from-requires
-join-from-requires c κs = search needs
+copy-from-requires : tie.Need-copy-from-requires
+copy-from-requires c κs = search needs
 
-join-from-requires-2 : tie.Need-join-from-requires-2
-join-from-requires-2 c κs = search needs
+copy-from-requires-2 : tie.Need-copy-from-requires-2
+copy-from-requires-2 c κs = search needs
 
 join-requires : tie.Need-join-requires
 join-requires c κs = search needs
@@ -50,8 +44,8 @@ returns c = (
   refl,
   added-parts _ _ _ _ _ _ _ _ _ (c .before .before .mark .ensures)
       (c .before .before .before .before .before .before .join .ensures)
-      (c .before .before .before .before .before .before .before .before .before .before .join-from2 .ensures)
-      (c .before .before .before .before .before .before .before .before .before .before .before .before .before .before .join-from .ensures),
+      (c .before .before .before .before .before .before .before .before .before .before .copy-from2 .ensures)
+      (c .before .before .before .before .before .before .before .before .before .before .before .before .before .before .copy-from .ensures),
 )
 
 pub add-message-spec : {M : Type 1} → statement M
@@ -60,12 +54,10 @@ add-message-spec =
     (tie.spec
     mul-send
     add-receive
-    cast-boards
     slice-write-boards
-    cast-boards-2
     slice-write-boards-2
-    join-from-requires
-    join-from-requires-2
+    copy-from-requires
+    copy-from-requires-2
     join-requires
     mark-requires
     same-length

@@ -6,17 +6,16 @@ use mathlib.Core.Path.{_≡_, refl}
 use mathlib.Core.Logic.{_⊎_}
 use mathlib.Core.Bool.{Bool, true, false}
 use mathlib.Core.List.{List}
-use lib.ListN.{length, getD, length-replicate}
+use lib.ListN.{length, getD}
 use Rattle.model.specs.Limits.{boards, messagesMost}
 use Rattle.model.specs.Expansion.{Walk, freshWalk}
 use Rattle.model.specs.Order.{Met, nothingMet, listed}
-use Rattle.model.proofs.Lists.{replicate-at}
 use Rattle.model.proofs.Bounded.{not-both}
 use Rattle.relation.specs.Width.{width, wordBits}
 use Rattle.relation.specs.Rows.{holds, bitOf, wordOf}
 use Rattle.relation.specs.Order.{before, Transitive, Within}
 use Rattle.relation.proofs.Bits.{has-zero}
-use Rattle.expansion.specs.Store.{Store, zeros, freshStore}
+use Rattle.blocks.specs.Store.{Store}
 
 -- a test on event numbers holds the sources of "before" among the first n messages, and is transitive there
 pub record Orders (n : ℕ) (events blocks : List ℕ) (orders : List (ℕ × ℕ)) (Q : ℕ → ℕ → Bool) : Type 0 where
@@ -47,38 +46,34 @@ pub record Sim (w : Walk) (m : Met) (t : Store) : Type 0 where
   -- the rows hold the sources of "before", are transitive, and hold no more than every such test does
   pub ordered : Orders (w .count) (m .events) (m .blocks) (m .orders) (inRow t)
   pub least : (Q : ℕ → ℕ → Bool) → Orders (w .count) (m .events) (m .blocks) (m .orders) Q → Within (2 * w .count) (inRow t) Q
-  -- events met only; and in the rows of earlier blocks events of earlier blocks only
-  pub inside : (x y : ℕ) → x < bits → inRow t x y ≡ true → (x < 2 * w .count) × (y < 2 * w .count)
+  -- in the rows of events met events met only; and in those of earlier blocks events of earlier blocks only
+  pub inside : (x y : ℕ) → x < bits → y < 2 * w .count → inRow t x y ≡ true → x < 2 * w .count
   pub earlier : (x y : ℕ) → x < bits → y < 2 * w .first → inRow t x y ≡ true → x < 2 * w .first
   -- the past of a board: its events of earlier blocks and all before them
   pub pastHolds : (e x : ℕ) → x < bits → e < 2 * w .first → (x ≡ e) ⊎ (inRow t x e ≡ true) → inPast t (getD (m .events) e 0) x ≡ true
   pub pastOnly : (p x : ℕ) → p < boards → x < bits → inPast t p x ≡ true
       → (e : ℕ) × (e < 2 * w .first) × (getD (m .events) e 0 ≡ p) × ((x ≡ e) ⊎ (inRow t x e ≡ true))
 
--- zero words: so many, and no row of them holds an event
-pub zeros-length : (n : ℕ) → length (zeros n) ≡ n
-unfolding zeros
-zeros-length n = length-replicate n 0
+-- Where a walk may begin: every event is on board 0, and nothing is past. The rows may hold anything.
+pub record Begins (t : Store) : Type 0 where
+  pub eventsLong : length (t .events) ≡ 2 * messagesMost
+  pub wordsLong : length (t .words) ≡ 2 * messagesMost * width
+  pub pastLong : length (t .past) ≡ boards * width
+  pub eventsZero : (k : ℕ) → getD (t .events) k 0 ≡ 0
+  pub pastZero : (k : ℕ) → getD (t .past) k 0 ≡ 0
 
-pub zeros-at : (n k : ℕ) → getD (zeros n) k 0 ≡ 0
-unfolding zeros
-zeros-at n k = replicate-at n k 0
-
-zeros-hold : (n y x : ℕ) → holds width (zeros n) y x ≡ false
+none-past : (t : Store) → Begins t → (p x : ℕ) → inPast t p x ≡ false
 unfolding holds
-zeros-hold n y x = rw (zeros-at n (wordOf width y x)) (has-zero (bitOf x))
+none-past t z p x = rw (z .pastZero (wordOf width p x)) (has-zero (bitOf x))
 
-none : {C : Type 0} (n y x : ℕ) → holds width (zeros n) y x ≡ true → C
-none n y x h = not-both (holds width (zeros n) y x) h (zeros-hold n y x)
-
-pub sim-start : Sim freshWalk nothingMet freshStore
+pub sim-start : (t : Store) → Begins t → Sim freshWalk nothingMet t
 unfolding listed
-sim-start =
+sim-start t z =
     record {
-      eventsLong = zeros-length (2 * messagesMost);
-      wordsLong = zeros-length (2 * messagesMost * width);
-      pastLong = zeros-length (boards * width);
-      sameBoards = λ k. zeros-at (2 * messagesMost) k;
+      eventsLong = z .eventsLong;
+      wordsLong = z .wordsLong;
+      pastLong = z .pastLong;
+      sameBoards = z .eventsZero;
       ordered = record {
         rows = λ x y h. not-both false h refl;
         owns = λ k h. absurd (omega arith);
@@ -86,8 +81,8 @@ sim-start =
         closed = λ a b c p q r. absurd (omega arith);
       };
       least = λ Q o a b p q. absurd (omega arith);
-      inside = λ x y p h. none (2 * messagesMost * width) y x h;
-      earlier = λ x y p q h. none (2 * messagesMost * width) y x h;
+      inside = λ x y p l h. absurd (omega arith);
+      earlier = λ x y p q h. absurd (omega arith);
       pastHolds = λ e x p q h. absurd (omega arith);
-      pastOnly = λ p x q r h. none (boards * width) p x h;
+      pastOnly = λ p x q r h. not-both (inPast t p x) h (none-past t z p x);
     }

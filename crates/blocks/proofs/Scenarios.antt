@@ -24,9 +24,9 @@ use Rattle.relation.specs.Rows.{holds, anyOwn}
 use Rattle.relation.specs.Scenario.{scenarioIn}
 use Rattle.relation.proofs.Tests.{both-ways}
 use Rattle.relation.proofs.Own.{own-any, any-own}
-use Rattle.expansion.specs.Store.{Store, freshStore, storeOps}
-use Rattle.expansion.proofs.Sim.{Orders, Sim, inRow}
-use Rattle.expansion.proofs.Twin.{met, Match, going, stopped, expand-match}
+use Rattle.blocks.specs.Store.{Store, storeOps}
+use Rattle.blocks.proofs.Sim.{Orders, Sim, Begins, inRow}
+use Rattle.blocks.proofs.Twin.{met, Match, going, stopped, expand-match}
 
 -- the message of an event number
 message-half : (k : ℕ) → messageOf (event k) ≡ k / 2
@@ -181,6 +181,6 @@ match-concluded (going {w = w} {m = m} {t = t} h r) = rw (circle-same w m t h r,
 match-concluded stopped = refl
 
 -- The rows of a sheet file that fits, walked with the store, give the scenario or the refusal of the paper.
-pub expanded-same : (file : List Row) → Fits [] file → andThen (expand storeOps file freshStore) concluded ≡ expandedOf file
+pub expanded-same : (file : List Row) → Fits [] file → (t : Store) → Begins t → andThen (expand storeOps file t) concluded ≡ expandedOf file
 unfolding expandedOf
-expanded-same file fits = match-concluded (expand-match file fits)
+expanded-same file fits t z = match-concluded (expand-match file fits t z)

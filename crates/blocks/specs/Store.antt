@@ -3,11 +3,10 @@
 -- Assumes nothing.
 use Prim.Native.Nat.{ℕ, zero, suc, _+_, _-_, _*_}
 use mathlib.Core.List.{List}
-use lib.ListN.{getD, set, replicate}
-use Rattle.model.specs.Limits.{boards, messagesMost}
+use lib.ListN.{getD, set}
 use Rattle.model.specs.Expansion.{Ops}
 use Rattle.relation.specs.Width.{width}
-use Rattle.relation.specs.Rows.{marked, joined, joinedFrom, inserted}
+use Rattle.relation.specs.Rows.{marked, joined, joinedFrom, copiedFrom, inserted}
 
 -- row p of `past` holds board p's events of earlier blocks and all before them
 pub record Store : Type 0 where
@@ -15,19 +14,16 @@ pub record Store : Type 0 where
   pub words : List ℕ
   pub past : List ℕ
 
-unfoldable pub zeros : ℕ → List ℕ
-zeros n = replicate n 0
+abbrev pub storeOf : List ℕ → List ℕ → List ℕ → Store
+storeOf events words past = record { events = events; words = words; past = past }
 
--- nothing is met, and no row holds an event
-abbrev pub freshStore : Store
-freshStore = record { events = zeros (2 * messagesMost); words = zeros (2 * messagesMost * width); past = zeros (boards * width) }
-
--- message m, from board a to board b, on the boards and in the rows: its receive is behind its send too
+-- message m, from board a to board b, on the boards; and its two rows, made anew: each event is behind its board's past, and the
+-- receive behind its send too
 unfoldable pub seated : List ℕ → ℕ → ℕ → ℕ → List ℕ
 seated events m a b = set (set events (2 * m) a) (2 * m + 1) b
 
 unfoldable pub begun : ℕ → List ℕ → List ℕ → ℕ → ℕ → ℕ → List ℕ
-begun W words past m a b = joinedFrom W (joinedFrom W words (2 * m) past a) (2 * m + 1) past b
+begun W words past m a b = copiedFrom W (copiedFrom W words (2 * m) past a) (2 * m + 1) past b
 
 unfoldable pub added : ℕ → List ℕ → List ℕ → ℕ → ℕ → ℕ → List ℕ
 added W words past m a b = marked W (joined W (begun W words past m a b) (2 * m + 1) (2 * m)) (2 * m + 1) (2 * m)

@@ -1,11 +1,11 @@
--- `expansion::close_block` meets its contract. The loop keeps `Passing`: the events passed are past on their boards.
+-- `blocks::close_block` meets its contract. The loop keeps `Passing`: the events passed are past on their boards.
 -- Assumes nothing.
 use Prim.Native.Nat.{_-_, _*_}
 use native.Mathlib.Omega.{arith}
 use borrow.Author.Needs.{needs}
-use Rattle.expansion.proofs.Turns.{Passing, passing-start, passing-more, passing-end, past-room, past-room-joined}
-use Rattle.expansion.proofs.close_block.Statement.{statement}
-use Rattle.expansion.proofs.close_block.Tie as tie
+use Rattle.blocks.proofs.Turns.{Passing, passing-start, passing-more, passing-end, past-room, past-room-joined}
+use Rattle.blocks.proofs.close_block.Statement.{statement}
+use Rattle.blocks.proofs.close_block.Tie as tie
 
 abbrev Inv-loop : tie.InvT-loop
 Inv-loop boards words past₀ first count e₀ e-end past e = Passing past₀ boards words (2 * first) (2 * count) e past

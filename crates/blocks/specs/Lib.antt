@@ -1,0 +1,3 @@
+pub mod Store
+pub mod Room
+pub mod Block

@@ -11,7 +11,7 @@ use mathlib.Core.List.{List, [], _∷_}
 use lib.Dec.{eqb, ltb}
 use lib.ListN.{length, getD, set, length-set}
 use borrow.Author.Tests.{eq-eqb, ne-eqb, eqb-true, lt-ltb, le-ltb, ltb-true}
-use Rattle.model.proofs.Bounded.{and-left, and-right, or-cases}
+use Rattle.model.proofs.Bounded.{and-left, and-right, or-cases, or-left, or-right}
 use Rattle.model.specs.Limits.{boards, messagesMost}
 use Rattle.model.specs.Refusal.{Out, ok, refusal, messagesRefusal}
 use Rattle.model.specs.Rows.{Row, sheet, message, order, block, call}
@@ -59,6 +59,14 @@ module _ (kind : List ℕ) (count i : ℕ) where
       ⊎-elim (λ m. eqb-true (getD kind i 0) 77 m) (λ p. absurd (n (eqb-true (getD kind i 0) 80 p)))
       (or-cases (eqb (getD kind i 0) 77) (eqb (getD kind i 0) 80)
       (and-right (ltb i count) (eqb (getD kind i 0) 77 || eqb (getD kind i 0) 80) (sym e ∙ t)))
+
+  pub not-in : (r : Bool) → r ≡ inBlock kind count i → r ≡ false → i < count → (getD kind i 0 ≡ 77 → ⊥) × (getD kind i 0 ≡ 80 → ⊥)
+  unfolding inBlock
+  not-in r e t h =
+      let f : (eqb (getD kind i 0) 77 || eqb (getD kind i 0) 80) ≡ false = rw (lt-ltb i count h) at (sym e ∙ t) in (
+        λ m. true≢false (sym (or-left (eqb (getD kind i 0) 77) (eqb (getD kind i 0) 80) (eq-eqb (getD kind i 0) 77 m)) ∙ f),
+        λ p. true≢false (sym (or-right (eqb (getD kind i 0) 77) (eqb (getD kind i 0) 80) (eq-eqb (getD kind i 0) 80 p)) ∙ f),
+      )
 
   pub at-message : i < count → getD kind i 0 ≡ 77 → eqb (getD kind i 0) 77 ≡ inBlock kind count i
   unfolding inBlock

@@ -24,7 +24,7 @@ use Rattle.relation.specs.Rows.{holds, anyOwn}
 use Rattle.relation.specs.Scenario.{scenarioIn}
 use Rattle.relation.proofs.Tests.{both-ways}
 use Rattle.relation.proofs.Own.{own-any, any-own}
-use Rattle.blocks.specs.Store.{Store, storeOps}
+use Rattle.blocks.specs.Store.{Store, storeOps, concluded}
 use Rattle.blocks.proofs.Sim.{Orders, Sim, Begins, inRow}
 use Rattle.blocks.proofs.Twin.{met, Match, going, stopped, expand-match}
 
@@ -167,12 +167,6 @@ module _ (w : Walk) (m : Met) (t : Store) (h : Sound (met w m)) (r : Sim w m t) 
       (λ p. let u = any-some (2 * w .count) (λ k. S .before (event k) (event k)) p in
       own-any width (t .words) (2 * w .count) (u .0) (u .1)
       (subst (λ (k : ℕ). inRow t k k ≡ true) (number-event (u .0)) (before-held (event (u .0)) (event (u .0)) (u .2) .2)))
-
--- what a walk with the store ends in: the scenario, unless an event is in its own row
-abbrev pub concluded : Progress Store → Out Scenario
-concluded s =
-    cond (anyOwn width (s .kept .words) (2 * s .walk .count)) (refusal circleRefusal 0)
-    (ok (scenarioIn (s .walk .count) (s .kept .events) (s .kept .words)))
 
 match-concluded : {o : Out (Progress Met)} {o′ : Out (Progress Store)} → Match o o′
     → andThen o′ concluded ≡ andThen o (λ s. withoutCircle (scenarioOf (exchangeOf s)))

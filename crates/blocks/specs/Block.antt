@@ -31,7 +31,7 @@ stateOf w t = record { walk = record { calls = w .calls; first = w .first; count
 abbrev pub rowsFrom : List ℕ → List ℕ → List ℕ → ℕ → ℕ → List Row
 rowsFrom kind one two count i = rowsAt kind one two i (count - i)
 
--- row i is one of an open block, M or P
+-- row i is one of a block, M or P
 unfoldable pub inBlock : List ℕ → ℕ → ℕ → Bool
 inBlock kind count i = ltb i count && (eqb (getD kind i 0) (code "M") || eqb (getD kind i 0) (code "P"))
 
@@ -63,7 +63,7 @@ pub record Leaves (r : Walked) (t : Store) (expected : Out (ℕ × Progress Stor
   pub room : RoomLeft r t
 
 -- so many rows stand in the three columns, and a row's line fits
-pub record Columns (kind one two : List ℕ) (count : ℕ) : Type 0 where
+pub record RowsFew (kind one two : List ℕ) (count : ℕ) : Type 0 where
   pub few : count ≤ rowsMost
   pub kindLong : count ≤ length kind
   pub oneLong : count ≤ length one

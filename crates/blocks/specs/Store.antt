@@ -2,11 +2,15 @@
 -- the open block there is behind. Each part says what the code does, list by list, for rows of any width W.
 -- Assumes nothing.
 use Prim.Native.Nat.{ℕ, zero, suc, _+_, _-_, _*_}
+use mathlib.Core.Bool.{cond}
 use mathlib.Core.List.{List}
 use lib.ListN.{getD, set}
-use Rattle.model.specs.Expansion.{Ops}
+use Rattle.model.specs.Refusal.{Out, ok, refusal, circleRefusal}
+use Rattle.model.specs.Order.{Scenario}
+use Rattle.model.specs.Expansion.{Ops, Progress}
 use Rattle.relation.specs.Width.{width}
-use Rattle.relation.specs.Rows.{marked, joined, joinedFrom, copiedFrom, inserted}
+use Rattle.relation.specs.Rows.{marked, joined, joinedFrom, copiedFrom, inserted, anyOwn}
+use Rattle.relation.specs.Scenario.{scenarioIn}
 
 -- row p of `past` holds board p's events of earlier blocks and all before them
 pub record Store : Type 0 where
@@ -53,3 +57,9 @@ storeOps =
       };
       withBlock = λ w t. record { events = t .events; words = t .words; past = passed width (t .past) (t .events) (t .words) (2 * w .first) (2 * w .count) };
     }
+
+-- what a walk with the store ends in: the scenario, unless an event is in its own row
+abbrev pub concluded : Progress Store → Out Scenario
+concluded s =
+    cond (anyOwn width (s .kept .words) (2 * s .walk .count)) (refusal circleRefusal 0)
+    (ok (scenarioIn (s .walk .count) (s .kept .events) (s .kept .words)))

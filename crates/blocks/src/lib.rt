@@ -8,7 +8,7 @@ ghost use Rattle.relation.specs.Width.{width};
 ghost use Rattle.relation.specs.Rows.{inserted};
 ghost use Rattle.blocks.specs.Store.{storeOf, seated, added, passed};
 ghost use Rattle.blocks.specs.Room.{Room};
-ghost use Rattle.blocks.specs.Block.{fresh, stateOf, rowsFrom, inBlock, Columns, Ready, Leaves, blockWalked};
+ghost use Rattle.blocks.specs.Block.{fresh, stateOf, rowsFrom, inBlock, RowsFew, Ready, Leaves, blockWalked};
 
 // How far a walk is: calls made, the number of the open block's first message, and messages met.
 pub struct Walk {
@@ -89,8 +89,8 @@ fn close_block(boards: &[u8], words: &[u64], past: &mut [u64], first: usize, cou
     }
 }
 
-// A row of the open block, M or P.
-fn in_block(kind: &[u8], rows: usize, row: usize) -> bool
+// A row of a block, M or P.
+pub fn in_block(kind: &[u8], rows: usize, row: usize) -> bool
     requires { ⌜ rows ≤ length (now kind) ⌝ }
     ensures { λ r. ⌜ r ≡ inBlock (now (kind .entry)) rows row ⌝ }
 {
@@ -109,7 +109,7 @@ pub fn walk_block(
     row: usize,
     walk: Walk,
 ) -> Walked
-    requires { ⌜ Columns (now kind) (now one) (now two) rows ⌝ }
+    requires { ⌜ RowsFew (now kind) (now one) (now two) rows ⌝ }
     requires { ⌜ Ready (now kind) (now one) (now two) rows row (walk .first) (walk .count) (storeOf (now boards) (now words) (now past)) ⌝ }
     ensures { λ r. ⌜ Leaves r (storeOf (now (boards .exit)) (now (words .exit)) (now (past .exit))) (blockWalked (rowsFrom (now (kind .entry)) (now (one .entry)) (now (two .entry)) rows row) row (stateOf walk (storeOf (now (boards .entry)) (now (words .entry)) (now (past .entry))))) ⌝ }
 {

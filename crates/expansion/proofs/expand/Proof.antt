@@ -1,103 +1,154 @@
--- `expansion::expand` meets its contract: the walk begins with nothing met, and what it leaves comes to the paper's answer.
--- Assumes nothing.
-use native.Mathlib.Omega.{arith}
-use mathlib.Core.Path.{_∙_, ap}
-use borrow.Author.Needs.{needs}
-use Rattle.model.specs.Answer.{expandedOf}
-use Rattle.expansion.proofs.Reading.{start-long}
-use Rattle.expansion.proofs.Cut.{cut-length, cut-rows, cut-read}
-use Rattle.expansion.proofs.Walking.{leaves-as}
-use Rattle.expansion.proofs.Whole.{cleared-all, fresh-ready, answer-stopped, answer-going}
 use Rattle.expansion.proofs.expand.Statement.{statement}
 use Rattle.expansion.proofs.expand.Tie as tie
+use Rattle.expansion.proofs.expand.Reads as reads
+use Rattle.expansion.proofs.expand.Lts as lts
+use Rattle.blocks.proofs.Walk.fresh.Reads as fresh-reads
+use Rattle.blocks.proofs.walk_block.Reads as walk-block-reads
+use Rattle.expansion.proofs.clear_boards.Reads as clear-boards-reads
+use Rattle.expansion.proofs.next_block.Reads as next-block-reads
+use Rattle.expansion.proofs.without_circle.Reads as without-circle-reads
 
-clear-boards-requires : tie.Need-clear-boards-requires
-clear-boards-requires c κs = search needs
+abbrev Inv-loop : tie.InvT-loop
+Inv-loop kind one two count start boards₀ words₀ past₀ from₀ level₀ at₀ here₀ boards words past from level at here =
+    ?
 
-mul-clear : tie.Need-mul-clear
-mul-clear c = search needs
+abbrev μ-loop : tie.MeasureT-loop
+μ-loop kind one two count start boards₀ words₀ past₀ from₀ level₀ at₀ here₀ boards words past from level at here =
+    ?
 
-clear-requires : tie.Need-clear-requires
-clear-requires c κs = search needs
+-- src/lib.rt:148:5
+clear-boards-requires : tie.Need-clear-boards-requires Inv-loop μ-loop
+clear-boards-requires c κs = ?
 
-shared-slice-read-row : tie.Need-shared-slice-read-row
-shared-slice-read-row c =
-    omega (arith, start-long _ _ _ _ _ (c .before .before .before .before .before .before .before .before .before .before .before .before .before .before .before .pre .0))
+-- src/lib.rt:152:18
+shared-slice-read-at : tie.Need-shared-slice-read-at Inv-loop μ-loop
+shared-slice-read-at c = ?
 
-cast-row : tie.Need-cast-row
-cast-row c =
-    omega (arith, c .shared-slice-known5 .given 0)
+-- src/lib.rt:152:18
+cast-at : tie.Need-cast-at Inv-loop μ-loop
+cast-at c = ?
 
-slice-aggregate-walk-levels : tie.Need-slice-aggregate-walk-levels
-slice-aggregate-walk-levels c =
-    cut-length _ _ _ _ _ (c .before .before .before .before .before .before .before .before .before .before .before .before .before .before .before .before .pre .0)
+-- src/lib.rt:153:9
+fresh-requires : tie.Need-fresh-requires Inv-loop μ-loop
+fresh-requires c κs = ?
 
-slice-aggregate-walk-levels-2 : tie.Need-slice-aggregate-walk-levels-2
-slice-aggregate-walk-levels-2 c = search needs
+-- src/lib.rt:154:5
+loop-holds : tie.Need-loop-holds Inv-loop μ-loop
+loop-holds c = ?
 
-walk-levels-requires : tie.Need-walk-levels-requires
-walk-levels-requires c κs =
-    let s = c .before .before .before .before .before .before .before .before .before .before .before .before .before .before .before .before .before .before .before in
-    let z = cleared-all _ _ _ (c .before .before .before .before .before .before .before .before .before .before .before .clear-boards .ensures) (c .before .before .before .before .before .before .before .clear .ensures) (s .pre .1 .1) in
-    let l = cut-read _ _ _ _ _ (s .pre .0) in
-    (l, fresh-ready _ _ _ _ _ l _ _ _ z)
+-- src/lib.rt:155:56
+slice-aggregate-next-block : tie.Need-slice-aggregate-next-block Inv-loop μ-loop
+slice-aggregate-next-block c = ?
 
-enum-known-number : tie.Need-enum-known-number
-enum-known-number c = search needs
+-- src/lib.rt:155:15
+next-block-requires : tie.Need-next-block-requires Inv-loop μ-loop
+next-block-requires c κs = ?
 
-enum-known-walk : tie.Need-enum-known-walk
-enum-known-walk c = search needs
+-- src/lib.rt:156:30
+enum-known-number : tie.Need-enum-known-number Inv-loop μ-loop
+enum-known-number c = ?
 
-without-circle-requires : tie.Need-without-circle-requires
-without-circle-requires c κs =
-    let r = leaves-as (c .before .before .walk .given .1) (c .before .before .before .before .before .before .before .before .before .walk-levels .ensures) .room in
-    (r .wordsLong, r .countMost)
+-- src/lib.rt:156:47
+same-length : tie.Need-same-length Inv-loop μ-loop
+same-length c = ?
 
-same-length : tie.Need-same-length
-same-length c = search needs
+-- src/lib.rt:156:47
+same-length-2 : tie.Need-same-length-2 Inv-loop μ-loop
+same-length-2 c = ?
 
-same-length-2 : tie.Need-same-length-2
-same-length-2 c = search needs
+-- src/lib.rt:156:47
+returns : tie.Need-returns Inv-loop μ-loop
+returns c = ?
 
-returns : tie.Need-returns
-returns c =
-    let s = c .before .before .before .before .before .before .before .before .before .before .before .before .before .before .before .before .before .before .before .before .before .before .before .before .before .before .before .before in
-    let z = cleared-all _ _ _ (c .before .before .before .before .before .before .before .before .before .before .before .before .before .before .before .before .before .before .before .before .clear-boards .ensures) (c .before .before .before .before .before .before .before .before .before .before .before .before .before .before .before .before .clear .ensures) (s .pre .1 .1) in
-    answer-stopped _ _ _ _ _ (cut-read _ _ _ _ _ (s .pre .0)) _ _ _ z _ _ _ (leaves-as (c .before .number .given .1) (c .before .before .before .before .before .before .before .before .walk-levels .ensures))
-    ∙ ap expandedOf (cut-rows _ _ _ _ _ (s .pre .0))
+-- src/lib.rt:157:26
+enum-known-last : tie.Need-enum-known-last Inv-loop μ-loop
+enum-known-last c = ?
 
-same-length-3 : tie.Need-same-length-3
-same-length-3 c = search needs
+-- src/lib.rt:157:35
+without-circle-requires : tie.Need-without-circle-requires Inv-loop μ-loop
+without-circle-requires c κs = ?
 
-same-length-4 : tie.Need-same-length-4
-same-length-4 c = search needs
+-- src/lib.rt:157:35
+same-length-3 : tie.Need-same-length-3 Inv-loop μ-loop
+same-length-3 c = ?
 
-returns-2 : tie.Need-returns-2
-returns-2 c =
-    let s = c .before .before .before .before .before .before .before .before .before .before .before .before .before .before .before .before .before .before .before .before .before .before .before .before .before .before .before .before .before .before in
-    let z = cleared-all _ _ _ (c .before .before .before .before .before .before .before .before .before .before .before .before .before .before .before .before .before .before .before .before .before .before .clear-boards .ensures) (c .before .before .before .before .before .before .before .before .before .before .before .before .before .before .before .before .before .before .clear .ensures) (s .pre .1 .1) in
-    answer-going _ _ _ _ _ (cut-read _ _ _ _ _ (s .pre .0)) _ _ _ z _ _ _ _ (leaves-as (c .before .before .before .walk .given .1) (c .before .before .before .before .before .before .before .before .before .before .walk-levels .ensures)) _
-    (c .without-circle .ensures)
-    ∙ ap expandedOf (cut-rows _ _ _ _ _ (s .pre .0))
+-- src/lib.rt:157:35
+same-length-4 : tie.Need-same-length-4 Inv-loop μ-loop
+same-length-4 c = ?
+
+-- src/lib.rt:157:35
+returns-2 : tie.Need-returns-2 Inv-loop μ-loop
+returns-2 c = ?
+
+-- src/lib.rt:158:28
+enum-known-deep : tie.Need-enum-known-deep Inv-loop μ-loop
+enum-known-deep c = ?
+
+-- src/lib.rt:166:21
+slice-aggregate-walk-block : tie.Need-slice-aggregate-walk-block Inv-loop μ-loop
+slice-aggregate-walk-block c = ?
+
+-- src/lib.rt:159:23
+walk-block-requires : tie.Need-walk-block-requires Inv-loop μ-loop
+walk-block-requires c κs = ?
+
+-- src/lib.rt:170:37
+enum-known-number-2 : tie.Need-enum-known-number-2 Inv-loop μ-loop
+enum-known-number-2 c = ?
+
+-- src/lib.rt:170:54
+same-length-5 : tie.Need-same-length-5 Inv-loop μ-loop
+same-length-5 c = ?
+
+-- src/lib.rt:170:54
+same-length-6 : tie.Need-same-length-6 Inv-loop μ-loop
+same-length-6 c = ?
+
+-- src/lib.rt:170:54
+returns-3 : tie.Need-returns-3 Inv-loop μ-loop
+returns-3 c = ?
+
+-- src/lib.rt:171:32
+enum-known-behind : tie.Need-enum-known-behind Inv-loop μ-loop
+enum-known-behind c = ?
+
+-- src/lib.rt:154:5
+loop-less : tie.Need-loop-less Inv-loop μ-loop
+loop-less c = ?
+
+-- src/lib.rt:154:5
+loop-again : tie.Need-loop-again Inv-loop μ-loop
+loop-again c = ?
 
 pub expand-spec : {M : Type 1} → statement M
 expand-spec =
     tie.close
     (tie.spec
+    Inv-loop
+    μ-loop
     clear-boards-requires
-    mul-clear
-    clear-requires
-    shared-slice-read-row
-    cast-row
-    slice-aggregate-walk-levels
-    slice-aggregate-walk-levels-2
-    walk-levels-requires
+    shared-slice-read-at
+    cast-at
+    fresh-requires
+    loop-holds
+    slice-aggregate-next-block
+    next-block-requires
     enum-known-number
-    enum-known-walk
-    without-circle-requires
     same-length
     same-length-2
     returns
+    enum-known-last
+    without-circle-requires
     same-length-3
     same-length-4
-    returns-2)
+    returns-2
+    enum-known-deep
+    slice-aggregate-walk-block
+    walk-block-requires
+    enum-known-number-2
+    same-length-5
+    same-length-6
+    returns-3
+    enum-known-behind
+    loop-less
+    loop-again)

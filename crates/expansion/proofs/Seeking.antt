@@ -1,0 +1,186 @@
+-- What the loop between two blocks keeps, row by row, and where it leaves them. Each law has the premises of one place of the code.
+-- Assumes nothing.
+use Prim.Native.Nat.{ℕ, _+_, _-_, _*_, _<_, _≤_}
+use native.Mathlib.Omega.{arith}
+use mathlib.Core.Path.{_≡_, refl, sym, _∙_, ap, subst}
+use mathlib.Core.Bool.{Bool, true, false}
+use mathlib.Core.List.{List, _∷_}
+use lib.Dec.{eqb}
+use lib.ListN.{length, getD, set, length-set}
+use lib.Seq.{getD-set-same, getD-set-other}
+use borrow.Author.Tests.{eqb-true, eqb-false}
+use Rattle.model.specs.Limits.{levels, callsMost, rowsMost, sheets}
+use Rattle.model.specs.Refusal.{depthRefusal, callsRefusal}
+use Rattle.model.specs.Rows.{block, call}
+use Rattle.model.specs.Place.{lineOf}
+use Rattle.model.specs.Expansion.{startOf}
+use Rattle.sheet.specs.Bridge.{rowsOf}
+use Rattle.sheet.proofs.Bridge.{row-call, row-block}
+use Rattle.blocks.specs.Store.{Store}
+use Rattle.blocks.specs.Block.{stateOf, rowsFrom, inBlock, AllStand}
+use Rattle.blocks.specs.declared.Walk.{Walk}
+use Rattle.blocks.proofs.Meeting.{rows-next, not-in}
+use Rattle.expansion.specs.Lent.{RowsRead}
+use Rattle.expansion.specs.Levels.{letterAt, rest, rank, Behind, Between, Reaches}
+use Rattle.expansion.specs.declared.Reached.{Reached}
+use Rattle.expansion.specs.declared.Reached.the-variants as reached
+use Rattle.expansion.proofs.Reading.{rows-few, call-known, call-start, start-long, start-stand}
+use Rattle.expansion.proofs.Steps.{row-there, row-letter, rest-end, rest-back, rest-block, rest-deep, rest-calls, rest-called}
+
+-- where the walk came to, known by another name
+pub reaches-as : {kind one two : List ℕ} {count : ℕ} {from : List ℕ} {level i : ℕ} {w : Walk} {r r′ : Reached} {from′ : List ℕ} → r ≡ r′
+    → Reaches kind one two count from level i w r from′
+    → Reaches kind one two count from level i w r′ from′
+reaches-as {kind = kind} {one = one} {two = two} {count = count} {from = from} {level = level} {i = i} {w = w} {from′ = from′} e h =
+    subst (λ (r : Reached). Reaches kind one two count from level i w r from′) e h
+
+module _ (kind one two : List ℕ) (count : ℕ) (from₀ : List ℕ) (level₀ row : ℕ) (w₀ : Walk) where
+  -- the walk with so many calls made, in an empty block
+  abbrev at-calls : ℕ → Walk
+  at-calls k = record { calls = k; first = w₀ .first; count = w₀ .count }
+
+  abbrev Left : Reached → List ℕ → Type 0
+  Left r from = Reaches kind one two count from₀ level₀ row w₀ r from
+
+  -- from here the whole comes to what it came to from the first row
+  pub record Seeking (from : List ℕ) (level i calls : ℕ) : Type 0 where
+    pub exact : (t : Store) → rest kind one two count from₀ level₀ row (stateOf w₀ t) ≡ rest kind one two count from level i (stateOf (at-calls calls) t)
+    pub between : Between kind one two count from level i (at-calls calls)
+    pub nearer : rank count level i calls ≤ rank count level₀ row (w₀ .calls)
+
+  pub seeking-start : Between kind one two count from₀ level₀ row w₀ → Seeking from₀ level₀ row (w₀ .calls)
+  seeking-start b = record { exact = λ t. refl; between = b; nearer = omega arith }
+
+  module _ (from : List ℕ) (level i calls : ℕ) (j : Seeking from level i calls) where
+    -- a block is reached
+    pub seeking-block : (r : Bool) → r ≡ inBlock kind count i → r ≡ true → Left (reached.Block level i (at-calls calls)) from
+    seeking-block r e t =
+        record { exact = j .exact; stands = record { between = j .between; row = sym e ∙ t; same = refl; nearer = j .nearer } }
+
+    module _ (letter : ℕ) (read : letter ≡ letterAt kind count i) where
+      -- sheet 0 has ended
+      pub seeking-end : letter ≡ 83 → level ≡ 0 → Left (reached.End (at-calls calls)) from
+      seeking-end e z =
+          record { exact = λ t. j .exact t ∙ rest-end kind one two count i letter read from level (at-calls calls) t (j .between .empty) e z; stands = refl }
+
+      -- a B row
+      module _ (r : Bool) (test : r ≡ inBlock kind count i) (out : r ≡ false) (a : letter ≡ 67 → ⊥) (b : letter ≡ 83 → ⊥) where
+        pub on-there : i < count
+        on-there = row-there kind count i letter read b
+
+        is : getD kind i 0 ≡ letter
+        is = row-letter kind count i letter read on-there
+
+        pub on-less : rank count level (i + 1) calls < rank count level i calls
+        on-less = omega (arith, on-there)
+
+        pub seeking-on : Seeking from level (i + 1) calls
+        seeking-on =
+            let p = not-in kind count i r test out on-there in
+            record {
+              exact = λ t. j .exact t
+                  ∙ rest-block kind one two count i letter read from level (at-calls calls) t (j .between .empty) b (λ e. p .0 (is ∙ e)) (λ e. p .1 (is ∙ e)) a;
+              between = record {
+                deep = j .between .deep;
+                long = j .between .long;
+                empty = j .between .empty;
+                few = j .between .few;
+                stand =
+                    subst (AllStand 0) (rows-next kind one two count i on-there
+                    ∙ ap (λ r. r ∷ rowsFrom kind one two count (i + 1))
+                    (row-block (getD kind i 0) (getD one i 0) (getD two i 0) (λ e. b (sym is ∙ e)) (p .0) (p .1) (λ e. a (sym is ∙ e))))
+                    (j .between .stand) .1;
+                behind = j .between .behind;
+              };
+              nearer = omega (arith, j .nearer, on-less);
+            }
+
+      module _ (start : List ℕ) (lent : RowsRead kind one two count start) where
+        -- a sheet that was called has ended
+        pub back-inside : (level ≡ 0 → ⊥) → getD from (level - 1) 0 < count
+        back-inside n = j .between .behind (level - 1) (omega arith) .inside
+
+        pub back-less : (level ≡ 0 → ⊥) → rank count (level - 1) (getD from (level - 1) 0 + 1) calls < rank count level i calls
+        back-less n = omega (arith, rows-few kind one two count start lent)
+
+        pub seeking-back : letter ≡ 83 → (level ≡ 0 → ⊥) → Seeking from (level - 1) (getD from (level - 1) 0 + 1) calls
+        seeking-back e n =
+            record {
+              exact = λ t. j .exact t ∙ rest-back kind one two count i letter read from level (at-calls calls) t (j .between .empty) e n;
+              between = record {
+                deep = omega (arith, j .between .deep);
+                long = j .between .long;
+                empty = j .between .empty;
+                few = j .between .few;
+                stand = j .between .behind (level - 1) (omega arith) .stand;
+                behind = λ k h. j .between .behind k (omega arith);
+              };
+              nearer = omega (arith, j .nearer, back-less n);
+            }
+
+        -- a call
+        module _ (e : letter ≡ 67) where
+          pub call-there : i < count
+          call-there = row-there kind count i letter read (λ z. omega arith)
+
+          is-call : getD kind i 0 ≡ 67
+          is-call = row-letter kind count i letter read call-there ∙ e
+
+          pub call-sheet : getD one i 0 < length start
+          call-sheet = omega (arith, call-known kind one two count start lent i call-there is-call, start-long kind one two count start lent)
+
+          pub seeking-deep : level ≡ levels → Left (reached.Stopped depthRefusal (lineOf i)) from
+          seeking-deep z =
+              record { exact = λ t. j .exact t ∙ rest-deep kind one two count i letter read from level (at-calls calls) t (j .between .empty) e z; stands = tt }
+
+          module _ (n : level ≡ levels → ⊥) where
+            pub deeper : level < levels
+            deeper = omega (arith, j .between .deep)
+
+            pub seeking-calls : callsMost ≤ calls → Left (reached.Stopped callsRefusal (lineOf i)) from
+            seeking-calls m =
+                record { exact = λ t. j .exact t ∙ rest-calls kind one two count i letter read from level (at-calls calls) t (j .between .empty) e deeper m; stands = tt }
+
+            module _ (m : calls < callsMost) (first : ℕ) (starts : first ≡ getD start (getD one i 0) 0) where
+              pub called-less : rank count (level + 1) first (calls + 1) < rank count level i calls
+              called-less = omega (arith, rows-few kind one two count start lent)
+
+              begins : first ≡ startOf (getD one i 0) (rowsOf kind one two count)
+              begins = starts ∙ call-start kind one two count start lent i call-there is-call
+
+              behind-call : Behind kind one two count i
+              behind-call =
+                  record {
+                    inside = call-there;
+                    stand =
+                        subst (AllStand 0) (rows-next kind one two count i call-there
+                        ∙ ap (λ r. r ∷ rowsFrom kind one two count (i + 1)) (row-call (getD kind i 0) (getD one i 0) (getD two i 0) is-call))
+                        (j .between .stand) .1;
+                  }
+
+              noted : (k : ℕ) → k < level + 1 → (b : Bool) → eqb k level ≡ b → Behind kind one two count (getD (set from level i) k 0)
+              noted k h true e =
+                  let here : getD (set from level i) k 0 ≡ i = ap (λ (k : ℕ). getD (set from level i) k 0) (eqb-true k level e)
+                  ∙ getD-set-same from level i 0 (omega (arith, j .between .long, deeper)) in
+                  subst (Behind kind one two count) (sym here) behind-call
+              noted k h false e =
+                  let d : k ≡ level → ⊥ = eqb-false k level e in
+                  subst (Behind kind one two count) (sym (getD-set-other from level k i 0 d)) (j .between .behind k (omega arith))
+
+              pub seeking-called : Seeking (set from level i) (level + 1) first (calls + 1)
+              seeking-called =
+                  record {
+                    exact = λ t. j .exact t
+                        ∙ rest-called kind one two count i letter read from level (at-calls calls) t (j .between .empty) e deeper (j .between .long) first begins m;
+                    between = record {
+                      deep = omega (arith, deeper);
+                      long = length-set from level i ∙ j .between .long;
+                      empty = j .between .empty;
+                      few = omega arith;
+                      stand =
+                          subst (λ (k : ℕ). AllStand 0 (rowsFrom kind one two count k)) (sym begins)
+                          (start-stand kind one two count start lent (getD one i 0));
+                      behind = λ k h. noted k h (eqb k level) refl;
+                    };
+                    nearer = omega (arith, j .nearer, called-less);
+                  }

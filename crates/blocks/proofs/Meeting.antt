@@ -5,7 +5,7 @@ use native.Mathlib.Numerals.{add-one}
 use native.Mathlib.Decide.{decLt}
 use native.Mathlib.Omega.{arith}
 use mathlib.Core.Path.{_≡_, refl, sym, _∙_, ap, subst}
-use mathlib.Core.Logic.{⊎-elim}
+use mathlib.Core.Logic.{_⊎_, inl, inr, ⊎-elim}
 use mathlib.Core.Bool.{Bool, true, false, cond, _||_, true≢false}
 use mathlib.Core.List.{List, [], _∷_}
 use lib.Dec.{eqb, ltb}
@@ -53,12 +53,14 @@ module _ (kind : List ℕ) (count i : ℕ) where
   unfolding inBlock
   in-rows r e t = ltb-true i count (and-left (ltb i count) (eqb (getD kind i 0) 77 || eqb (getD kind i 0) 80) (sym e ∙ t))
 
-  in-message : (r : Bool) → r ≡ inBlock kind count i → r ≡ true → (getD kind i 0 ≡ 80 → ⊥) → getD kind i 0 ≡ 77
+  pub in-either : inBlock kind count i ≡ true → (getD kind i 0 ≡ 77) ⊎ (getD kind i 0 ≡ 80)
   unfolding inBlock
-  in-message r e t n =
-      ⊎-elim (λ m. eqb-true (getD kind i 0) 77 m) (λ p. absurd (n (eqb-true (getD kind i 0) 80 p)))
-      (or-cases (eqb (getD kind i 0) 77) (eqb (getD kind i 0) 80)
-      (and-right (ltb i count) (eqb (getD kind i 0) 77 || eqb (getD kind i 0) 80) (sym e ∙ t)))
+  in-either t =
+      ⊎-elim (λ m. inl (eqb-true (getD kind i 0) 77 m)) (λ p. inr (eqb-true (getD kind i 0) 80 p))
+      (or-cases (eqb (getD kind i 0) 77) (eqb (getD kind i 0) 80) (and-right (ltb i count) (eqb (getD kind i 0) 77 || eqb (getD kind i 0) 80) t))
+
+  in-message : (r : Bool) → r ≡ inBlock kind count i → r ≡ true → (getD kind i 0 ≡ 80 → ⊥) → getD kind i 0 ≡ 77
+  in-message r e t n = ⊎-elim (λ m. m) (λ p. absurd (n p)) (in-either (sym e ∙ t))
 
   pub not-in : (r : Bool) → r ≡ inBlock kind count i → r ≡ false → i < count → (getD kind i 0 ≡ 77 → ⊥) × (getD kind i 0 ≡ 80 → ⊥)
   unfolding inBlock

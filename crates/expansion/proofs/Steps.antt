@@ -39,7 +39,7 @@ then-alike (ok s) f g h = h s
 then-alike (refusal number line) f g h = refl
 
 -- no event is past where there is none
-passed-none : (W : ℕ) (past events words : List ℕ) (n : ℕ) → passed W past events words n n ≡ past
+pub passed-none : (W : ℕ) (past events words : List ℕ) (n : ℕ) → passed W past events words n n ≡ past
 unfolding passed passedIn
 passed-none W past events words n = let e : n - n ≡ 0 = omega arith in rw e
 

@@ -23,10 +23,11 @@ use Rattle.relation.proofs.Loops.{Clearing, clearing-end}
 use Rattle.sheet.specs.Bridge.{rowsOf}
 use Rattle.blocks.specs.Store.{Store, storeOf, storeOps, concluded}
 use Rattle.blocks.specs.Room.{Room}
-use Rattle.blocks.specs.Block.{fresh, stateOf, rowsFrom, blockWalked, Leaves, Ready}
+use Rattle.blocks.specs.Block.{fresh, stateOf, rowsFrom, blockWalked, Leaves, AllStand, Ready}
 use Rattle.blocks.specs.declared.Walk.{Walk}
 use Rattle.blocks.specs.declared.Walked.{Walked}
 use Rattle.blocks.specs.declared.Walked.the-variants.{To, Stopped}
+use Rattle.blocks.proofs.Meeting.{in-rows}
 use Rattle.blocks.proofs.Sim.{Begins}
 use Rattle.blocks.proofs.Scenarios.{expanded-same}
 use Rattle.expansion.specs.Lent.{RowsRead}
@@ -37,6 +38,7 @@ use Rattle.expansion.specs.declared.Expanded.the-variants.{Messages, Ref
 use Rattle.expansion.specs.declared.Reached.{Reached}
 use Rattle.expansion.specs.declared.Reached.the-variants as reached
 use Rattle.expansion.proofs.Reading.{rows-drop, start-zero, start-stand}
+use Rattle.expansion.proofs.Closing.{rest-walked, AfterBlock, block-ends, block-more}
 
 -- the boards are zeros once the loop over them is done
 cleared-zeros : (n : ℕ) (l : List ℕ) → length l ≡ n → cleared n l ≡ zeros n
@@ -55,3 +57,144 @@ module _ (words : List ℕ) (count : ℕ) (r : Bool) (test : r ≡ anyOwn width 
 
   pub circle-none : r ≡ false → Messages count ≡ concludedAs (anyOwn width words (2 * count)) count
   circle-none e = rw (sym test ∙ e)
+
+module _ (kind one two : List ℕ) (count : ℕ) where
+  abbrev file : List Row
+  file = rowsOf kind one two count
+
+  -- What the loop over the blocks keeps: from here the whole comes to the paper's answer.
+  pub record Walking (from : List ℕ) (level i : ℕ) (w : Walk) (t : Store) : Type 0 where
+    pub exact : rest kind one two count from level i (stateOf w t) ≡ expandedOf file
+    pub between : Between kind one two count from level i w
+    pub room : Room (w .first) (w .count) t
+
+  module _ (start : List ℕ) (lent : RowsRead kind one two count start) where
+    begins : (t : Store) → Begins t → (from : List ℕ) → rest kind one two count from 0 (getD start 0 0) (stateOf fresh t) ≡ expandedOf file
+    unfolding after expandRows
+    begins t z from =
+        ap (λ (i : ℕ). rest kind one two count from 0 i (stateOf fresh t)) (start-zero kind one two count start lent)
+        ∙ ap (λ (rs : List Row). andThen (walkRows storeOps (callAt storeOps levels file) rs (lineOf (startOf 0 file)) (stateOf fresh t)) concluded)
+        (sym (rows-drop kind one two count (startOf 0 file)))
+        ∙ expanded-same file (read-fits (lent .read .0) file (lent .read .1)) t z
+
+    -- nothing is met, whatever the words hold
+    pub walking-start : (events words from : List ℕ) (w : Walk) → events ≡ zeros (2 * messagesMost) → length words ≡ 2 * messagesMost * width
+        → length from ≡ levels
+        → w ≡ fresh
+        → Walking from 0 (getD start 0 0) w (storeOf events words (replicate (boards * width) 0))
+    unfolding zeros
+    walking-start events words from w e l f g =
+        let long : length events ≡ 2 * messagesMost = ap length e ∙ length-replicate {A = ℕ} (2 * messagesMost) 0 in
+        let zero-at : (k : ℕ) → getD events k 0 ≡ 0 = λ k. ap (λ (l : List ℕ). getD l k 0) e ∙ replicate-at (2 * messagesMost) k 0 in
+        let z : Begins (storeOf events words (replicate (boards * width) 0)) = record {
+          eventsLong = long;
+          wordsLong = l;
+          pastLong = length-replicate {A = ℕ} (boards * width) 0;
+          eventsZero = zero-at;
+          pastZero = λ k. replicate-at (boards * width) k 0;
+        } in
+        rw g
+        (record {
+          exact = begins (storeOf events words (replicate (boards * width) 0)) z from;
+          between = record {
+            deep = omega arith;
+            long = f;
+            empty = refl;
+            few = omega arith;
+            stand =
+                subst (λ (i : ℕ). AllStand 0 (rowsFrom kind one two count i)) (sym (start-zero kind one two count start lent))
+                (start-stand kind one two count start lent 0);
+            behind = λ k h. absurd (omega arith);
+          };
+          room = record {
+            eventsLong = long;
+            wordsLong = l;
+            pastLong = length-replicate {A = ℕ} (boards * width) 0;
+            firstMost = omega arith;
+            countMost = omega arith;
+            boardsMost = λ k. omega (arith, zero-at k);
+          };
+        })
+
+  module _ (from : List ℕ) (level i : ℕ) (w : Walk) (t : Store) (j : Walking from level i w t) (from′ : List ℕ) where
+    abbrev Reached-as : Reached → Type 0
+    Reached-as r = Reaches kind one two count from level i w r from′
+
+    pub walking-stopped : (number line : ℕ) → Reached-as (reached.Stopped number line) → refusal number line ≡ expandedOf file
+    walking-stopped number line r = sym (r .exact t) ∙ j .exact
+
+    -- sheet 0 has ended
+    module _ (v : Walk) (r : Reached-as (reached.End v)) where
+      pub end-few : v .count ≤ messagesMost
+      end-few = omega (arith, r .stands, j .room .countMost)
+
+      pub walking-end : (a : Expanded) → a ≡ concludedAs (anyOwn width (t .words) (2 * v .count)) (v .count)
+          → outcomeOf a (t .events) (t .words) ≡ expandedOf file
+      walking-end a e =
+          ap (λ (x : Expanded). outcomeOf x (t .events) (t .words)) e ∙ by-test (anyOwn width (t .words) (2 * v .count)) ∙ sym (r .exact t) ∙ j .exact
+        where
+          by-test : (b : Bool) → outcomeOf (concludedAs b (v .count)) (t .events) (t .words)
+              ≡ cond b (refusal circleRefusal 0) (ok (scenarioIn (v .count) (t .events) (t .words)))
+          by-test true = refl
+          by-test false = refl
+
+    -- a block is walked
+    module _ (level′ i′ : ℕ) (v : Walk) (r : Reached-as (reached.Block level′ i′ v)) where
+      abbrev b : Between kind one two count from′ level′ i′ v
+      b = r .stands .between
+
+      pub block-ready : Ready kind one two count i′ (v .first) (v .count) t
+      block-ready =
+          let none : 0 ≡ 2 * (v .count - v .first) = omega (arith, b .empty) in
+          record {
+            room = record {
+              eventsLong = j .room .eventsLong;
+              wordsLong = j .room .wordsLong;
+              pastLong = j .room .pastLong;
+              firstMost = omega (arith, b .empty);
+              countMost = omega (arith, r .stands .same, j .room .countMost);
+              boardsMost = j .room .boardsMost;
+            };
+            stand = subst (λ (n : ℕ). AllStand n (rowsFrom kind one two count i′)) none (b .stand);
+          }
+
+      abbrev walked : Out (ℕ × Progress Store)
+      walked = blockWalked (rowsFrom kind one two count i′) i′ (stateOf v t)
+
+      onward : (o : Out (ℕ × Progress Store)) → o ≡ walked → andThen o (λ p. rest kind one two count from′ level′ (p .0) (p .1)) ≡ expandedOf file
+      onward o e =
+          ap (λ (o : Out (ℕ × Progress Store)). andThen o (λ p. rest kind one two count from′ level′ (p .0) (p .1))) e
+          ∙ sym (rest-walked kind one two count from′ level′ i′ (stateOf v t))
+          ∙ sym (r .exact t)
+          ∙ j .exact
+
+      pub walking-refused : (number line : ℕ) (t′ : Store) → Leaves (Stopped number line) t′ walked → refusal number line ≡ expandedOf file
+      unfolding andThen
+      walking-refused number line t′ l = onward (refusal number line) (l .exact)
+
+      module _ (k : ℕ) (u : Walk) (t′ : Store) (l : Leaves (To k u) t′ walked) where
+        behind : AfterBlock kind one two count i′ (stateOf v t) (k, stateOf u t′)
+        behind = block-ends kind one two count i′ 0 (stateOf v t) (k, stateOf u t′) (b .stand) (sym (l .exact))
+
+        pub walking-less : rank count level′ k (u .calls) < rank count level i (w .calls)
+        walking-less =
+            let more : i′ < k = block-more kind one two count i′ 0 (stateOf v t) (k, stateOf u t′) (b .stand) (sym (l .exact)) (r .stands .row) in
+            let in-file : i′ < count = in-rows kind count i′ true (sym (r .stands .row)) refl in
+            let same : u .calls ≡ v .calls = behind .calls in
+            omega (arith, r .stands .nearer)
+
+        pub walking-on : Walking from′ level′ k u t′
+        unfolding andThen
+        walking-on =
+            record {
+              exact = onward (ok (k, stateOf u t′)) (l .exact);
+              between = record {
+                deep = b .deep;
+                long = b .long;
+                empty = behind .empty;
+                few = omega (arith, behind .calls, b .few);
+                stand = behind .stand;
+                behind = b .behind;
+              };
+              room = l .room;
+            }

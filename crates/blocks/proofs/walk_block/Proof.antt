@@ -6,12 +6,6 @@ use Rattle.blocks.specs.Store.{storeOf}
 use Rattle.blocks.proofs.Meeting.{Meeting, in-rows, meeting-start, meeting-refused, meeting-end, meeting-message, meeting-order, message-boards, order-events}
 use Rattle.blocks.proofs.walk_block.Statement.{statement}
 use Rattle.blocks.proofs.walk_block.Tie as tie
-use Rattle.blocks.proofs.walk_block.Reads as reads
-use Rattle.blocks.proofs.walk_block.Lts as lts
-use Rattle.blocks.proofs.add_message.Reads as add-message-reads
-use Rattle.blocks.proofs.add_order.Reads as add-order-reads
-use Rattle.blocks.proofs.close_block.Reads as close-block-reads
-use Rattle.blocks.proofs.in_block.Reads as in-block-reads
 
 abbrev Inv-loop : tie.InvT-loop
 Inv-loop kind one two rows boards₀ words₀ past row walk first at₀ met₀ boards words at met =

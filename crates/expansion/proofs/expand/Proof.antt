@@ -1,124 +1,112 @@
+-- `expansion::expand` meets its contract: its loop keeps `Walking`. Assumes nothing.
+use native.Mathlib.Omega.{arith}
+use borrow.Author.Needs.{needs}
+use Rattle.blocks.specs.Store.{storeOf}
+use Rattle.blocks.proofs.Meeting.{leaves-as}
+use Rattle.expansion.specs.Levels.{rank}
+use Rattle.expansion.proofs.Reading.{columns, start-long}
+use Rattle.expansion.proofs.Seeking.{reaches-as}
+use Rattle.expansion.proofs.Whole.{Walking, walking-start, walking-stopped, walking-end, end-few, block-ready, walking-refused, walking-less, walking-on}
 use Rattle.expansion.proofs.expand.Statement.{statement}
 use Rattle.expansion.proofs.expand.Tie as tie
-use Rattle.expansion.proofs.expand.Reads as reads
-use Rattle.expansion.proofs.expand.Lts as lts
-use Rattle.blocks.proofs.Walk.fresh.Reads as fresh-reads
-use Rattle.blocks.proofs.walk_block.Reads as walk-block-reads
-use Rattle.expansion.proofs.clear_boards.Reads as clear-boards-reads
-use Rattle.expansion.proofs.next_block.Reads as next-block-reads
-use Rattle.expansion.proofs.without_circle.Reads as without-circle-reads
 
 abbrev Inv-loop : tie.InvT-loop
 Inv-loop kind one two count start boards₀ words₀ past₀ from₀ level₀ at₀ here₀ boards words past from level at here =
-    ?
+    Walking kind one two count from level at here (storeOf boards words past)
 
 abbrev μ-loop : tie.MeasureT-loop
 μ-loop kind one two count start boards₀ words₀ past₀ from₀ level₀ at₀ here₀ boards words past from level at here =
-    ?
+    rank count level at (here .calls)
 
--- src/lib.rt:148:5
 clear-boards-requires : tie.Need-clear-boards-requires Inv-loop μ-loop
-clear-boards-requires c κs = ?
+clear-boards-requires c κs = search needs
 
--- src/lib.rt:152:18
 shared-slice-read-at : tie.Need-shared-slice-read-at Inv-loop μ-loop
-shared-slice-read-at c = ?
+shared-slice-read-at c =
+    omega (arith, start-long _ _ _ _ _ (c .before .before .before .before .before .before .before .before .before .before .before .pre .0))
 
--- src/lib.rt:152:18
 cast-at : tie.Need-cast-at Inv-loop μ-loop
-cast-at c = ?
+cast-at c =
+    omega (arith, c .shared-slice-known5 .given 0)
 
--- src/lib.rt:153:9
 fresh-requires : tie.Need-fresh-requires Inv-loop μ-loop
-fresh-requires c κs = ?
+fresh-requires c κs = search needs
 
--- src/lib.rt:154:5
 loop-holds : tie.Need-loop-holds Inv-loop μ-loop
-loop-holds c = ?
+loop-holds c = search walking-start
 
--- src/lib.rt:155:56
 slice-aggregate-next-block : tie.Need-slice-aggregate-next-block Inv-loop μ-loop
-slice-aggregate-next-block c = ?
+slice-aggregate-next-block c = search needs
 
--- src/lib.rt:155:15
 next-block-requires : tie.Need-next-block-requires Inv-loop μ-loop
-next-block-requires c κs = ?
+next-block-requires c κs = search needs
 
--- src/lib.rt:156:30
 enum-known-number : tie.Need-enum-known-number Inv-loop μ-loop
-enum-known-number c = ?
+enum-known-number c = search needs
 
--- src/lib.rt:156:47
 same-length : tie.Need-same-length Inv-loop μ-loop
-same-length c = ?
+same-length c = search needs
 
--- src/lib.rt:156:47
 same-length-2 : tie.Need-same-length-2 Inv-loop μ-loop
-same-length-2 c = ?
+same-length-2 c = search needs
 
--- src/lib.rt:156:47
 returns : tie.Need-returns Inv-loop μ-loop
-returns c = ?
+returns c =
+    walking-stopped _ _ _ _ _ _ _ _ _ (c .before .before .before .before .before .before .loop .inv) _ _ _ (reaches-as (c .before .number .given .1) (c .before .before .before .before .next-block .ensures))
 
--- src/lib.rt:157:26
 enum-known-last : tie.Need-enum-known-last Inv-loop μ-loop
-enum-known-last c = ?
+enum-known-last c = search needs
 
--- src/lib.rt:157:35
 without-circle-requires : tie.Need-without-circle-requires Inv-loop μ-loop
-without-circle-requires c κs = ?
+without-circle-requires c κs =
+    let j = c .before .before .before .before .before .before .before .loop .inv in
+    (j .room .wordsLong, end-few _ _ _ _ _ _ _ _ _ j _ _ (reaches-as (c .before .before .last .given .1) (c .before .before .before .before .before .next-block .ensures)))
 
--- src/lib.rt:157:35
 same-length-3 : tie.Need-same-length-3 Inv-loop μ-loop
-same-length-3 c = ?
+same-length-3 c = search needs
 
--- src/lib.rt:157:35
 same-length-4 : tie.Need-same-length-4 Inv-loop μ-loop
-same-length-4 c = ?
+same-length-4 c = search needs
 
--- src/lib.rt:157:35
 returns-2 : tie.Need-returns-2 Inv-loop μ-loop
-returns-2 c = ?
+returns-2 c =
+    walking-end _ _ _ _ _ _ _ _ _ (c .before .before .before .before .before .before .before .before .loop .inv) _ _ (reaches-as (c .before .before .before .last .given .1) (c .before .before .before .before .before .before .next-block .ensures)) _ (c .without-circle .ensures)
 
--- src/lib.rt:158:28
 enum-known-deep : tie.Need-enum-known-deep Inv-loop μ-loop
-enum-known-deep c = ?
+enum-known-deep c = search needs
 
--- src/lib.rt:166:21
 slice-aggregate-walk-block : tie.Need-slice-aggregate-walk-block Inv-loop μ-loop
-slice-aggregate-walk-block c = ?
+slice-aggregate-walk-block c = search needs
 
--- src/lib.rt:159:23
 walk-block-requires : tie.Need-walk-block-requires Inv-loop μ-loop
-walk-block-requires c κs = ?
+walk-block-requires c κs =
+    (columns _ _ _ _ _ (c .before .before .before .before .before .before .before .before .before .before .before .before .before .before .before .before .before .before .before .before .before .before .pre .0), block-ready _ _ _ _ _ _ _ _ _ (c .before .before .before .before .before .before .before .before .before .loop .inv) _ _ _ _ (reaches-as (c .before .before .before .before .deep .given .1) (c .before .before .before .before .before .before .before .next-block .ensures)))
 
--- src/lib.rt:170:37
 enum-known-number-2 : tie.Need-enum-known-number-2 Inv-loop μ-loop
-enum-known-number-2 c = ?
+enum-known-number-2 c = search needs
 
--- src/lib.rt:170:54
 same-length-5 : tie.Need-same-length-5 Inv-loop μ-loop
-same-length-5 c = ?
+same-length-5 c =
+    omega (arith, c .before .before .before .before .before .before .before .before .before .before .before .before .before .before .before .before .before .before .before .before .before .before .before .before .before .before .before .before .before .before .before .pre .1 .0)
 
--- src/lib.rt:170:54
 same-length-6 : tie.Need-same-length-6 Inv-loop μ-loop
-same-length-6 c = ?
+same-length-6 c =
+    omega (arith, c .before .before .before .before .before .before .before .before .before .before .before .before .before .before .before .before .before .before .before .before .before .before .before .before .before .before .before .before .before .before .before .pre .1 .1)
 
--- src/lib.rt:170:54
 returns-3 : tie.Need-returns-3 Inv-loop μ-loop
-returns-3 c = ?
+returns-3 c =
+    walking-refused _ _ _ _ _ _ _ _ _ (c .before .before .before .before .before .before .before .before .before .before .before .before .before .before .before .before .before .before .loop .inv) _ _ _ _ (reaches-as (c .before .before .before .before .before .before .before .before .before .before .before .before .before .deep .given .1) (c .before .before .before .before .before .before .before .before .before .before .before .before .before .before .before .before .next-block .ensures)) _ _ _ (leaves-as (c .before .number2 .given .1) (c .before .before .before .before .before .before .before .before .walk-block .ensures))
 
--- src/lib.rt:171:32
 enum-known-behind : tie.Need-enum-known-behind Inv-loop μ-loop
-enum-known-behind c = ?
+enum-known-behind c = search needs
 
--- src/lib.rt:154:5
 loop-less : tie.Need-loop-less Inv-loop μ-loop
-loop-less c = ?
+loop-less c =
+    walking-less _ _ _ _ _ _ _ _ _ (c .before .before .before .before .before .before .before .before .before .before .before .before .before .before .before .before .before .before .loop .inv) _ _ _ _ (reaches-as (c .before .before .before .before .before .before .before .before .before .before .before .before .before .deep .given .1) (c .before .before .before .before .before .before .before .before .before .before .before .before .before .before .before .before .next-block .ensures)) _ _ _ (leaves-as (c .before .behind .given .1) (c .before .before .before .before .before .before .before .before .walk-block .ensures))
 
--- src/lib.rt:154:5
 loop-again : tie.Need-loop-again Inv-loop μ-loop
-loop-again c = ?
+loop-again c =
+    walking-on _ _ _ _ _ _ _ _ _ (c .before .before .before .before .before .before .before .before .before .before .before .before .before .before .before .before .before .before .loop .inv) _ _ _ _ (reaches-as (c .before .before .before .before .before .before .before .before .before .before .before .before .before .deep .given .1) (c .before .before .before .before .before .before .before .before .before .before .before .before .before .before .before .before .next-block .ensures)) _ _ _ (leaves-as (c .before .behind .given .1) (c .before .before .before .before .before .before .before .before .walk-block .ensures))
 
 pub expand-spec : {M : Type 1} → statement M
 expand-spec =

@@ -7,11 +7,6 @@ use Rattle.expansion.proofs.Reading.{rows-few}
 use Rattle.expansion.proofs.Seeking.{Seeking, seeking-start, seeking-block, seeking-deep, seeking-calls, seeking-end, seeking-called, seeking-back, seeking-on, called-less, back-less, on-less, on-there, back-inside, call-there, call-sheet, deeper}
 use Rattle.expansion.proofs.next_block.Statement.{statement}
 use Rattle.expansion.proofs.next_block.Tie as tie
-use Rattle.expansion.proofs.next_block.Reads as reads
-use Rattle.expansion.proofs.next_block.Lts as lts
-use Rattle.blocks.proofs.in_block.Reads as in-block-reads
-use Rattle.expansion.proofs.called_row.Reads as called-row-reads
-use Rattle.expansion.proofs.letter_at.Reads as letter-at-reads
 
 abbrev Inv-loop : tie.InvT-loop
 Inv-loop kind one two rows start from₀ depth row walk level₀ at₀ calls₀ from level at calls =

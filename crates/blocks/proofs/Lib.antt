@@ -1,9 +1,8 @@
-mod Passed
-mod Added
+pub mod Passed
+pub mod Added
 pub mod Sim
 mod SimMessage
 mod SimOrder
-pub mod Twin
+mod Twin
 pub mod Scenarios
 mod Turns
-pub mod Meeting

@@ -1,5 +1,2 @@
-pub mod Reading
-mod Steps
-mod Closing
-mod Seeking
+mod Reading
 mod Whole

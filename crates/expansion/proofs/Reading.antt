@@ -23,14 +23,11 @@ use Rattle.model.proofs.Closure.{cells-length, cells-at}
 use Rattle.model.proofs.Standing.{Fits, read-fits, cond-some}
 use Rattle.model.proofs.Walked.{OnOneBoard, message-parts, order-parts}
 use Rattle.sheet.specs.Bridge.{rowFrom, rowsAt, rowsOf, startIn}
-use Rattle.sheet.proofs.Bridge.{rows-length, rows-drop as rows-at-drop, row-call}
-use Rattle.blocks.specs.Block.{rowsFrom, RowsFew, AllStand}
+use Rattle.sheet.proofs.Bridge.{rows-length, row-call}
+use Rattle.walk.specs.Block.{rowsFrom, RowsFew, AllStand}
+use Rattle.walk.proofs.Meeting.{rows-drop}
+use Rattle.levels.specs.Levels.{Sheets}
 use Rattle.expansion.specs.Lent.{AreRead, RowsRead}
-
--- The rows from row i on.
-module _ (kind one two : List ℕ) where
-  pub rows-drop : (count i : ℕ) → drop i (rowsOf kind one two count) ≡ rowsFrom kind one two count i
-  rows-drop count i = rows-at-drop kind one two i 0 count ∙ ap (λ (k : ℕ). rowsAt kind one two k (count - i)) (omega arith)
 
 -- a row that is read is one of the first 512, and its place allows it
 pub record Judged (i : ℕ) (p q : Place) (r : Row) : Type 0 where
@@ -203,11 +200,8 @@ module _ (kind one two : List ℕ) (count : ℕ) (start : List ℕ) (lent : Rows
   file = rowsOf kind one two count
 
   -- the rows lent are few, so a row's line fits
-  pub rows-few : count ≤ rowsMost
+  rows-few : count ≤ rowsMost
   rows-few = omega (arith, rows-length kind one two 0 count, read-whole file (lent .read) .few)
-
-  pub columns : RowsFew kind one two count
-  columns = record { few = rows-few; kindLong = lent .kindLong; oneLong = lent .oneLong; twoLong = lent .twoLong }
 
   -- the sheet that a call names is there, and starts where the table says
   start-at : (n : ℕ) → n < sheets → among n (opens file) ≡ true → getD start n 0 ≡ startOf n file
@@ -219,10 +213,10 @@ module _ (kind one two : List ℕ) (count : ℕ) (start : List ℕ) (lent : Rows
       subst (Present (opens file)) (row-call (getD kind i 0) (getD one i 0) (getD two i 0) e)
       (present-at (opens file) kind one two 0 count (read-whole file (lent .read) .present) i (omega arith) (omega arith))
 
-  pub call-known : (i : ℕ) → i < count → getD kind i 0 ≡ 67 → getD one i 0 < sheets
+  call-known : (i : ℕ) → i < count → getD kind i 0 ≡ 67 → getD one i 0 < sheets
   call-known i h e = call-present i h e .0
 
-  pub call-start : (i : ℕ) → i < count → getD kind i 0 ≡ 67 → getD start (getD one i 0) 0 ≡ startOf (getD one i 0) file
+  call-start : (i : ℕ) → i < count → getD kind i 0 ≡ 67 → getD start (getD one i 0) 0 ≡ startOf (getD one i 0) file
   call-start i h e = let p = call-present i h e in start-at (getD one i 0) (p .0) (p .1)
 
   pub start-long : length start ≡ sheets
@@ -236,3 +230,12 @@ module _ (kind one two : List ℕ) (count : ℕ) (start : List ℕ) (lent : Rows
   start-stand n =
       subst (AllStand 0) (rows-drop kind one two count (startOf n file))
       (sheet-stand 0 n file (all-stand [] file (read-fits (lent .read .0) file (lent .read .1))))
+
+  pub sheets-lent : Sheets kind one two count start
+  sheets-lent =
+      record {
+        rows = record { few = rows-few; kindLong = lent .kindLong; oneLong = lent .oneLong; twoLong = lent .twoLong };
+        known = λ i h e. omega (arith, call-known i h e, start-long);
+        starts = call-start;
+        stand = start-stand;
+      }

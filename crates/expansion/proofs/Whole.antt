@@ -23,22 +23,22 @@ use Rattle.relation.proofs.Loops.{Clearing, clearing-end}
 use Rattle.sheet.specs.Bridge.{rowsOf}
 use Rattle.blocks.specs.Store.{Store, storeOf, storeOps, concluded}
 use Rattle.blocks.specs.Room.{Room}
-use Rattle.blocks.specs.Block.{fresh, stateOf, rowsFrom, blockWalked, Leaves, AllStand, Ready}
-use Rattle.blocks.specs.declared.Walk.{Walk}
-use Rattle.blocks.specs.declared.Walked.{Walked}
-use Rattle.blocks.specs.declared.Walked.the-variants.{To, Stopped}
-use Rattle.blocks.proofs.Meeting.{in-rows}
+use Rattle.walk.specs.Block.{fresh, stateOf, rowsFrom, blockWalked, Leaves, AllStand, Ready}
+use Rattle.walk.specs.declared.Walk.{Walk}
+use Rattle.walk.specs.declared.Walked.{Walked}
+use Rattle.walk.specs.declared.Walked.the-variants.{To, Stopped}
+use Rattle.walk.proofs.Meeting.{in-rows, rows-drop}
 use Rattle.blocks.proofs.Sim.{Begins}
 use Rattle.blocks.proofs.Scenarios.{expanded-same}
 use Rattle.expansion.specs.Lent.{RowsRead}
 use Rattle.expansion.specs.Outcome.{outcomeOf, concludedAs, zeros}
-use Rattle.expansion.specs.Levels.{after, rest, rank, Between, Reaches}
+use Rattle.levels.specs.Levels.{after, rest, rank, Between, Reaches}
 use Rattle.expansion.specs.declared.Expanded.{Expanded}
 use Rattle.expansion.specs.declared.Expanded.the-variants.{Messages, Refused}
-use Rattle.expansion.specs.declared.Reached.{Reached}
-use Rattle.expansion.specs.declared.Reached.the-variants as reached
-use Rattle.expansion.proofs.Reading.{rows-drop, start-zero, start-stand}
-use Rattle.expansion.proofs.Closing.{rest-walked, AfterBlock, block-ends, block-more}
+use Rattle.levels.specs.declared.Reached.{Reached}
+use Rattle.levels.specs.declared.Reached.the-variants as reached
+use Rattle.expansion.proofs.Reading.{start-zero, start-stand}
+use Rattle.levels.proofs.Closing.{rest-walked, AfterBlock, block-ends, block-more}
 
 -- the boards are zeros once the loop over them is done
 cleared-zeros : (n : ℕ) (l : List ℕ) → length l ≡ n → cleared n l ≡ zeros n

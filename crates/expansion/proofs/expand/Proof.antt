@@ -2,10 +2,10 @@
 use native.Mathlib.Omega.{arith}
 use borrow.Author.Needs.{needs}
 use Rattle.blocks.specs.Store.{storeOf}
-use Rattle.blocks.proofs.Meeting.{leaves-as}
-use Rattle.expansion.specs.Levels.{rank}
-use Rattle.expansion.proofs.Reading.{columns, start-long}
-use Rattle.expansion.proofs.Seeking.{reaches-as}
+use Rattle.walk.proofs.Meeting.{leaves-as}
+use Rattle.levels.specs.Levels.{rank}
+use Rattle.expansion.proofs.Reading.{start-long, sheets-lent}
+use Rattle.levels.proofs.Seeking.{reaches-as}
 use Rattle.expansion.proofs.Whole.{Walking, walking-start, walking-stopped, walking-end, end-few, block-ready, walking-refused, walking-less, walking-on}
 use Rattle.expansion.proofs.expand.Statement.{statement}
 use Rattle.expansion.proofs.expand.Tie as tie
@@ -39,7 +39,7 @@ slice-aggregate-next-block : tie.Need-slice-aggregate-next-block Inv-loop μ-loo
 slice-aggregate-next-block c = search needs
 
 next-block-requires : tie.Need-next-block-requires Inv-loop μ-loop
-next-block-requires c κs = search needs
+next-block-requires c κs = (sheets-lent _ _ _ _ _ (c .before .before .before .before .before .before .before .before .before .before .before .before .before .before .pre .0), c .before .loop .inv .between)
 
 enum-known-number : tie.Need-enum-known-number Inv-loop μ-loop
 enum-known-number c = search needs
@@ -80,7 +80,7 @@ slice-aggregate-walk-block c = search needs
 
 walk-block-requires : tie.Need-walk-block-requires Inv-loop μ-loop
 walk-block-requires c κs =
-    (columns _ _ _ _ _ (c .before .before .before .before .before .before .before .before .before .before .before .before .before .before .before .before .before .before .before .before .before .before .pre .0), block-ready _ _ _ _ _ _ _ _ _ (c .before .before .before .before .before .before .before .before .before .loop .inv) _ _ _ _ (reaches-as (c .before .before .before .before .deep .given .1) (c .before .before .before .before .before .before .before .next-block .ensures)))
+    (sheets-lent _ _ _ _ _ (c .before .before .before .before .before .before .before .before .before .before .before .before .before .before .before .before .before .before .before .before .before .before .pre .0) .rows, block-ready _ _ _ _ _ _ _ _ _ (c .before .before .before .before .before .before .before .before .before .loop .inv) _ _ _ _ (reaches-as (c .before .before .before .before .deep .given .1) (c .before .before .before .before .before .before .before .next-block .ensures)))
 
 enum-known-number-2 : tie.Need-enum-known-number-2 Inv-loop μ-loop
 enum-known-number-2 c = search needs

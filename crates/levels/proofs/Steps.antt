@@ -20,11 +20,10 @@ use Rattle.relation.specs.Width.{width}
 use Rattle.sheet.specs.Bridge.{rowFrom, rowsOf}
 use Rattle.sheet.proofs.Bridge.{row-sheet, row-call, row-block}
 use Rattle.blocks.specs.Store.{Store, storeOps, passed, passedIn, concluded}
-use Rattle.blocks.specs.Block.{stateOf, rowsFrom}
-use Rattle.blocks.specs.declared.Walk.{Walk}
-use Rattle.blocks.proofs.Meeting.{rows-next, rows-end}
-use Rattle.expansion.specs.Levels.{letterAt, rowsWalked, after, rest}
-use Rattle.expansion.proofs.Reading.{rows-drop}
+use Rattle.walk.specs.Block.{stateOf, rowsFrom}
+use Rattle.walk.specs.declared.Walk.{Walk}
+use Rattle.walk.proofs.Meeting.{rows-next, rows-end, rows-drop}
+use Rattle.levels.specs.Levels.{letterAt, rowsWalked, after, rest}
 
 -- three parts, one after another
 then-then : {C : Type 0} (o : Out (Progress Store)) (f : Progress Store → Out (Progress Store)) (g : Progress Store → Out C)

@@ -1,12 +1,11 @@
--- `expansion::next_block` meets its contract: its loop keeps `Seeking`. It ends, since each turn brings it nearer to the end.
+-- `levels::next_block` meets its contract: its loop keeps `Seeking`. It ends, since each turn brings it nearer to the end.
 -- Assumes nothing.
 use native.Mathlib.Omega.{arith}
 use borrow.Author.Needs.{needs}
-use Rattle.expansion.specs.Levels.{rank}
-use Rattle.expansion.proofs.Reading.{rows-few}
-use Rattle.expansion.proofs.Seeking.{Seeking, seeking-start, seeking-block, seeking-deep, seeking-calls, seeking-end, seeking-called, seeking-back, seeking-on, called-less, back-less, on-less, on-there, back-inside, call-there, call-sheet, deeper}
-use Rattle.expansion.proofs.next_block.Statement.{statement}
-use Rattle.expansion.proofs.next_block.Tie as tie
+use Rattle.levels.specs.Levels.{rank}
+use Rattle.levels.proofs.Seeking.{Seeking, seeking-start, seeking-block, seeking-deep, seeking-calls, seeking-end, seeking-called, seeking-back, seeking-on, called-less, back-less, on-less, on-there, back-inside, call-there, call-sheet, deeper}
+use Rattle.levels.proofs.next_block.Statement.{statement}
+use Rattle.levels.proofs.next_block.Tie as tie
 
 abbrev Inv-loop : tie.InvT-loop
 Inv-loop kind one two rows start from₀ depth row walk level₀ at₀ calls₀ from level at calls =
@@ -32,7 +31,7 @@ letter-at-requires c κs = search needs
 
 add-t18 : tie.Need-add-t18 Inv-loop μ-loop
 add-t18 c =
-    omega (arith, rows-few _ _ _ _ _ (c .before .before .before .before .before .before .before .before .before .before .before .pre .0), call-there _ _ _ _ _ _ _ _ _ _ _ _ (c .before .before .before .before .before .loop .inv) _ (c .before .before .letter-at .ensures) _ (c .before .before .before .before .before .before .before .before .before .before .before .pre .0) (c .before .if2 .taken))
+    omega (arith, c .before .before .before .before .before .before .before .before .before .before .before .pre .0 .rows .few, call-there _ _ _ _ _ _ _ _ _ _ _ _ (c .before .before .before .before .before .loop .inv) _ (c .before .before .letter-at .ensures) _ (c .before .before .before .before .before .before .before .before .before .before .before .pre .0) (c .before .if2 .taken))
 
 same-length-2 : tie.Need-same-length-2 Inv-loop μ-loop
 same-length-2 c = search needs
@@ -42,7 +41,7 @@ returns-2 c = search seeking-deep
 
 add-t19 : tie.Need-add-t19 Inv-loop μ-loop
 add-t19 c =
-    omega (arith, rows-few _ _ _ _ _ (c .before .before .before .before .before .before .before .before .before .before .before .before .pre .0), call-there _ _ _ _ _ _ _ _ _ _ _ _ (c .before .before .before .before .before .before .loop .inv) _ (c .before .before .before .letter-at .ensures) _ (c .before .before .before .before .before .before .before .before .before .before .before .before .pre .0) (c .before .before .if2 .taken))
+    omega (arith, c .before .before .before .before .before .before .before .before .before .before .before .before .pre .0 .rows .few, call-there _ _ _ _ _ _ _ _ _ _ _ _ (c .before .before .before .before .before .before .loop .inv) _ (c .before .before .before .letter-at .ensures) _ (c .before .before .before .before .before .before .before .before .before .before .before .before .pre .0) (c .before .before .if2 .taken))
 
 same-length-3 : tie.Need-same-length-3 Inv-loop μ-loop
 same-length-3 c = search needs
@@ -64,7 +63,7 @@ add-level c = search needs
 
 called-row-requires : tie.Need-called-row-requires Inv-loop μ-loop
 called-row-requires c κs = (
-  omega (arith, c .before .before .before .before .before .before .before .before .before .before .before .before .pre .0 .oneLong, call-there _ _ _ _ _ _ _ _ _ _ _ _ (c .before .before .before .before .before .before .loop .inv) _ (c .before .before .before .letter-at .ensures) _ (c .before .before .before .before .before .before .before .before .before .before .before .before .pre .0) (c .before .before .if2 .taken)),
+  omega (arith, c .before .before .before .before .before .before .before .before .before .before .before .before .pre .0 .rows .oneLong, call-there _ _ _ _ _ _ _ _ _ _ _ _ (c .before .before .before .before .before .before .loop .inv) _ (c .before .before .before .letter-at .ensures) _ (c .before .before .before .before .before .before .before .before .before .before .before .before .pre .0) (c .before .before .if2 .taken)),
   call-sheet _ _ _ _ _ _ _ _ _ _ _ _ (c .before .before .before .before .before .before .loop .inv) _ (c .before .before .before .letter-at .ensures) _ (c .before .before .before .before .before .before .before .before .before .before .before .before .pre .0) (c .before .before .if2 .taken),
 )
 
@@ -91,7 +90,7 @@ slice-read-at c = search needs
 
 add-at : tie.Need-add-at Inv-loop μ-loop
 add-at c =
-    omega (arith, rows-few _ _ _ _ _ (c .before .before .before .before .before .before .before .before .before .before .before .before .before .pre .0), back-inside _ _ _ _ _ _ _ _ _ _ _ _ (c .before .before .before .before .before .before .before .loop .inv) _ (c .before .before .before .before .letter-at .ensures) _ (c .before .before .before .before .before .before .before .before .before .before .before .before .before .pre .0) (c .before .if6 .left))
+    omega (arith, c .before .before .before .before .before .before .before .before .before .before .before .before .before .pre .0 .rows .few, back-inside _ _ _ _ _ _ _ _ _ _ _ _ (c .before .before .before .before .before .before .before .loop .inv) _ (c .before .before .before .before .letter-at .ensures) _ (c .before .before .before .before .before .before .before .before .before .before .before .before .before .pre .0) (c .before .if6 .left))
 
 loop-less-2 : tie.Need-loop-less-2 Inv-loop μ-loop
 loop-less-2 c = search back-less
@@ -101,7 +100,7 @@ loop-again-2 c = search seeking-back
 
 add-at-2 : tie.Need-add-at-2 Inv-loop μ-loop
 add-at-2 c =
-    omega (arith, rows-few _ _ _ _ _ (c .before .before .before .before .before .before .before .before .before .before .before .pre .0), on-there _ _ _ _ _ _ _ _ _ _ _ _ (c .before .before .before .before .before .loop .inv) _ (c .before .before .letter-at .ensures) _ (c .before .before .before .before .in-block .ensures) (c .before .before .before .if1 .left) (c .before .if2 .left) (c .if5 .left))
+    omega (arith, c .before .before .before .before .before .before .before .before .before .before .before .pre .0 .rows .few, on-there _ _ _ _ _ _ _ _ _ _ _ _ (c .before .before .before .before .before .loop .inv) _ (c .before .before .letter-at .ensures) _ (c .before .before .before .before .in-block .ensures) (c .before .before .before .if1 .left) (c .before .if2 .left) (c .if5 .left))
 
 loop-less-3 : tie.Need-loop-less-3 Inv-loop μ-loop
 loop-less-3 c = search on-less

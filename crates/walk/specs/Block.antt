@@ -13,11 +13,11 @@ use Rattle.model.specs.Rows.{Row, sheet, message, order, block, call}
 use Rattle.model.specs.Place.{lineOf}
 use Rattle.model.specs.Expansion.{Progress, blockOpened, messageMet, orderMet}
 use Rattle.sheet.specs.Bridge.{rowsAt}
 use Rattle.blocks.specs.Store.{Store, storeOps}
 use Rattle.blocks.specs.Room.{Room}
-use Rattle.blocks.specs.declared.Walk.{Walk}
-use Rattle.blocks.specs.declared.Walked.{Walked}
-use Rattle.blocks.specs.declared.Walked.the-variants.{To, Stopped}
+use Rattle.walk.specs.declared.Walk.{Walk}
+use Rattle.walk.specs.declared.Walked.{Walked}
+use Rattle.walk.specs.declared.Walked.the-variants.{To, Stopped}
 
 -- a walk that has met nothing yet
 abbrev pub fresh : Walk

@@ -9,7 +9,7 @@ use lib.Dec.{eqb}
 use lib.ListN.{length, getD, set, length-set}
 use lib.Seq.{getD-set-same, getD-set-other}
 use borrow.Author.Tests.{eqb-true, eqb-false}
-use Rattle.model.specs.Limits.{levels, callsMost, rowsMost, sheets}
+use Rattle.model.specs.Limits.{levels, callsMost}
 use Rattle.model.specs.Refusal.{depthRefusal, callsRefusal}
 use Rattle.model.specs.Rows.{block, call}
 use Rattle.model.specs.Place.{lineOf}
@@ -17,15 +17,13 @@ use Rattle.model.specs.Expansion.{startOf}
 use Rattle.sheet.specs.Bridge.{rowsOf}
 use Rattle.sheet.proofs.Bridge.{row-call, row-block}
 use Rattle.blocks.specs.Store.{Store}
-use Rattle.blocks.specs.Block.{stateOf, rowsFrom, inBlock, AllStand}
-use Rattle.blocks.specs.declared.Walk.{Walk}
-use Rattle.blocks.proofs.Meeting.{rows-next, not-in}
-use Rattle.expansion.specs.Lent.{RowsRead}
-use Rattle.expansion.specs.Levels.{letterAt, rest, rank, Behind, Between, Reaches}
-use Rattle.expansion.specs.declared.Reached.{Reached}
-use Rattle.expansion.specs.declared.Reached.the-variants as reached
-use Rattle.expansion.proofs.Reading.{rows-few, call-known, call-start, start-long, start-stand}
-use Rattle.expansion.proofs.Steps.{row-there, row-letter, rest-end, rest-back, rest-block, rest-deep, rest-calls, rest-called}
+use Rattle.walk.specs.Block.{stateOf, rowsFrom, inBlock, AllStand}
+use Rattle.walk.specs.declared.Walk.{Walk}
+use Rattle.walk.proofs.Meeting.{rows-next, not-in}
+use Rattle.levels.specs.Levels.{letterAt, rest, rank, Behind, Sheets, Between, Reaches}
+use Rattle.levels.specs.declared.Reached.{Reached}
+use Rattle.levels.specs.declared.Reached.the-variants as reached
+use Rattle.levels.proofs.Steps.{row-there, row-letter, rest-end, rest-back, rest-block, rest-deep, rest-calls, rest-called}
 
 -- where the walk came to, known by another name
 pub reaches-as : {kind one two : List ℕ} {count : ℕ} {from : List ℕ} {level i : ℕ} {w : Walk} {r r′ : Reached} {from′ : List ℕ} → r ≡ r′
@@ -95,13 +93,13 @@ module _ (kind one two : List ℕ) (count : ℕ) (from₀ : List ℕ) (level₀ 
               nearer = omega (arith, j .nearer, on-less);
             }
 
-      module _ (start : List ℕ) (lent : RowsRead kind one two count start) where
+      module _ (start : List ℕ) (lent : Sheets kind one two count start) where
         -- a sheet that was called has ended
         pub back-inside : (level ≡ 0 → ⊥) → getD from (level - 1) 0 < count
         back-inside n = j .between .behind (level - 1) (omega arith) .inside
 
         pub back-less : (level ≡ 0 → ⊥) → rank count (level - 1) (getD from (level - 1) 0 + 1) calls < rank count level i calls
-        back-less n = omega (arith, rows-few kind one two count start lent)
+        back-less n = omega (arith, lent .rows .few)
 
         pub seeking-back : letter ≡ 83 → (level ≡ 0 → ⊥) → Seeking from (level - 1) (getD from (level - 1) 0 + 1) calls
         seeking-back e n =
@@ -127,7 +125,7 @@ module _ (kind one two : List ℕ) (count : ℕ) (from₀ : List ℕ) (level₀ 
           is-call = row-letter kind count i letter read call-there ∙ e
 
           pub call-sheet : getD one i 0 < length start
-          call-sheet = omega (arith, call-known kind one two count start lent i call-there is-call, start-long kind one two count start lent)
+          call-sheet = lent .known i call-there is-call
 
           pub seeking-deep : level ≡ levels → Left (reached.Stopped depthRefusal (lineOf i)) from
           seeking-deep z =
@@ -143,10 +141,10 @@ module _ (kind one two : List ℕ) (count : ℕ) (from₀ : List ℕ) (level₀ 
 
             module _ (m : calls < callsMost) (first : ℕ) (starts : first ≡ getD start (getD one i 0) 0) where
               pub called-less : rank count (level + 1) first (calls + 1) < rank count level i calls
-              called-less = omega (arith, rows-few kind one two count start lent)
+              called-less = omega (arith, lent .rows .few)
 
               begins : first ≡ startOf (getD one i 0) (rowsOf kind one two count)
-              begins = starts ∙ call-start kind one two count start lent i call-there is-call
+              begins = starts ∙ lent .starts i call-there is-call
 
               behind-call : Behind kind one two count i
               behind-call =
@@ -179,7 +177,7 @@ module _ (kind one two : List ℕ) (count : ℕ) (from₀ : List ℕ) (level₀ 
                       few = omega arith;
                       stand =
                           subst (λ (k : ℕ). AllStand 0 (rowsFrom kind one two count k)) (sym begins)
-                          (start-stand kind one two count start lent (getD one i 0));
+                          (lent .stand (getD one i 0));
                       behind = λ k h. noted k h (eqb k level) refl;
                     };
                     nearer = omega (arith, j .nearer, called-less);

@@ -1,8 +1,8 @@
--- `blocks::in_block` meets its contract. Assumes nothing.
-use Rattle.blocks.proofs.Meeting.{at-message, at-order, at-end}
+-- `walk::in_block` meets its contract. Assumes nothing.
+use Rattle.walk.proofs.Meeting.{at-message, at-order, at-end}
 use borrow.Author.Needs.{needs}
-use Rattle.blocks.proofs.in_block.Statement.{statement}
-use Rattle.blocks.proofs.in_block.Tie as tie
+use Rattle.walk.proofs.in_block.Statement.{statement}
+use Rattle.walk.proofs.in_block.Tie as tie
 
 shared-slice-read-if2 : tie.Need-shared-slice-read-if2
 shared-slice-read-if2 c = search needs

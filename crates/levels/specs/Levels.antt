@@ -10,14 +10,14 @@ use lib.ListN.{length, getD}
 use Rattle.model.specs.Limits.{rowsMost, levels, callsMost}
 use Rattle.model.specs.Refusal.{Out, refusal, andThen}
 use Rattle.model.specs.Place.{lineOf}
-use Rattle.model.specs.Expansion.{Progress, blockOpened, walkRows, callAt}
+use Rattle.model.specs.Expansion.{Progress, startOf, blockOpened, walkRows, callAt}
 use Rattle.model.specs.Order.{Scenario}
 use Rattle.sheet.specs.Bridge.{rowsOf}
 use Rattle.blocks.specs.Store.{Store, storeOps, concluded}
-use Rattle.blocks.specs.Block.{stateOf, rowsFrom, inBlock, AllStand}
-use Rattle.blocks.specs.declared.Walk.{Walk}
-use Rattle.expansion.specs.declared.Reached.{Reached}
-use Rattle.expansion.specs.declared.Reached.the-variants as reached
+use Rattle.walk.specs.Block.{stateOf, rowsFrom, inBlock, RowsFew, AllStand}
+use Rattle.walk.specs.declared.Walk.{Walk}
+use Rattle.levels.specs.declared.Reached.{Reached}
+use Rattle.levels.specs.declared.Reached.the-variants as reached
 
 -- the letter of a row; behind the last it is an S
 unfoldable pub letterAt : List ℕ → ℕ → ℕ → ℕ
@@ -45,6 +45,13 @@ module _ (kind one two : List ℕ) (count : ℕ) where
   pub record Behind (i : ℕ) : Type 0 where
     pub inside : i < count
     pub stand : AllStand 0 (rowsFrom kind one two count (i + 1))
+
+  -- the rows are in the columns, each call's sheet is there and starts where the table says, and its rows stand
+  pub record Sheets (start : List ℕ) : Type 0 where
+    pub rows : RowsFew kind one two count
+    pub known : (i : ℕ) → i < count → getD kind i 0 ≡ code "C" → getD one i 0 < length start
+    pub starts : (i : ℕ) → i < count → getD kind i 0 ≡ code "C" → getD start (getD one i 0) 0 ≡ startOf (getD one i 0) (rowsOf kind one two count)
+    pub stand : (n : ℕ) → AllStand 0 (rowsFrom kind one two count (startOf n (rowsOf kind one two count)))
 
   pub record Between (from : List ℕ) (level i : ℕ) (w : Walk) : Type 0 where
     pub deep : level ≤ levels

@@ -1,9 +1,9 @@
--- `expansion::called_row` meets its contract: the table's entry is a number of 16 bits. Assumes nothing.
+-- `levels::called_row` meets its contract: the table's entry is a number of 16 bits. Assumes nothing.
 use native.Mathlib.Omega.{arith}
 use lib.ListN.{getD}
 use borrow.Author.Needs.{needs}
-use Rattle.expansion.proofs.called_row.Statement.{statement}
-use Rattle.expansion.proofs.called_row.Tie as tie
+use Rattle.levels.proofs.called_row.Statement.{statement}
+use Rattle.levels.proofs.called_row.Tie as tie
 
 shared-slice-read-sheet : tie.Need-shared-slice-read-sheet
 shared-slice-read-sheet c = search needs

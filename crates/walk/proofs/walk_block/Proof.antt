@@ -1,11 +1,11 @@
--- `blocks::walk_block` meets its contract: its loop keeps `Meeting`. Assumes nothing.
+-- `walk::walk_block` meets its contract: its loop keeps `Meeting`. Assumes nothing.
 use Prim.Native.Nat.{_-_}
 use native.Mathlib.Omega.{arith}
 use borrow.Author.Needs.{needs}
 use Rattle.blocks.specs.Store.{storeOf}
-use Rattle.blocks.proofs.Meeting.{Meeting, in-rows, meeting-start, meeting-refused, meeting-end, meeting-message, meeting-order, message-boards, order-events}
-use Rattle.blocks.proofs.walk_block.Statement.{statement}
-use Rattle.blocks.proofs.walk_block.Tie as tie
+use Rattle.walk.proofs.Meeting.{Meeting, in-rows, meeting-start, meeting-refused, meeting-end, meeting-message, meeting-order, message-boards, order-events}
+use Rattle.walk.proofs.walk_block.Statement.{statement}
+use Rattle.walk.proofs.walk_block.Tie as tie
 
 abbrev Inv-loop : tie.InvT-loop
 Inv-loop kind one two rows boards₀ words₀ past row walk first at₀ met₀ boards words at met =

@@ -9,7 +9,7 @@ use mathlib.Core.Logic.{_⊎_, inl, inr, ⊎-elim}
 use mathlib.Core.Bool.{Bool, true, false, cond, _||_, true≢false}
 use mathlib.Core.List.{List, [], _∷_}
 use lib.Dec.{eqb, ltb}
-use lib.ListN.{length, getD, set, length-set}
+use lib.ListN.{length, getD, set, drop, length-set}
 use borrow.Author.Tests.{eq-eqb, ne-eqb, eqb-true, lt-ltb, le-ltb, ltb-true}
 use Rattle.model.proofs.Bounded.{and-left, and-right, or-cases, or-left, or-right}
 use Rattle.model.specs.Limits.{boards, messagesMost}
@@ -20,22 +20,25 @@ use Rattle.model.specs.Expansion.{Progress, blockOpened, messageMet, orderMet}
 use Rattle.relation.specs.Width.{width}
 use Rattle.relation.specs.Rows.{inserted}
 use Rattle.relation.proofs.Inserted.{length-inserted}
-use Rattle.sheet.specs.Bridge.{rowFrom, rowsAt}
-use Rattle.sheet.proofs.Bridge.{row-message as row-is-message, row-order as row-is-order}
+use Rattle.sheet.specs.Bridge.{rowFrom, rowsAt, rowsOf}
+use Rattle.sheet.proofs.Bridge.{rows-drop as rows-at-drop, row-message as row-is-message, row-order as row-is-order}
 use Rattle.blocks.specs.Store.{Store, storeOf, seated, added, passed, storeOps}
 use Rattle.blocks.specs.Room.{Room}
-use Rattle.blocks.specs.Block.{stateOf, rowsFrom, inBlock, blockWalked, Leaves, Stands, openBehind, AllStand, Ready}
-use Rattle.blocks.specs.declared.Walk.{Walk}
-use Rattle.blocks.specs.declared.Walked.{Walked}
-use Rattle.blocks.specs.declared.Walked.the-variants.{To, Stopped}
+use Rattle.walk.specs.Block.{stateOf, rowsFrom, inBlock, blockWalked, Leaves, Stands, openBehind, AllStand, Ready}
+use Rattle.walk.specs.declared.Walk.{Walk}
+use Rattle.walk.specs.declared.Walked.{Walked}
+use Rattle.walk.specs.declared.Walked.the-variants.{To, Stopped}
 use Rattle.blocks.proofs.Passed.{length-passed}
 use Rattle.blocks.proofs.Added.{length-added}
 
 -- what a block leaves, known by another name
 pub leaves-as : {r r′ : Walked} {t : Store} {o : Out (ℕ × Progress Store)} → r ≡ r′ → Leaves r t o → Leaves r′ t o
 leaves-as {t = t} {o = o} e h = subst (λ (r : Walked). Leaves r t o) e h
 
 -- the rows from row i on
+pub rows-drop : (kind one two : List ℕ) (count i : ℕ) → drop i (rowsOf kind one two count) ≡ rowsFrom kind one two count i
+rows-drop kind one two count i = rows-at-drop kind one two i 0 count ∙ ap (λ (k : ℕ). rowsAt kind one two k (count - i)) (omega arith)
+
 pub rows-next : (kind one two : List ℕ) (count i : ℕ) → i < count
     → rowsFrom kind one two count i ≡ rowFrom (getD kind i 0) (getD one i 0) (getD two i 0) ∷ rowsFrom kind one two count (i + 1)
 unfolding rowsAt

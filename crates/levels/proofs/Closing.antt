@@ -19,10 +19,10 @@ use Rattle.relation.specs.Width.{width}
 use Rattle.sheet.specs.Bridge.{rowFrom, rowsOf}
 use Rattle.sheet.proofs.Bridge.{row-message, row-order}
 use Rattle.blocks.specs.Store.{Store, storeOps, concluded}
-use Rattle.blocks.specs.Block.{rowsFrom, inBlock, blockWalked, openBehind, AllStand}
-use Rattle.blocks.proofs.Meeting.{rows-next, rows-end, in-rows, in-either}
-use Rattle.expansion.specs.Levels.{after, rest}
-use Rattle.expansion.proofs.Steps.{passed-none, next-line}
+use Rattle.walk.specs.Block.{rowsFrom, inBlock, blockWalked, openBehind, AllStand}
+use Rattle.walk.proofs.Meeting.{rows-next, rows-end, in-rows, in-either}
+use Rattle.levels.specs.Levels.{after, rest}
+use Rattle.levels.proofs.Steps.{passed-none, next-line}
 
 -- what is closed stays as it is when it is closed again
 opened-twice : (s : Progress Store) → blockOpened storeOps (blockOpened storeOps s) ≡ blockOpened storeOps s

@@ -1,8 +1,8 @@
--- `expansion::letter_at` meets its contract. Assumes nothing.
-use Rattle.expansion.proofs.Steps.{letter-inside, letter-behind}
+-- `levels::letter_at` meets its contract. Assumes nothing.
+use Rattle.levels.proofs.Steps.{letter-inside, letter-behind}
 use borrow.Author.Needs.{needs}
-use Rattle.expansion.proofs.letter_at.Statement.{statement}
-use Rattle.expansion.proofs.letter_at.Tie as tie
+use Rattle.levels.proofs.letter_at.Statement.{statement}
+use Rattle.levels.proofs.letter_at.Tie as tie
 
 shared-slice-read-result : tie.Need-shared-slice-read-result
 shared-slice-read-result c = search needs

@@ -36,7 +36,7 @@ module _ (n : ℕ) (R : ℕ → ℕ → Bool) (x y : ℕ) where
   linked-split a b t =
       ⊎-elim inl (λ both. inr (and-eq-true-iff (eqb a x || R a x) (eqb b y || R y b) .0 both)) (or-cases (R a b) _ t)
 
-  pub linked-transitive : Transitive n R → x < n → y < n → Transitive n (linked R x y)
+  linked-transitive : Transitive n R → x < n → y < n → Transitive n (linked R x y)
   linked-transitive closed hx hy a b c ha hb hc p q =
       ⊎-elim
       (λ ab. ⊎-elim (λ bc. linked-holds a c ha hc (closed a b c ha hb hc ab bc)) (λ w. crossing a c (sooner ab (w .0)) (w .1)) (linked-split b c q))

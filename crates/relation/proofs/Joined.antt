@@ -19,7 +19,7 @@ use Rattle.relation.proofs.Bits.{has-or}
 use Rattle.relation.proofs.Place.{column-lt, word-row}
 
 module _ (op : ℕ → ℕ → ℕ) (l : List ℕ) (a : ℕ) (other : List ℕ) (b : ℕ) where
-  pub length-merged : (n : ℕ) → length (merged op n l a other b) ≡ length l
+  length-merged : (n : ℕ) → length (merged op n l a other b) ≡ length l
   unfolding merged
   length-merged zero = refl
   length-merged (suc n) = length-set (merged op n l a other b) _ _ ∙ length-merged n
@@ -35,7 +35,7 @@ module _ (op : ℕ → ℕ → ℕ) (l : List ℕ) (a : ℕ) (other : List ℕ) 
   abbrev Merged : ℕ → ℕ → Type 0
   Merged n i = getD (merged op n l a other b) (a + i) 0 ≡ op (getD l (a + i) 0) (getD other (b + i) 0)
 
-  pub merged-at : (n i : ℕ) → i < n → a + n ≤ length l → Merged n i
+  merged-at : (n i : ℕ) → i < n → a + n ≤ length l → Merged n i
   unfolding merged
   merged-at zero i h room = absurd (omega arith)
   merged-at (suc n) i h room = go (ℕ-discrete i n) (λ h. merged-at n i h (omega arith))
@@ -54,11 +54,11 @@ module _ (op : ℕ → ℕ → ℕ) (l : List ℕ) (a : ℕ) (other : List ℕ) 
 -- a row that is merged with one of other words: its own events are those of the row made, and no other row is touched
 module _ (W : ℕ) (op : ℕ → ℕ → ℕ) (f : Bool → Bool → Bool) (bits : (u v k : ℕ) → has (op u v) k ≡ f (has u k) (has v k))
     (l : List ℕ) (to : ℕ) (other : List ℕ) (from b a : ℕ) (room : to * W + W ≤ length l) (ha : a < wordBits * W) where
-  pub merged-row : b ≡ to → holds W (merged op W l (to * W) other (from * W)) b a ≡ f (holds W l b a) (holds W other from a)
+  merged-row : b ≡ to → holds W (merged op W l (to * W) other (from * W)) b a ≡ f (holds W l b a) (holds W other from a)
   unfolding holds
   merged-row e = rw (e, merged-at op l (to * W) other (from * W) W (a / wordBits) (column-lt W a ha) room) (bits _ _ _)
 
-  pub merged-other : (b ≡ to → ⊥) → holds W (merged op W l (to * W) other (from * W)) b a ≡ holds W l b a
+  merged-other : (b ≡ to → ⊥) → holds W (merged op W l (to * W) other (from * W)) b a ≡ holds W l b a
   unfolding holds
   merged-other n =
       rw (merged-outside op l (to * W) other (from * W) W (wordOf W b a) (λ i h e. n (word-row W b to (column-lt W a ha) h e)))
@@ -102,11 +102,6 @@ module _ (W : ℕ) (l : List ℕ) (to : ℕ) (other : List ℕ) (from b a : ℕ)
 pub length-joined : (W : ℕ) (l : List ℕ) (to from : ℕ) → length (joined W l to from) ≡ length l
 unfolding joined
 length-joined W l to from = length-joined-from W l to l from
-
-pub joined-outside : (W : ℕ) (l : List ℕ) (to from k : ℕ) → ((i : ℕ) → i < W → k ≡ to * W + i → ⊥)
-    → getD (joined W l to from) k 0 ≡ getD l k 0
-unfolding joined
-joined-outside W l to from = joined-from-outside W l to l from
 
 pub holds-joined : (W : ℕ) (l : List ℕ) (to from b a : ℕ) → to * W + W ≤ length l → a < wordBits * W
     → holds W (joined W l to from) b a ≡ (holds W l b a || eqb b to && holds W l from a)

@@ -13,7 +13,7 @@ use lib.ListN.{length, getD, set, length-set}
 use borrow.Author.Fill.{fill-none, fill-more}
 use borrow.Author.Tests.{eq-eqb, ne-eqb}
 use Rattle.model.proofs.Bounded.{or-right}
-use Rattle.relation.specs.Rows.{holds, marked, merged, theirs, joined, joinedFrom, copiedFrom, behind, insertedAt, insertedIn, inserted, cleared, anyOwn}
+use Rattle.relation.specs.Rows.{holds, marked, merged, joined, behind, insertedAt, insertedIn, inserted, cleared, anyOwn}
 use Rattle.relation.proofs.Place.{word-column}
 use Rattle.relation.proofs.Joined.{merged-outside, merged-more}
 use Rattle.relation.proofs.Inserted.{length-inserted-at}
@@ -38,48 +38,17 @@ pub merging-end : (op : ℕ → ℕ → ℕ) (W n : ℕ) (l : List ℕ) (a : ℕ
     → words ≡ merged op W l a other b
 merging-end op W n l a other b words j h = j .exact ∙ ap (λ (m : ℕ). merged op m l a other b) (le-antisymm (j .most) h)
 
--- the turns of a join, and of a copy
-abbrev pub Joining : ℕ → ℕ → List ℕ → ℕ → List ℕ → ℕ → List ℕ → Type 0
-Joining W n l a other b words = Merging bitOr W n l a other b words
-
-pub joining-start : (W : ℕ) (l : List ℕ) (a : ℕ) (other : List ℕ) (b : ℕ) → Joining W 0 l a other b l
-joining-start W l a other b = merging-start bitOr W l a other b
-
-module _ (W n : ℕ) (l : List ℕ) (a : ℕ) (other : List ℕ) (b : ℕ) (words : List ℕ) (j : Joining W n l a other b words) (h : n < W) where
-  pub joining-more : Joining W (n + 1) l a other b (set words (a + n) (bitOr (getD words (a + n) 0) (getD other (b + n) 0)))
-  joining-more = merging-more bitOr W n l a other b words j h
-
 -- the word that a turn takes from row `from` of the same list is still as it was, `from` being `to` or not
-pub joining-own : (W n : ℕ) (l : List ℕ) (to from : ℕ) (words : List ℕ) → Joining W n l (to * W) l (from * W) words → n < W
-    → Joining W (n + 1) l (to * W) l (from * W)
+pub merging-own : (W n : ℕ) (l : List ℕ) (to from : ℕ) (words : List ℕ) → Merging bitOr W n l (to * W) l (from * W) words → n < W
+    → Merging bitOr W (n + 1) l (to * W) l (from * W)
     (set words (to * W + n) (bitOr (getD words (to * W + n) 0) (getD words (from * W + n) 0)))
-joining-own W n l to from words j h = rw (reads) (joining-more W n l (to * W) l (from * W) words j h)
+merging-own W n l to from words j h = rw (reads) (merging-more bitOr W n l (to * W) l (from * W) words j h)
   where
     reads : getD words (from * W + n) 0 ≡ getD l (from * W + n) 0
     reads =
         rw (j .exact)
         (merged-outside bitOr l (to * W) l (from * W) n (from * W + n)
         (λ i g e. let same : n ≡ i = word-column W from to h (omega arith) e in omega arith))
-
-pub joining-end : (W n : ℕ) (l : List ℕ) (to : ℕ) (other : List ℕ) (from : ℕ) (words : List ℕ)
-    → Joining W n l (to * W) other (from * W) words → W ≤ n → words ≡ joinedFrom W l to other from
-unfolding joinedFrom
-joining-end W n l to other from words j h = merging-end bitOr W n l (to * W) other (from * W) words j h
-
-abbrev pub Copying : ℕ → ℕ → List ℕ → ℕ → List ℕ → ℕ → List ℕ → Type 0
-Copying W n l a other b words = Merging theirs W n l a other b words
-
-pub copying-start : (W : ℕ) (l : List ℕ) (a : ℕ) (other : List ℕ) (b : ℕ) → Copying W 0 l a other b l
-copying-start W l a other b = merging-start theirs W l a other b
-
-pub copying-more : (W n : ℕ) (l : List ℕ) (a : ℕ) (other : List ℕ) (b : ℕ) (words : List ℕ) → Copying W n l a other b words → n < W
-    → Copying W (n + 1) l a other b (set words (a + n) (getD other (b + n) 0))
-copying-more W n l a other b words j h = merging-more theirs W n l a other b words j h
-
-pub copying-end : (W n : ℕ) (l : List ℕ) (to : ℕ) (other : List ℕ) (from : ℕ) (words : List ℕ)
-    → Copying W n l (to * W) other (from * W) words → W ≤ n → words ≡ copiedFrom W l to other from
-unfolding copiedFrom
-copying-end W n l to other from words j h = merging-end theirs W n l (to * W) other (from * W) words j h
 
 -- What the loop of an insert keeps: the rows from .. b - 1 have been looked at.
 pub record Inserting (W : ℕ) (l : List ℕ) (x y from to b : ℕ) (words : List ℕ) : Type 0 where

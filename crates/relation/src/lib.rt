@@ -69,9 +69,9 @@ pub fn copy_from(words: &mut [u64], to: usize, other: &[u64], from: usize)
 {
     let into = to * WIDTH;
     let out = from * WIDTH;
-    for k in 0..WIDTH {
-        let at = into + k;
-        let seen = out + k;
+    for j in 0..WIDTH {
+        let at = into + j;
+        let seen = out + j;
         words[at] = other[seen];
     }
 }

@@ -1,17 +1,18 @@
--- `relation::copy_from` meets its contract. The loop keeps `Copying`: the words passed are the other row's.
+-- `relation::copy_from` meets its contract. The loop keeps `Merging`: the words passed are the other row's.
 -- Assumes nothing.
 use Prim.Native.Nat.{_-_}
 use borrow.Author.Needs.{needs}
 use Rattle.relation.specs.Width.{width}
-use Rattle.relation.proofs.Loops.{Copying, copying-start, copying-end, copying-more}
+use Rattle.relation.specs.Rows.{theirs, copiedFrom}
+use Rattle.relation.proofs.Loops.{Merging, merging-start, merging-end, merging-more}
 use Rattle.relation.proofs.copy_from.Statement.{statement}
 use Rattle.relation.proofs.copy_from.Tie as tie
 
 abbrev Inv-loop : tie.InvT-loop
-Inv-loop words₀ to other from into out k₀ words k = Copying width k words₀ into other out words
+Inv-loop words₀ to other from into out j₀ words j = Merging theirs width j words₀ into other out words
 
 abbrev μ-loop : tie.MeasureT-loop
-μ-loop words₀ to other from into out k₀ words k = width - k
+μ-loop words₀ to other from into out j₀ words j = width - j
 
 mul-into : tie.Need-mul-into Inv-loop μ-loop
 mul-into c = search needs
@@ -20,7 +21,7 @@ mul-out : tie.Need-mul-out Inv-loop μ-loop
 mul-out c = search needs
 
 loop-holds : tie.Need-loop-holds Inv-loop μ-loop
-loop-holds c = search copying-start
+loop-holds c = search merging-start
 
 add-at : tie.Need-add-at Inv-loop μ-loop
 add-at c = search needs
@@ -40,20 +41,21 @@ mul-words-2 c = search needs
 slice-write-words : tie.Need-slice-write-words Inv-loop μ-loop
 slice-write-words c = search needs
 
-add-k : tie.Need-add-k Inv-loop μ-loop
-add-k c = search needs
+add-j : tie.Need-add-j Inv-loop μ-loop
+add-j c = search needs
 
 loop-less : tie.Need-loop-less Inv-loop μ-loop
 loop-less c = search needs
 
 loop-again : tie.Need-loop-again Inv-loop μ-loop
-loop-again c = search (copying-more, needs)
+loop-again c = search (merging-more theirs, needs)
 
 same-length : tie.Need-same-length Inv-loop μ-loop
 same-length c = search needs
 
 returns : tie.Need-returns Inv-loop μ-loop
-returns c = search copying-end
+unfolding copiedFrom
+returns c = search merging-end
 
 pub copy-from-spec : {M : Type 1} → statement M
 copy-from-spec =
@@ -70,7 +72,7 @@ copy-from-spec =
     shared-slice-read-words
     mul-words-2
     slice-write-words
-    add-k
+    add-j
     loop-less
     loop-again
     same-length

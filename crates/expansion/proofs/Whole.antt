@@ -32,7 +32,7 @@ use Rattle.blocks.proofs.Sim.{Begins}
 use Rattle.blocks.proofs.Scenarios.{expanded-same}
 use Rattle.expansion.specs.Lent.{RowsRead}
 use Rattle.expansion.specs.Outcome.{outcomeOf, concludedAs, zeros}
-use Rattle.levels.specs.Levels.{after, rest, rank, Between, Reaches}
+use Rattle.levels.specs.Levels.{after, idle, rest, rank, Between, Reaches}
 use Rattle.expansion.specs.declared.Expanded.{Expanded}
 use Rattle.expansion.specs.declared.Expanded.the-variants.{Messages, Refused}
 use Rattle.levels.specs.declared.Reached.{Reached}
@@ -64,16 +64,16 @@ module _ (kind one two : List ℕ) (count : ℕ) where
 
   -- What the loop over the blocks keeps: from here the whole comes to the paper's answer.
   pub record Walking (from : List ℕ) (level i : ℕ) (w : Walk) (t : Store) : Type 0 where
-    pub exact : rest kind one two count from level i (stateOf w t) ≡ expandedOf file
-    pub between : Between kind one two count from level i w
-    pub room : Room (w .first) (w .count) t
+    pub exact : rest kind one two count from level i (idle (w .calls) (w .count) t) ≡ expandedOf file
+    pub between : Between kind one two count from level i (w .calls)
+    pub room : Room (w .count) (w .count) t
 
   module _ (start : List ℕ) (lent : RowsRead kind one two count start) where
-    begins : (t : Store) → Begins t → (from : List ℕ) → rest kind one two count from 0 (getD start 0 0) (stateOf fresh t) ≡ expandedOf file
+    begins : (t : Store) → Begins t → (from : List ℕ) → rest kind one two count from 0 (getD start 0 0) (idle 0 0 t) ≡ expandedOf file
     unfolding after expandRows
     begins t z from =
-        ap (λ (i : ℕ). rest kind one two count from 0 i (stateOf fresh t)) (start-zero kind one two count start lent)
-        ∙ ap (λ (rs : List Row). andThen (walkRows storeOps (callAt storeOps levels file) rs (lineOf (startOf 0 file)) (stateOf fresh t)) concluded)
+        ap (λ (i : ℕ). rest kind one two count from 0 i (idle 0 0 t)) (start-zero kind one two count start lent)
+        ∙ ap (λ (rs : List Row). andThen (walkRows storeOps (callAt storeOps levels file) rs (lineOf (startOf 0 file)) (idle 0 0 t)) concluded)
         (sym (rows-drop kind one two count (startOf 0 file)))
         ∙ expanded-same file (read-fits (lent .read .0) file (lent .read .1)) t z
 
@@ -99,7 +99,6 @@ module _ (kind one two : List ℕ) (count : ℕ) where
           between = record {
             deep = omega arith;
             long = f;
-            empty = refl;
             few = omega arith;
             stand =
                 subst (λ (i : ℕ). AllStand 0 (rowsFrom kind one two count i)) (sym (start-zero kind one two count start lent))
@@ -118,54 +117,43 @@ module _ (kind one two : List ℕ) (count : ℕ) where
 
   module _ (from : List ℕ) (level i : ℕ) (w : Walk) (t : Store) (j : Walking from level i w t) (from′ : List ℕ) where
     abbrev Reached-as : Reached → Type 0
-    Reached-as r = Reaches kind one two count from level i w r from′
+    Reached-as r = Reaches kind one two count from level i (w .calls) r from′
 
     pub walking-stopped : (number line : ℕ) → Reached-as (reached.Stopped number line) → refusal number line ≡ expandedOf file
-    walking-stopped number line r = sym (r .exact t) ∙ j .exact
+    walking-stopped number line r = sym (r .exact (w .count) t) ∙ j .exact
 
     -- sheet 0 has ended
-    module _ (v : Walk) (r : Reached-as (reached.End v)) where
-      pub end-few : v .count ≤ messagesMost
-      end-few = omega (arith, r .stands, j .room .countMost)
-
-      pub walking-end : (a : Expanded) → a ≡ concludedAs (anyOwn width (t .words) (2 * v .count)) (v .count)
-          → outcomeOf a (t .events) (t .words) ≡ expandedOf file
-      walking-end a e =
-          ap (λ (x : Expanded). outcomeOf x (t .events) (t .words)) e ∙ by-test (anyOwn width (t .words) (2 * v .count)) ∙ sym (r .exact t) ∙ j .exact
-        where
-          by-test : (b : Bool) → outcomeOf (concludedAs b (v .count)) (t .events) (t .words)
-              ≡ cond b (refusal circleRefusal 0) (ok (scenarioIn (v .count) (t .events) (t .words)))
-          by-test true = refl
-          by-test false = refl
+    pub walking-end : Reached-as reached.End → (a : Expanded) → a ≡ concludedAs (anyOwn width (t .words) (2 * w .count)) (w .count)
+        → outcomeOf a (t .events) (t .words) ≡ expandedOf file
+    walking-end r a e =
+        ap (λ (x : Expanded). outcomeOf x (t .events) (t .words)) e ∙ by-test (anyOwn width (t .words) (2 * w .count)) ∙ sym (r .exact (w .count) t) ∙ j .exact
+      where
+        by-test : (b : Bool) → outcomeOf (concludedAs b (w .count)) (t .events) (t .words)
+            ≡ cond b (refusal circleRefusal 0) (ok (scenarioIn (w .count) (t .events) (t .words)))
+        by-test true = refl
+        by-test false = refl
 
     -- a block is walked
-    module _ (level′ i′ : ℕ) (v : Walk) (r : Reached-as (reached.Block level′ i′ v)) where
-      abbrev b : Between kind one two count from′ level′ i′ v
+    module _ (level′ i′ calls : ℕ) (r : Reached-as (reached.Block level′ i′ calls)) where
+      abbrev b : Between kind one two count from′ level′ i′ calls
       b = r .stands .between
 
-      pub block-ready : Ready kind one two count i′ (v .first) (v .count) t
+      pub block-ready : Ready kind one two count i′ (w .count) (w .count) t
       block-ready =
-          let none : 0 ≡ 2 * (v .count - v .first) = omega (arith, b .empty) in
-          record {
-            room = record {
-              eventsLong = j .room .eventsLong;
-              wordsLong = j .room .wordsLong;
-              pastLong = j .room .pastLong;
-              firstMost = omega (arith, b .empty);
-              countMost = omega (arith, r .stands .same, j .room .countMost);
-              boardsMost = j .room .boardsMost;
-            };
-            stand = subst (λ (n : ℕ). AllStand n (rowsFrom kind one two count i′)) none (b .stand);
-          }
+          let none : 0 ≡ 2 * (w .count - w .count) = omega arith in
+          record { room = j .room; stand = subst (λ (n : ℕ). AllStand n (rowsFrom kind one two count i′)) none (b .stand) }
+
+      abbrev s : Progress Store
+      s = idle calls (w .count) t
 
       abbrev walked : Out (ℕ × Progress Store)
-      walked = blockWalked (rowsFrom kind one two count i′) i′ (stateOf v t)
+      walked = blockWalked (rowsFrom kind one two count i′) i′ s
 
       onward : (o : Out (ℕ × Progress Store)) → o ≡ walked → andThen o (λ p. rest kind one two count from′ level′ (p .0) (p .1)) ≡ expandedOf file
       onward o e =
           ap (λ (o : Out (ℕ × Progress Store)). andThen o (λ p. rest kind one two count from′ level′ (p .0) (p .1))) e
-          ∙ sym (rest-walked kind one two count from′ level′ i′ (stateOf v t))
-          ∙ sym (r .exact t)
+          ∙ sym (rest-walked kind one two count from′ level′ i′ s)
+          ∙ sym (r .exact (w .count) t)
           ∙ j .exact
 
       pub walking-refused : (number line : ℕ) (t′ : Store) → Leaves (Stopped number line) t′ walked → refusal number line ≡ expandedOf file
@@ -173,28 +161,30 @@ module _ (kind one two : List ℕ) (count : ℕ) where
       walking-refused number line t′ l = onward (refusal number line) (l .exact)
 
       module _ (k : ℕ) (u : Walk) (t′ : Store) (l : Leaves (To k u) t′ walked) where
-        behind : AfterBlock kind one two count i′ (stateOf v t) (k, stateOf u t′)
-        behind = block-ends kind one two count i′ 0 (stateOf v t) (k, stateOf u t′) (b .stand) (sym (l .exact))
+        behind : AfterBlock kind one two count i′ s (k, stateOf u t′)
+        behind = block-ends kind one two count i′ 0 s (k, stateOf u t′) (b .stand) (sym (l .exact))
 
         pub walking-less : rank count level′ k (u .calls) < rank count level i (w .calls)
         walking-less =
-            let more : i′ < k = block-more kind one two count i′ 0 (stateOf v t) (k, stateOf u t′) (b .stand) (sym (l .exact)) (r .stands .row) in
+            let more : i′ < k = block-more kind one two count i′ 0 s (k, stateOf u t′) (b .stand) (sym (l .exact)) (r .stands .row) in
             let in-file : i′ < count = in-rows kind count i′ true (sym (r .stands .row)) refl in
-            let same : u .calls ≡ v .calls = behind .calls in
+            let same : u .calls ≡ calls = behind .calls in
             omega (arith, r .stands .nearer)
 
         pub walking-on : Walking from′ level′ k u t′
         unfolding andThen
         walking-on =
             record {
-              exact = onward (ok (k, stateOf u t′)) (l .exact);
+              exact =
+                  ap (λ (n : ℕ). rest kind one two count from′ level′ k (record { walk = record { calls = u .calls; first = n; count = u .count }; kept = t′ }))
+                  (sym (behind .empty))
+                  ∙ onward (ok (k, stateOf u t′)) (l .exact);
               between = record {
                 deep = b .deep;
                 long = b .long;
-                empty = behind .empty;
                 few = omega (arith, behind .calls, b .few);
                 stand = behind .stand;
                 behind = b .behind;
               };
-              room = l .room;
+              room = subst (λ (n : ℕ). Room n (u .count) t′) (behind .empty) (l .room);
             }

@@ -64,10 +64,26 @@ pub fn expand(
     let mut at = start[0] as usize;
     let mut here = Walk::fresh();
     loop {
-        match levels::next_block(kind, one, two, count, start, &mut from, level, at, here) {
+        match levels::next_block(
+            kind,
+            one,
+            two,
+            count,
+            start,
+            &mut from,
+            level,
+            at,
+            here.calls,
+        ) {
             Reached::Stopped(number, line) => return Expanded::Refused(number, line),
-            Reached::End(last) => return without_circle(words, last.count),
-            Reached::Block(deep, row, walk) => {
+            Reached::End => return without_circle(words, here.count),
+            Reached::Block(deep, row, calls) => {
+                let met = here.count;
+                let walk = Walk {
+                    calls,
+                    first: met,
+                    count: met,
+                };
                 match walk::walk_block(kind, one, two, count, boards, words, &mut past, row, walk) {
                     Walked::Stopped(number, line) => return Expanded::Refused(number, line),
                     Walked::To(behind, next) => {

@@ -17,49 +17,44 @@ use Rattle.model.specs.Expansion.{startOf}
 use Rattle.sheet.specs.Bridge.{rowsOf}
 use Rattle.sheet.proofs.Bridge.{row-call, row-block}
 use Rattle.blocks.specs.Store.{Store}
-use Rattle.walk.specs.Block.{stateOf, rowsFrom, inBlock, AllStand}
-use Rattle.walk.specs.declared.Walk.{Walk}
+use Rattle.walk.specs.Block.{rowsFrom, inBlock, AllStand}
 use Rattle.walk.proofs.Meeting.{rows-next, not-in}
-use Rattle.levels.specs.Levels.{letterAt, rest, rank, Behind, Sheets, Between, Reaches}
+use Rattle.levels.specs.Levels.{letterAt, idle, rest, rank, Behind, Sheets, Between, Reaches}
 use Rattle.levels.specs.declared.Reached.{Reached}
 use Rattle.levels.specs.declared.Reached.the-variants as reached
 use Rattle.levels.proofs.Steps.{row-there, row-letter, rest-end, rest-back, rest-block, rest-deep, rest-calls, rest-called}
 
 -- where the walk came to, known by another name
-pub reaches-as : {kind one two : List ℕ} {count : ℕ} {from : List ℕ} {level i : ℕ} {w : Walk} {r r′ : Reached} {from′ : List ℕ} → r ≡ r′
-    → Reaches kind one two count from level i w r from′
-    → Reaches kind one two count from level i w r′ from′
-reaches-as {kind = kind} {one = one} {two = two} {count = count} {from = from} {level = level} {i = i} {w = w} {from′ = from′} e h =
-    subst (λ (r : Reached). Reaches kind one two count from level i w r from′) e h
+pub reaches-as : {kind one two : List ℕ} {count : ℕ} {from : List ℕ} {level i calls : ℕ} {r r′ : Reached} {from′ : List ℕ} → r ≡ r′
+    → Reaches kind one two count from level i calls r from′
+    → Reaches kind one two count from level i calls r′ from′
+reaches-as {kind = kind} {one = one} {two = two} {count = count} {from = from} {level = level} {i = i} {calls = calls} {from′ = from′} e h =
+    subst (λ (r : Reached). Reaches kind one two count from level i calls r from′) e h
 
-module _ (kind one two : List ℕ) (count : ℕ) (from₀ : List ℕ) (level₀ row : ℕ) (w₀ : Walk) where
-  -- the walk with so many calls made, in an empty block
-  abbrev at-calls : ℕ → Walk
-  at-calls k = record { calls = k; first = w₀ .first; count = w₀ .count }
-
+module _ (kind one two : List ℕ) (count : ℕ) (from₀ : List ℕ) (level₀ row calls₀ : ℕ) where
   abbrev Left : Reached → List ℕ → Type 0
-  Left r from = Reaches kind one two count from₀ level₀ row w₀ r from
+  Left r from = Reaches kind one two count from₀ level₀ row calls₀ r from
 
   -- from here the whole comes to what it came to from the first row
   pub record Seeking (from : List ℕ) (level i calls : ℕ) : Type 0 where
-    pub exact : (t : Store) → rest kind one two count from₀ level₀ row (stateOf w₀ t) ≡ rest kind one two count from level i (stateOf (at-calls calls) t)
-    pub between : Between kind one two count from level i (at-calls calls)
-    pub nearer : rank count level i calls ≤ rank count level₀ row (w₀ .calls)
+    pub exact : (met : ℕ) (t : Store) → rest kind one two count from₀ level₀ row (idle calls₀ met t) ≡ rest kind one two count from level i (idle calls met t)
+    pub between : Between kind one two count from level i calls
+    pub nearer : rank count level i calls ≤ rank count level₀ row calls₀
 
-  pub seeking-start : Between kind one two count from₀ level₀ row w₀ → Seeking from₀ level₀ row (w₀ .calls)
-  seeking-start b = record { exact = λ t. refl; between = b; nearer = omega arith }
+  pub seeking-start : Between kind one two count from₀ level₀ row calls₀ → Seeking from₀ level₀ row calls₀
+  seeking-start b = record { exact = λ met t. refl; between = b; nearer = omega arith }
 
   module _ (from : List ℕ) (level i calls : ℕ) (j : Seeking from level i calls) where
     -- a block is reached
-    pub seeking-block : (r : Bool) → r ≡ inBlock kind count i → r ≡ true → Left (reached.Block level i (at-calls calls)) from
+    pub seeking-block : (r : Bool) → r ≡ inBlock kind count i → r ≡ true → Left (reached.Block level i calls) from
     seeking-block r e t =
-        record { exact = j .exact; stands = record { between = j .between; row = sym e ∙ t; same = refl; nearer = j .nearer } }
+        record { exact = j .exact; stands = record { between = j .between; row = sym e ∙ t; nearer = j .nearer } }
 
     module _ (letter : ℕ) (read : letter ≡ letterAt kind count i) where
       -- sheet 0 has ended
-      pub seeking-end : letter ≡ 83 → level ≡ 0 → Left (reached.End (at-calls calls)) from
+      pub seeking-end : letter ≡ 83 → level ≡ 0 → Left reached.End from
       seeking-end e z =
-          record { exact = λ t. j .exact t ∙ rest-end kind one two count i letter read from level (at-calls calls) t (j .between .empty) e z; stands = refl }
+          record { exact = λ met t. j .exact met t ∙ rest-end kind one two count i letter read from level calls met t e z; stands = tt }
 
       -- a B row
       module _ (r : Bool) (test : r ≡ inBlock kind count i) (out : r ≡ false) (a : letter ≡ 67 → ⊥) (b : letter ≡ 83 → ⊥) where
@@ -76,12 +71,11 @@ module _ (kind one two : List ℕ) (count : ℕ) (from₀ : List ℕ) (level₀ 
         seeking-on =
             let p = not-in kind count i r test out on-there in
             record {
-              exact = λ t. j .exact t
-                  ∙ rest-block kind one two count i letter read from level (at-calls calls) t (j .between .empty) b (λ e. p .0 (is ∙ e)) (λ e. p .1 (is ∙ e)) a;
+              exact = λ met t. j .exact met t
+                  ∙ rest-block kind one two count i letter read from level calls met t b (λ e. p .0 (is ∙ e)) (λ e. p .1 (is ∙ e)) a;
               between = record {
                 deep = j .between .deep;
                 long = j .between .long;
-                empty = j .between .empty;
                 few = j .between .few;
                 stand =
                     subst (AllStand 0) (rows-next kind one two count i on-there
@@ -104,11 +98,10 @@ module _ (kind one two : List ℕ) (count : ℕ) (from₀ : List ℕ) (level₀ 
         pub seeking-back : letter ≡ 83 → (level ≡ 0 → ⊥) → Seeking from (level - 1) (getD from (level - 1) 0 + 1) calls
         seeking-back e n =
             record {
-              exact = λ t. j .exact t ∙ rest-back kind one two count i letter read from level (at-calls calls) t (j .between .empty) e n;
+              exact = λ met t. j .exact met t ∙ rest-back kind one two count i letter read from level calls met t e n;
               between = record {
                 deep = omega (arith, j .between .deep);
                 long = j .between .long;
-                empty = j .between .empty;
                 few = j .between .few;
                 stand = j .between .behind (level - 1) (omega arith) .stand;
                 behind = λ k h. j .between .behind k (omega arith);
@@ -129,7 +122,7 @@ module _ (kind one two : List ℕ) (count : ℕ) (from₀ : List ℕ) (level₀ 
 
           pub seeking-deep : level ≡ levels → Left (reached.Stopped depthRefusal (lineOf i)) from
           seeking-deep z =
-              record { exact = λ t. j .exact t ∙ rest-deep kind one two count i letter read from level (at-calls calls) t (j .between .empty) e z; stands = tt }
+              record { exact = λ met t. j .exact met t ∙ rest-deep kind one two count i letter read from level calls met t e z; stands = tt }
 
           module _ (n : level ≡ levels → ⊥) where
             pub deeper : level < levels
@@ -137,7 +130,7 @@ module _ (kind one two : List ℕ) (count : ℕ) (from₀ : List ℕ) (level₀ 
 
             pub seeking-calls : callsMost ≤ calls → Left (reached.Stopped callsRefusal (lineOf i)) from
             seeking-calls m =
-                record { exact = λ t. j .exact t ∙ rest-calls kind one two count i letter read from level (at-calls calls) t (j .between .empty) e deeper m; stands = tt }
+                record { exact = λ met t. j .exact met t ∙ rest-calls kind one two count i letter read from level calls met t e deeper m; stands = tt }
 
             module _ (m : calls < callsMost) (first : ℕ) (starts : first ≡ getD start (getD one i 0) 0) where
               pub called-less : rank count (level + 1) first (calls + 1) < rank count level i calls
@@ -168,12 +161,11 @@ module _ (kind one two : List ℕ) (count : ℕ) (from₀ : List ℕ) (level₀ 
               pub seeking-called : Seeking (set from level i) (level + 1) first (calls + 1)
               seeking-called =
                   record {
-                    exact = λ t. j .exact t
-                        ∙ rest-called kind one two count i letter read from level (at-calls calls) t (j .between .empty) e deeper (j .between .long) first begins m;
+                    exact = λ met t. j .exact met t
+                        ∙ rest-called kind one two count i letter read from level calls met t e deeper (j .between .long) first begins m;
                     between = record {
                       deep = omega (arith, deeper);
                       long = length-set from level i ∙ j .between .long;
-                      empty = j .between .empty;
                       few = omega arith;
                       stand =
                           subst (λ (k : ℕ). AllStand 0 (rowsFrom kind one two count k)) (sym begins)

@@ -20,10 +20,9 @@ use Rattle.relation.specs.Width.{width}
 use Rattle.sheet.specs.Bridge.{rowFrom, rowsOf}
 use Rattle.sheet.proofs.Bridge.{row-sheet, row-call, row-block}
 use Rattle.blocks.specs.Store.{Store, storeOps, passed, passedIn, concluded}
-use Rattle.walk.specs.Block.{stateOf, rowsFrom}
-use Rattle.walk.specs.declared.Walk.{Walk}
+use Rattle.walk.specs.Block.{rowsFrom}
 use Rattle.walk.proofs.Meeting.{rows-next, rows-end, rows-drop}
-use Rattle.levels.specs.Levels.{letterAt, rowsWalked, after, rest}
+use Rattle.levels.specs.Levels.{letterAt, rowsWalked, after, idle, rest}
 
 -- three parts, one after another
 then-then : {C : Type 0} (o : Out (Progress Store)) (f : Progress Store → Out (Progress Store)) (g : Progress Store → Out C)
@@ -32,7 +31,7 @@ unfolding andThen
 then-then (ok s) f g = refl
 then-then (refusal number line) f g = refl
 
-pub then-alike : {A C : Type 0} (o : Out A) (f g : A → Out C) → ((s : A) → f s ≡ g s) → andThen o f ≡ andThen o g
+then-alike : {A C : Type 0} (o : Out A) (f g : A → Out C) → ((s : A) → f s ≡ g s) → andThen o f ≡ andThen o g
 unfolding andThen
 then-alike (ok s) f g h = h s
 then-alike (refusal number line) f g h = refl
@@ -43,14 +42,13 @@ unfolding passed passedIn
 passed-none W past events words n = let e : n - n ≡ 0 = omega arith in rw e
 
 -- an empty block that is closed changes nothing
-pub empty-opened : (w : Walk) (t : Store) → w .first ≡ w .count → blockOpened storeOps (stateOf w t) ≡ stateOf w t
+empty-opened : (calls met : ℕ) (t : Store) → blockOpened storeOps (idle calls met t) ≡ idle calls met t
 unfolding blockOpened storeOps
-empty-opened w t e =
-    rw e
-    (ap (λ (p : List ℕ). record {
-      walk = record { calls = w .calls; first = w .count; count = w .count };
+empty-opened calls met t =
+    ap (λ (p : List ℕ). record {
+      walk = record { calls = calls; first = met; count = met };
       kept = record { events = t .events; words = t .words; past = p };
-    }) (passed-none width (t .past) (t .events) (t .words) (2 * w .count)))
+    }) (passed-none width (t .past) (t .events) (t .words) (2 * met))
 
 -- what the letter says of the row
 module _ (kind : List ℕ) (count i letter : ℕ) (read : letter ≡ letterAt kind count i) where
@@ -94,7 +92,7 @@ module _ (kind one two : List ℕ) (count : ℕ) where
 
   module _ (i letter : ℕ) (read : letter ≡ letterAt kind count i) where
     -- at an S, and behind the last row, the rows at a level end
-    pub sheet-over : letter ≡ 83 → (left : ℕ) (s : Progress Store) → rowsWalked kind one two count left i s ≡ ok s
+    sheet-over : letter ≡ 83 → (left : ℕ) (s : Progress Store) → rowsWalked kind one two count left i s ≡ ok s
     unfolding walkRows
     sheet-over e left s = go (decLt i count)
       where
@@ -104,9 +102,9 @@ module _ (kind one two : List ℕ) (count : ℕ) where
             (row-sheet (getD kind i 0) (getD one i 0) (getD two i 0) (row-letter kind count i letter read h ∙ e))
         go (no n) = rw (rows-end kind one two count i (omega arith))
 
-    module _ (from : List ℕ) (level : ℕ) (w : Walk) (t : Store) (empty : w .first ≡ w .count) where
+    module _ (from : List ℕ) (level calls met : ℕ) (t : Store) where
       abbrev s : Progress Store
-      s = stateOf w t
+      s = idle calls met t
 
       pub rest-end : letter ≡ 83 → level ≡ 0 → rest kind one two count from level i s ≡ concluded s
       unfolding after andThen
@@ -121,7 +119,7 @@ module _ (kind one two : List ℕ) (count : ℕ) where
           let up : level ≡ suc (level - 1) = omega arith in
           ap (λ (o : Out (Progress Store)). andThen o (after kind one two count from level)) (sheet-over e (levels - level) s)
           ∙ ap (λ (k : ℕ). after kind one two count from k s) up
-          ∙ ap (λ (u : Progress Store). rest kind one two count from (level - 1) (getD from (level - 1) 0 + 1) u) (empty-opened w t empty)
+          ∙ ap (λ (u : Progress Store). rest kind one two count from (level - 1) (getD from (level - 1) 0 + 1) u) (empty-opened calls met t)
 
       -- a B row
       pub rest-block : (letter ≡ 83 → ⊥) → (letter ≡ 77 → ⊥) → (letter ≡ 80 → ⊥) → (letter ≡ 67 → ⊥)
@@ -134,7 +132,7 @@ module _ (kind one two : List ℕ) (count : ℕ) where
           (walked-as (levels - level) i s block h
           (row-block (getD kind i 0) (getD one i 0) (getD two i 0) (λ e. a (sym l ∙ e)) (λ e. b (sym l ∙ e)) (λ e. c (sym l ∙ e)) (λ e. d (sym l ∙ e)))
           ∙ ap₂ (λ (n : ℕ) (u : Progress Store). walkRows storeOps (callAt storeOps (levels - level) file) (rowsFrom kind one two count (i + 1)) n u)
-          (next-line i) (empty-opened w t empty))
+          (next-line i) (empty-opened calls met t))
 
       -- a call
       module _ (e : letter ≡ 67) where
@@ -176,24 +174,24 @@ module _ (kind one two : List ℕ) (count : ℕ) where
                 | false ↦ refusal callsRefusal (lineOf i)
               ]
 
-          call-entered : callAt storeOps (levels - level) file n (lineOf i) s ≡ entered (ltb (w .calls) callsMost)
+          call-entered : callAt storeOps (levels - level) file n (lineOf i) s ≡ entered (ltb (calls) callsMost)
           unfolding callAt entered
           call-entered =
               let one-less : levels - level ≡ suc left = omega arith in
               ap (λ (k : ℕ). callAt storeOps k file n (lineOf i) s) one-less
-              ∙ ap (λ (rs : List Row). elim (ltb (w .calls) callsMost) [
+              ∙ ap (λ (rs : List Row). elim (ltb (calls) callsMost) [
                 | true ↦ walkRows storeOps (callAt storeOps left file) rs (lineOf (startOf n file)) (blockOpened storeOps (callMade storeOps s))
                 | false ↦ refusal callsRefusal (lineOf i)
               ]) (rows-drop kind one two count (startOf n file))
 
-          rest-entered : (b : Bool) → ltb (w .calls) callsMost ≡ b → rest kind one two count from level i s ≡ onward (entered b)
+          rest-entered : (b : Bool) → ltb (calls) callsMost ≡ b → rest kind one two count from level i s ≡ onward (entered b)
           rest-entered b f =
               ap (λ (o : Out (Progress Store)). andThen o (after kind one two count from level)) call-walked
               ∙ ap onward (call-entered ∙ ap entered f)
 
-          pub rest-calls : callsMost ≤ w .calls → rest kind one two count from level i s ≡ refusal callsRefusal (lineOf i)
+          pub rest-calls : callsMost ≤ calls → rest kind one two count from level i s ≡ refusal callsRefusal (lineOf i)
           unfolding andThen entered
-          rest-calls m = rest-entered false (le-ltb (w .calls) callsMost m)
+          rest-calls m = rest-entered false (le-ltb (calls) callsMost m)
 
           -- a row noted for a deeper level changes nothing
           after-set : (k : ℕ) → k ≤ level → (u : Progress Store) → after kind one two count from k u ≡ after kind one two count (set from level i) k u
@@ -206,30 +204,25 @@ module _ (kind one two : List ℕ) (count : ℕ) where
               ∙ then-alike (rowsWalked kind one two count (levels - k) (getD (set from level i) k 0 + 1) (blockOpened storeOps u))
               (after kind one two count from k) (after kind one two count (set from level i) k) (after-set k (omega arith))
 
-          module _ (long : length from ≡ levels) (first : ℕ) (starts : first ≡ startOf n file) (m : w .calls < callsMost) where
-            abbrev made : Walk
-            made = record { calls = w .calls + 1; first = w .first; count = w .count }
-
-            made-empty : blockOpened storeOps (callMade storeOps s) ≡ stateOf made t
+          module _ (long : length from ≡ levels) (first : ℕ) (starts : first ≡ startOf n file) (m : calls < callsMost) where
+            made-empty : blockOpened storeOps (callMade storeOps s) ≡ idle (calls + 1) met t
             unfolding callMade
-            made-empty =
-                ap (λ (k : ℕ). blockOpened storeOps (record { walk = record { calls = k; first = w .first; count = w .count }; kept = t })) (sym (add-one (w .calls)))
-                ∙ empty-opened made t empty
+            made-empty = ap (λ (k : ℕ). blockOpened storeOps (idle k met t)) (sym (add-one calls)) ∙ empty-opened (calls + 1) met t
 
             noted-here : getD (set from level i) level 0 ≡ i
             noted-here = getD-set-same from level i 0 (omega arith)
 
-            pub rest-called : rest kind one two count from level i s ≡ rest kind one two count (set from level i) (level + 1) first (stateOf made t)
+            pub rest-called : rest kind one two count from level i s ≡ rest kind one two count (set from level i) (level + 1) first (idle (calls + 1) met t)
             unfolding after entered
             rest-called =
                 let start = startOf n file in
-                rest-entered true (lt-ltb (w .calls) callsMost m)
+                rest-entered true (lt-ltb (calls) callsMost m)
                 ∙ then-then (rowsWalked kind one two count left start (blockOpened storeOps (callMade storeOps s))) behind (after kind one two count from level)
                 ∙ ap (λ (u : Progress Store). andThen (rowsWalked kind one two count left start u) (λ s′. andThen (behind s′) (after kind one two count from level))) made-empty
-                ∙ then-alike (rowsWalked kind one two count left start (stateOf made t)) (λ s′. andThen (behind s′) (after kind one two count from level))
+                ∙ then-alike (rowsWalked kind one two count left start (idle (calls + 1) met t)) (λ s′. andThen (behind s′) (after kind one two count from level))
                 (after kind one two count (set from level i) (suc level))
                 (λ u. then-alike (behind u) (after kind one two count from level) (after kind one two count (set from level i) level) (after-set level (omega arith))
                 ∙ ap (λ (k : ℕ). andThen (rowsWalked kind one two count (levels - level) (k + 1) (blockOpened storeOps u)) (after kind one two count (set from level i) level))
                 (sym noted-here))
-                ∙ ap₂ (λ (k r : ℕ). andThen (rowsWalked kind one two count left r (stateOf made t)) (after kind one two count (set from level i) k))
+                ∙ ap₂ (λ (k r : ℕ). andThen (rowsWalked kind one two count left r (idle (calls + 1) met t)) (after kind one two count (set from level i) k))
                 (sym (add-one level)) (sym starts)

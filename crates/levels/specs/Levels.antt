@@ -14,8 +14,7 @@ use Rattle.model.specs.Expansion.{Progress, startOf, blockOpened, walkRows, cal
 use Rattle.model.specs.Order.{Scenario}
 use Rattle.sheet.specs.Bridge.{rowsOf}
 use Rattle.blocks.specs.Store.{Store, storeOps, concluded}
-use Rattle.walk.specs.Block.{stateOf, rowsFrom, inBlock, RowsFew, AllStand}
-use Rattle.walk.specs.declared.Walk.{Walk}
+use Rattle.walk.specs.Block.{rowsFrom, inBlock, RowsFew, AllStand}
 use Rattle.levels.specs.declared.Reached.{Reached}
 use Rattle.levels.specs.declared.Reached.the-variants as reached
 
@@ -26,6 +25,10 @@ letterAt kind count i = cond (ltb i count) (getD kind i 0) (code "S")
 -- how far it is to the end: a call is one more of those allowed, and else the walk goes back a level or on a row
 abbrev pub rank : ℕ → ℕ → ℕ → ℕ → ℕ
 rank count level i calls = (2 * (callsMost - calls) + level) * (rowsMost + 1) + (count - i)
+
+-- a walk in an empty block, and what it has collected
+abbrev pub idle : ℕ → ℕ → Store → Progress Store
+idle calls met t = record { walk = record { calls = calls; first = met; count = met }; kept = t }
 
 module _ (kind one two : List ℕ) (count : ℕ) where
   -- the rows from row i on, walked with so many levels left
@@ -53,32 +56,30 @@ module _ (kind one two : List ℕ) (count : ℕ) where
     pub starts : (i : ℕ) → i < count → getD kind i 0 ≡ code "C" → getD start (getD one i 0) 0 ≡ startOf (getD one i 0) (rowsOf kind one two count)
     pub stand : (n : ℕ) → AllStand 0 (rowsFrom kind one two count (startOf n (rowsOf kind one two count)))
 
-  pub record Between (from : List ℕ) (level i : ℕ) (w : Walk) : Type 0 where
+  pub record Between (from : List ℕ) (level i calls : ℕ) : Type 0 where
     pub deep : level ≤ levels
     pub long : length from ≡ levels
-    pub empty : w .first ≡ w .count
-    pub few : w .calls ≤ callsMost
+    pub few : calls ≤ callsMost
     pub stand : AllStand 0 (rowsFrom kind one two count i)
     pub behind : (k : ℕ) → k < level → Behind (getD from k 0)
 
   -- where a block was reached
-  pub record AtBlock (from : List ℕ) (level i : ℕ) (w : Walk) (met most : ℕ) : Type 0 where
-    pub between : Between from level i w
+  pub record AtBlock (from : List ℕ) (level i calls most : ℕ) : Type 0 where
+    pub between : Between from level i calls
     pub row : inBlock kind count i ≡ true
-    pub same : w .count ≡ met
-    pub nearer : rank count level i (w .calls) ≤ most
+    pub nearer : rank count level i calls ≤ most
 
-  abbrev pub reachedRest : Reached → List ℕ → Store → Out Scenario
-  reachedRest (reached.Block level i w) from t = rest from level i (stateOf w t)
-  reachedRest (reached.End w) from t = concluded (stateOf w t)
-  reachedRest (reached.Stopped number line) from t = refusal number line
+  abbrev pub reachedRest : Reached → List ℕ → ℕ → Store → Out Scenario
+  reachedRest (reached.Block level i calls) from met t = rest from level i (idle calls met t)
+  reachedRest reached.End from met t = concluded (idle 0 met t)
+  reachedRest (reached.Stopped number line) from met t = refusal number line
 
-  abbrev pub ReachedStands : Reached → List ℕ → ℕ → ℕ → Type 0
-  ReachedStands (reached.Block level i w) from met most = AtBlock from level i w met most
-  ReachedStands (reached.End w) from met most = w .count ≡ met
-  ReachedStands (reached.Stopped number line) from met most = Unit {0}
+  abbrev pub ReachedStands : Reached → List ℕ → ℕ → Type 0
+  ReachedStands (reached.Block level i calls) from most = AtBlock from level i calls most
+  ReachedStands reached.End from most = Unit {0}
+  ReachedStands (reached.Stopped number line) from most = Unit {0}
 
-  -- the walk comes to the same from there on, whatever it has collected
-  pub record Reaches (from : List ℕ) (level i : ℕ) (w : Walk) (r : Reached) (from′ : List ℕ) : Type 0 where
-    pub exact : (t : Store) → rest from level i (stateOf w t) ≡ reachedRest r from′ t
-    pub stands : ReachedStands r from′ (w .count) (rank count level i (w .calls))
+  -- the walk comes to the same from there on, whatever it has met and collected
+  pub record Reaches (from : List ℕ) (level i calls : ℕ) (r : Reached) (from′ : List ℕ) : Type 0 where
+    pub exact : (met : ℕ) (t : Store) → rest from level i (idle calls met t) ≡ reachedRest r from′ met t
+    pub stands : ReachedStands r from′ (rank count level i calls)

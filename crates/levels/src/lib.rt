@@ -6,11 +6,11 @@ ghost use Prim.Native.Nat.{_<_, _≤_};
 ghost use lib.ListN.{length, getD};
 ghost use Rattle.levels.specs.Levels.{letterAt, Sheets, Between, Reaches};
 
-// Where the walk comes to between two blocks: at a level, a row of the next block; the end of sheet 0; or a refusal's number and
-// line.
+// Where the walk comes to between two blocks: the level and row of the next block, with the calls made; the end of sheet 0; or a
+// refusal's number and line.
 pub enum Reached {
-    Block(usize, usize, Walk),
-    End(Walk),
+    Block(usize, usize, usize),
+    End,
     Stopped(u8, usize),
 }
 
@@ -42,26 +42,18 @@ pub fn next_block(
     from: &mut [usize],
     depth: usize,
     row: usize,
-    walk: Walk,
+    made: usize,
 ) -> Reached
     requires { ⌜ Sheets (now kind) (now one) (now two) rows (now start) ⌝ }
-    requires { ⌜ Between (now kind) (now one) (now two) rows (now from) depth row walk ⌝ }
-    ensures { λ r. ⌜ Reaches (now (kind .entry)) (now (one .entry)) (now (two .entry)) rows (now (from .entry)) depth row walk r (now (from .exit)) ⌝ }
+    requires { ⌜ Between (now kind) (now one) (now two) rows (now from) depth row made ⌝ }
+    ensures { λ r. ⌜ Reaches (now (kind .entry)) (now (one .entry)) (now (two .entry)) rows (now (from .entry)) depth row made r (now (from .exit)) ⌝ }
 {
     let mut level = depth;
     let mut at = row;
-    let mut calls = walk.calls;
+    let mut calls = made;
     loop {
         if walk::in_block(kind, rows, at) {
-            return Reached::Block(
-                level,
-                at,
-                Walk {
-                    calls,
-                    first: walk.first,
-                    count: walk.count,
-                },
-            );
+            return Reached::Block(level, at, calls);
         }
         let letter = letter_at(kind, rows, at);
         if letter == b'C' {
@@ -79,11 +71,7 @@ pub fn next_block(
         }
         if letter == b'S' {
             if level == 0 {
-                return Reached::End(Walk {
-                    calls,
-                    first: walk.first,
-                    count: walk.count,
-                });
+                return Reached::End;
             }
             level -= 1;
             at = from[level] + 1;

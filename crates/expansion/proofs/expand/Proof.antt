@@ -4,9 +4,9 @@ use borrow.Author.Needs.{needs}
 use Rattle.blocks.specs.Store.{storeOf}
 use Rattle.walk.proofs.Meeting.{leaves-as}
 use Rattle.levels.specs.Levels.{rank}
-use Rattle.expansion.proofs.Reading.{start-long, sheets-lent}
 use Rattle.levels.proofs.Seeking.{reaches-as}
-use Rattle.expansion.proofs.Whole.{Walking, walking-start, walking-stopped, walking-end, end-few, block-ready, walking-refused, walking-less, walking-on}
+use Rattle.expansion.proofs.Reading.{start-long, sheets-lent}
+use Rattle.expansion.proofs.Whole.{Walking, walking-start, walking-stopped, walking-end, block-ready, walking-refused, walking-less, walking-on}
 use Rattle.expansion.proofs.expand.Statement.{statement}
 use Rattle.expansion.proofs.expand.Tie as tie
 
@@ -39,7 +39,8 @@ slice-aggregate-next-block : tie.Need-slice-aggregate-next-block Inv-loop μ-loo
 slice-aggregate-next-block c = search needs
 
 next-block-requires : tie.Need-next-block-requires Inv-loop μ-loop
-next-block-requires c κs = (sheets-lent _ _ _ _ _ (c .before .before .before .before .before .before .before .before .before .before .before .before .before .before .pre .0), c .before .loop .inv .between)
+next-block-requires c κs =
+    (sheets-lent _ _ _ _ _ (c .before .before .before .before .before .before .before .before .before .before .before .before .before .before .pre .0), c .before .loop .inv .between)
 
 enum-known-number : tie.Need-enum-known-number Inv-loop μ-loop
 enum-known-number c = search needs
@@ -54,13 +55,12 @@ returns : tie.Need-returns Inv-loop μ-loop
 returns c =
     walking-stopped _ _ _ _ _ _ _ _ _ (c .before .before .before .before .before .before .loop .inv) _ _ _ (reaches-as (c .before .number .given .1) (c .before .before .before .before .next-block .ensures))
 
-enum-known-last : tie.Need-enum-known-last Inv-loop μ-loop
-enum-known-last c = search needs
+enum-told : tie.Need-enum-told Inv-loop μ-loop
+enum-told c = search needs
 
 without-circle-requires : tie.Need-without-circle-requires Inv-loop μ-loop
 without-circle-requires c κs =
-    let j = c .before .before .before .before .before .before .before .loop .inv in
-    (j .room .wordsLong, end-few _ _ _ _ _ _ _ _ _ j _ _ (reaches-as (c .before .before .last .given .1) (c .before .before .before .before .before .next-block .ensures)))
+    let j = c .before .before .before .before .before .before .loop .inv in (j .room .wordsLong, j .room .countMost)
 
 same-length-3 : tie.Need-same-length-3 Inv-loop μ-loop
 same-length-3 c = search needs
@@ -70,7 +70,7 @@ same-length-4 c = search needs
 
 returns-2 : tie.Need-returns-2 Inv-loop μ-loop
 returns-2 c =
-    walking-end _ _ _ _ _ _ _ _ _ (c .before .before .before .before .before .before .before .before .loop .inv) _ _ (reaches-as (c .before .before .before .last .given .1) (c .before .before .before .before .before .before .next-block .ensures)) _ (c .without-circle .ensures)
+    walking-end _ _ _ _ _ _ _ _ _ (c .before .before .before .before .before .before .before .loop .inv) _ (reaches-as (c .before .before .enum-told .given .1) (c .before .before .before .before .before .next-block .ensures)) _ (c .without-circle .ensures)
 
 enum-known-deep : tie.Need-enum-known-deep Inv-loop μ-loop
 enum-known-deep c = search needs
@@ -125,7 +125,7 @@ expand-spec =
     same-length
     same-length-2
     returns
-    enum-known-last
+    enum-told
     without-circle-requires
     same-length-3
     same-length-4

@@ -8,11 +8,11 @@ use Rattle.levels.proofs.next_block.Statement.{statement}
 use Rattle.levels.proofs.next_block.Tie as tie
 
 abbrev Inv-loop : tie.InvT-loop
-Inv-loop kind one two rows start from₀ depth row walk level₀ at₀ calls₀ from level at calls =
-    Seeking kind one two rows from₀ depth row walk from level at calls
+Inv-loop kind one two rows start from₀ depth row made level₀ at₀ calls₀ from level at calls =
+    Seeking kind one two rows from₀ depth row made from level at calls
 
 abbrev μ-loop : tie.MeasureT-loop
-μ-loop kind one two rows start from₀ depth row walk level₀ at₀ calls₀ from level at calls = rank rows level at calls
+μ-loop kind one two rows start from₀ depth row made level₀ at₀ calls₀ from level at calls = rank rows level at calls
 
 loop-holds : tie.Need-loop-holds Inv-loop μ-loop
 loop-holds c = search seeking-start
@@ -29,8 +29,8 @@ returns c = search seeking-block
 letter-at-requires : tie.Need-letter-at-requires Inv-loop μ-loop
 letter-at-requires c κs = search needs
 
-add-t18 : tie.Need-add-t18 Inv-loop μ-loop
-add-t18 c =
+add-t17 : tie.Need-add-t17 Inv-loop μ-loop
+add-t17 c =
     omega (arith, c .before .before .before .before .before .before .before .before .before .before .before .pre .0 .rows .few, call-there _ _ _ _ _ _ _ _ _ _ _ _ (c .before .before .before .before .before .loop .inv) _ (c .before .before .letter-at .ensures) _ (c .before .before .before .before .before .before .before .before .before .before .before .pre .0) (c .before .if2 .taken))
 
 same-length-2 : tie.Need-same-length-2 Inv-loop μ-loop
@@ -39,8 +39,8 @@ same-length-2 c = search needs
 returns-2 : tie.Need-returns-2 Inv-loop μ-loop
 returns-2 c = search seeking-deep
 
-add-t19 : tie.Need-add-t19 Inv-loop μ-loop
-add-t19 c =
+add-t18 : tie.Need-add-t18 Inv-loop μ-loop
+add-t18 c =
     omega (arith, c .before .before .before .before .before .before .before .before .before .before .before .before .pre .0 .rows .few, call-there _ _ _ _ _ _ _ _ _ _ _ _ (c .before .before .before .before .before .before .loop .inv) _ (c .before .before .before .letter-at .ensures) _ (c .before .before .before .before .before .before .before .before .before .before .before .before .pre .0) (c .before .before .if2 .taken))
 
 same-length-3 : tie.Need-same-length-3 Inv-loop μ-loop
@@ -119,10 +119,10 @@ next-block-spec =
     same-length
     returns
     letter-at-requires
-    add-t18
+    add-t17
     same-length-2
     returns-2
-    add-t19
+    add-t18
     same-length-3
     returns-3
     add-calls

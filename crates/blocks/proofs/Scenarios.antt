@@ -8,7 +8,7 @@ use mathlib.Core.List.{List, []}
 use lib.Dec.{eqb, ltb}
 use lib.ListN.{getD}
 use borrow.Author.Tests.{lt-ltb, ltb-true, eq-eqb}
-use Rattle.model.specs.Refusal.{Out, ok, refusal, andThen, circleRefusal}
+use Rattle.model.specs.Refusal.{Out, refusal, andThen}
 use Rattle.model.specs.Rows.{Row}
 use Rattle.model.specs.Expansion.{Walk, Progress, expand}
 use Rattle.model.specs.Order.{Event, sendOf, receiveOf, number, event, messageOf, isEvent, isOwn, isEarlier, Scenario, Met, exchangeOf, scenarioOf, hasCircle}

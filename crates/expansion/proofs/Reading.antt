@@ -24,7 +24,7 @@ use Rattle.model.proofs.Standing.{Fits, read-fits, cond-some}
 use Rattle.model.proofs.Walked.{OnOneBoard, message-parts, order-parts}
 use Rattle.sheet.specs.Bridge.{rowFrom, rowsAt, rowsOf, startIn}
 use Rattle.sheet.proofs.Bridge.{rows-length, row-call}
-use Rattle.walk.specs.Block.{rowsFrom, RowsFew, AllStand}
+use Rattle.walk.specs.Block.{rowsFrom, AllStand}
 use Rattle.walk.proofs.Meeting.{rows-drop}
 use Rattle.levels.specs.Levels.{Sheets}
 use Rattle.expansion.specs.Lent.{AreRead, RowsRead}

@@ -5,14 +5,13 @@ use native.Mathlib.Omega.{arith}
 use mathlib.Core.Path.{_≡_, refl, sym, _∙_, ap, subst}
 use mathlib.Core.Bool.{Bool, true, false, cond}
 use mathlib.Core.List.{List, _++_, append-nil}
-use lib.ListN.{length, getD, drop, replicate, length-replicate, drop-of-length-le}
-use Rattle.model.specs.Limits.{boards, messagesMost, levels, callsMost, rowsMost}
+use lib.ListN.{length, getD, replicate, length-replicate, drop-of-length-le}
+use Rattle.model.specs.Limits.{boards, messagesMost, levels}
 use Rattle.model.specs.Refusal.{Out, ok, refusal, andThen, circleRefusal}
 use Rattle.model.specs.Rows.{Row}
 use Rattle.model.specs.Place.{lineOf}
-use Rattle.model.specs.Expansion.{Progress, freshWalk, startOf, walkRows, callAt}
+use Rattle.model.specs.Expansion.{Progress, startOf, walkRows, callAt}
 use Rattle.model.specs.Expansion.{expand as expandRows}
-use Rattle.model.specs.Order.{Scenario}
 use Rattle.model.specs.Answer.{expandedOf}
 use Rattle.model.proofs.Lists.{replicate-at}
 use Rattle.model.proofs.Standing.{read-fits}
@@ -25,7 +24,6 @@ use Rattle.blocks.specs.Store.{Store, storeOf, storeOps, concluded}
 use Rattle.blocks.specs.Room.{Room}
 use Rattle.walk.specs.Block.{fresh, stateOf, rowsFrom, blockWalked, Leaves, AllStand, Ready}
 use Rattle.walk.specs.declared.Walk.{Walk}
-use Rattle.walk.specs.declared.Walked.{Walked}
 use Rattle.walk.specs.declared.Walked.the-variants.{To, Stopped}
 use Rattle.walk.proofs.Meeting.{in-rows, rows-drop}
 use Rattle.blocks.proofs.Sim.{Begins}

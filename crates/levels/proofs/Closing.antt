@@ -19,7 +19,7 @@ use Rattle.relation.specs.Width.{width}
 use Rattle.sheet.specs.Bridge.{rowFrom, rowsOf}
 use Rattle.sheet.proofs.Bridge.{row-message, row-order}
 use Rattle.blocks.specs.Store.{Store, storeOps, concluded}
-use Rattle.walk.specs.Block.{rowsFrom, inBlock, blockWalked, openBehind, AllStand}
+use Rattle.walk.specs.Block.{rowsFrom, inBlock, blockWalked, AllStand}
 use Rattle.walk.proofs.Meeting.{rows-next, rows-end, in-rows, in-either}
 use Rattle.levels.specs.Levels.{after, rest}
 use Rattle.levels.proofs.Steps.{passed-none, next-line}

@@ -4,7 +4,7 @@ use native.Mathlib.Decide.{decLt}
 use native.Mathlib.Numerals.{add-one}
 use native.Mathlib.Omega.{arith}
 use mathlib.Core.Path.{_≡_, refl, sym, _∙_, ap, ap₂}
-use mathlib.Core.Bool.{Bool, true, false, cond}
+use mathlib.Core.Bool.{Bool, true, false}
 use mathlib.Core.List.{List, _∷_}
 use lib.Dec.{ltb}
 use lib.ListN.{length, getD, set}
@@ -12,7 +12,7 @@ use lib.Seq.{getD-set-same, getD-set-other}
 use borrow.Author.Tests.{lt-ltb, le-ltb}
 use Rattle.model.specs.Limits.{levels, callsMost}
 use Rattle.model.specs.Refusal.{Out, ok, refusal, andThen, depthRefusal, callsRefusal}
-use Rattle.model.specs.Rows.{Row, sheet, message, order, block, call}
+use Rattle.model.specs.Rows.{Row, sheet, block, call}
 use Rattle.model.specs.Place.{lineOf}
 use Rattle.model.specs.Expansion.{Progress, startOf, blockOpened, callMade, walkRows, callAt}
 use Rattle.model.specs.Order.{Scenario}

@@ -23,8 +23,7 @@ use Rattle.relation.proofs.Inserted.{length-inserted}
 use Rattle.sheet.specs.Bridge.{rowFrom, rowsAt, rowsOf}
 use Rattle.sheet.proofs.Bridge.{rows-drop as rows-at-drop, row-message as row-is-message, row-order as row-is-order}
 use Rattle.blocks.specs.Store.{Store, storeOf, seated, added, passed, storeOps}
-use Rattle.blocks.specs.Room.{Room}
-use Rattle.walk.specs.Block.{stateOf, rowsFrom, inBlock, blockWalked, Leaves, Stands, openBehind, AllStand, Ready}
+use Rattle.walk.specs.Block.{stateOf, rowsFrom, inBlock, blockWalked, Leaves, AllStand, Ready}
 use Rattle.walk.specs.declared.Walk.{Walk}
 use Rattle.walk.specs.declared.Walked.{Walked}
 use Rattle.walk.specs.declared.Walked.the-variants.{To, Stopped}

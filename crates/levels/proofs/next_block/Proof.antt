@@ -3,7 +3,7 @@
 use native.Mathlib.Omega.{arith}
 use borrow.Author.Needs.{needs}
 use Rattle.levels.specs.Levels.{rank}
-use Rattle.levels.proofs.Seeking.{Seeking, seeking-start, seeking-block, seeking-deep, seeking-calls, seeking-end, seeking-called, seeking-back, seeking-on, called-less, back-less, on-less, on-there, back-inside, call-there, call-sheet, deeper}
+use Rattle.levels.proofs.Seeking.{Seeking, seeking-start, seeking-block, seeking-deep, seeking-calls, seeking-end, seeking-called, seeking-back, seeking-on, called-less, back-less, on-less, on-there, back-inside, call-there, call-sheet}
 use Rattle.levels.proofs.next_block.Statement.{statement}
 use Rattle.levels.proofs.next_block.Tie as tie
 

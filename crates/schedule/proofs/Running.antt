@@ -23,9 +23,9 @@ use Rattle.step.specs.declared.StepOrNone.the-variants as maybe
 use Rattle.step.specs.Steps.{stepIn, messageIn, stepOrNone}
 use Rattle.run.specs.State.{stateOf, Reaches, Follows}
 use Rattle.run.proofs.States.{reaches}
-use Rattle.schedule.specs.Search.{Chosen}
+use Rattle.next_step.specs.Search.{Chosen}
 use Rattle.schedule.specs.Schedule.{Scheduled}
-use Rattle.schedule.proofs.Searching.{chosen-inside}
+use Rattle.next_step.proofs.Searching.{chosen-inside}
 
 pub two-bytes : (trace : List ℕ) (i k m : ℕ) (s : code.Step) → k ≡ kindOf (stepIn s) → m ≡ messageIn s
     → set (set trace (2 * i) k) (2 * i + 1) m ≡ set (set trace (2 * i) (kindOf (stepIn s))) (2 * i + 1) (messageIn s)

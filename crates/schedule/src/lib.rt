@@ -1,6 +1,4 @@
 // The withholding schedule for a message, step by step, and its trace, two bytes a step.
-mod search;
-
 ghost use mathlib.Core.Path.{_≡_};
 ghost use Prim.Native.Nat.{_+_, _*_, _<_, _≤_};
 ghost use lib.ListN.{length, set};
@@ -11,8 +9,8 @@ ghost use Rattle.channel_table.specs.Table.{channelIn};
 ghost use Rattle.board.specs.Masks.{Standing};
 ghost use Rattle.step.specs.Steps.{stepIn, messageIn};
 ghost use Rattle.schedule.specs.Schedule.{Scheduled};
-use crate::search::choose;
 use channel_table::Channel;
+use next_step::choose;
 use run::Run;
 use step::Step;
 use step::StepOrNone;

@@ -1,9 +1,9 @@
--- `schedule::search::lowest` meets its contract. Assumes nothing.
+-- `next_step::lowest` meets its contract. Assumes nothing.
 use borrow.Author.Needs.{needs}
 use Prim.Native.Nat.{_-_}
-use Rattle.schedule.proofs.Searching.{Passed, search-begins, goes-past, finds, finds-none-left, finds-nothing}
-use Rattle.schedule.proofs.search.lowest.Statement.{statement}
-use Rattle.schedule.proofs.search.lowest.Tie as tie
+use Rattle.next_step.proofs.Searching.{Passed, search-begins, goes-past, finds, finds-none-left, finds-nothing}
+use Rattle.next_step.proofs.lowest.Statement.{statement}
+use Rattle.next_step.proofs.lowest.Tie as tie
 
 abbrev Inv-loop : tie.InvT-loop
 Inv-loop words masks boards count c done way rows e class among m₀ m = Passed count boards words c done way rows e class m

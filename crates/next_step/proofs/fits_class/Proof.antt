@@ -1,9 +1,9 @@
--- `schedule::search::fits_class` meets its contract. Assumes nothing.
+-- `next_step::fits_class` meets its contract. Assumes nothing.
 use borrow.Author.Needs.{needs}
 use Rattle.run.proofs.States.{event-below, board-below}
-use Rattle.schedule.proofs.Searching.{message-below, other-class, in-class}
-use Rattle.schedule.proofs.search.fits_class.Statement.{statement}
-use Rattle.schedule.proofs.search.fits_class.Tie as tie
+use Rattle.next_step.proofs.Searching.{message-below, other-class, in-class}
+use Rattle.next_step.proofs.fits_class.Statement.{statement}
+use Rattle.next_step.proofs.fits_class.Tie as tie
 
 takes-requires : tie.Need-takes-requires
 takes-requires c κs = search needs

@@ -2,7 +2,7 @@
 ghost use mathlib.Core.Path.{_≡_};
 ghost use Prim.Native.Nat.{_<_};
 ghost use Rattle.board.specs.Masks.{Standing};
-ghost use Rattle.schedule.specs.Search.{classAt, Fits, Lowest, Chosen};
+ghost use Rattle.next_step.specs.Search.{classAt, Fits, Lowest, Chosen};
 use board::board_of;
 use buffers::HELD_WORDS;
 use candidates::Class;

@@ -1,8 +1,8 @@
--- `schedule::search::class_at` meets its contract. Assumes nothing.
+-- `next_step::class_at` meets its contract. Assumes nothing.
 use borrow.Author.Needs.{needs}
-use Rattle.schedule.proofs.Searching.{last-class}
-use Rattle.schedule.proofs.search.class_at.Statement.{statement}
-use Rattle.schedule.proofs.search.class_at.Tie as tie
+use Rattle.next_step.proofs.Searching.{last-class}
+use Rattle.next_step.proofs.class_at.Statement.{statement}
+use Rattle.next_step.proofs.class_at.Tie as tie
 
 returns : tie.Need-returns
 returns c = search needs

@@ -34,7 +34,7 @@ use Rattle.candidates.specs.Candidates.{fits, OfRuns, Candidates, NextIn}
 use Rattle.candidates.proofs.EachClass.{step-is, message-is}
 use Rattle.channel.specs.Steps.{SaysStep}
 use Rattle.channel.proofs.StepTests.{unknown-step}
-use Rattle.schedule.specs.Search.{classAt, Fits, Lowest, Chosen}
+use Rattle.next_step.specs.Search.{classAt, Fits, Lowest, Chosen}
 
 -- the class behind the first five is the last
 pub last-class : (k : ℕ) → (k ≡ 0 → ⊥) → (k ≡ 1 → ⊥) → (k ≡ 2 → ⊥) → (k ≡ 3 → ⊥) → (k ≡ 4 → ⊥) → AnySend ≡ classAt k

@@ -1,9 +1,9 @@
--- `schedule::search::choose` meets its contract. Assumes nothing.
+-- `next_step::choose` meets its contract. Assumes nothing.
 use borrow.Author.Needs.{needs}
 use Prim.Native.Nat.{_-_}
-use Rattle.schedule.proofs.Searching.{Tried, tried-none, tried-more, chooses, chooses-nothing}
-use Rattle.schedule.proofs.search.choose.Statement.{statement}
-use Rattle.schedule.proofs.search.choose.Tie as tie
+use Rattle.next_step.proofs.Searching.{Tried, tried-none, tried-more, chooses, chooses-nothing}
+use Rattle.next_step.proofs.choose.Statement.{statement}
+use Rattle.next_step.proofs.choose.Tie as tie
 
 abbrev Inv-loop : tie.InvT-loop
 Inv-loop words masks boards count c e done way rows k₀ k = Tried count boards words c done way rows e k

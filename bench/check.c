@@ -171,9 +171,10 @@ static refusal walk_sheets(const sheet *s, walk *w) {
             insert(w, 2 * w->first + s->one[row], 2 * w->first + s->two[row]);
             row++;
             break;
-        case 'B':
+        case 'B': /* an empty block costs its row */
             open_block(w);
-            row++;
+            do row++;
+            while (row < s->count && s->kind[row] == 'B');
             break;
         case 'C':
             if (level == LEVELS) return (refusal){8, line};

@@ -1,10 +1,9 @@
 // Which events are on which board: the board of an event, and the masks of the boards.
+mod masks;
+
 ghost use mathlib.Core.Path.{_≡_};
 ghost use Prim.Native.Nat.{_<_};
 ghost use lib.ListN.{length, getD};
-
-mod masks;
-
 pub use crate::masks::MASK_WORDS;
 pub use crate::masks::SENDS;
 pub use crate::masks::board_masks;

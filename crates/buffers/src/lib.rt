@@ -27,9 +27,9 @@ pub fn held_rows(run: Run) -> [u64; HELD_WORDS]
     ensures { λ r. ⌜ HeldIn run r ⌝ }
 {
     let mut rows = [0u64; HELD_WORDS];
-    for b in 0..model::BOARDS {
-        let buffer = run.buffers[b];
-        join_held(&mut rows, b, buffer);
+    for board in 0..model::BOARDS {
+        let buffer = run.buffers[board];
+        join_held(&mut rows, board, buffer);
     }
     rows
 }

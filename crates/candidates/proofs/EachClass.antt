@@ -14,8 +14,8 @@ use Rattle.relation.specs.Width.{width}
 use Rattle.relation.specs.Rows.{holds}
 use Rattle.relation.specs.Scenario.{scenarioIn}
 use Rattle.relation.proofs.Scenario.{before-at}
-use Rattle.run.specs.declared.step.Step.the-variants.{Send, Deliver, Consume}
-use Rattle.run.specs.Step.{stepIn, messageIn}
+use Rattle.step.specs.declared.Step.the-variants.{Send, Deliver, Consume}
+use Rattle.step.specs.Steps.{stepIn, messageIn}
 use Rattle.candidates.specs.declared.classes.Class.{Class}
 use Rattle.candidates.specs.declared.classes.Class.the-variants.{AnyConsume, DeliveryOf, NeededDelivery, NeededSend, AnyDelivery, AnySend}
 use Rattle.candidates.specs.Classes.{classIn, stepFor}

@@ -24,7 +24,7 @@ use Rattle.relation.specs.Rows.{has, holds, marked}
 use Rattle.relation.specs.Scenario.{scenarioIn}
 use Rattle.relation.proofs.Bits.{has-zero}
 use Rattle.relation.proofs.Marked.{holds-marked}
-use Rattle.relation.proofs.Words.{or-left-false, or-right-false, has-and, has-not, some-bit, shifted, trailing-clear, alone-row}
+use Rattle.relation.proofs.Words.{or-left-false, or-right-false, has-and, some-bit, shifted, trailing-clear, alone-row, flipped, has-flipped}
 use Rattle.channel_table.specs.declared.Channel.{Channel}
 use Rattle.channel_table.specs.Table.{channelIn}
 use Rattle.run.specs.declared.Run.{Run}
@@ -144,10 +144,7 @@ filled-more f row now i v p e h =
     go j l (yes s) = rw s (getD-set-same now i v 0 (omega (arith, p .long)) ∙ e)
     go j l (no n) = getD-set-other now i j v 0 n ∙ p .exact j (omega arith)
 
--- the words of a row of complements, and of a row in common with one of the relation's
-abbrev pub flipped : List ℕ → ℕ → ℕ
-flipped row j = 2 ^ wordBits - 1 - getD row j 0
-
+-- the words of a row in common with one of the relation's
 abbrev pub common : List ℕ → ℕ → List ℕ → ℕ → ℕ
 common words from row j = bitAnd (getD row j 0) (getD words (from + j) 0)
 
@@ -163,8 +160,7 @@ flipped-all row now i p h small k l clear =
   where
     off : not (has (getD row (k / wordBits) 0) (k % wordBits)) ≡ false
     off =
-        sym (has-not (k % wordBits) wordBits (getD row (k / wordBits) 0) (omega arith) (small (k / wordBits)))
-        ∙ sym (filled-bit (flipped row) row now i k p h l) ∙ clear
+        sym (has-flipped row small k) ∙ sym (filled-bit (flipped row) row now i k p h l) ∙ clear
 
     go : (b : Bool) → has (getD row (k / wordBits) 0) (k % wordBits) ≡ b → b ≡ true
     go true e = refl

@@ -2,8 +2,8 @@
 use Prim.Native.Nat.{ℕ}
 use Rattle.model.specs.Order.{Scenario}
 use Rattle.model.specs.Schedule as plan
-use Rattle.run.specs.declared.step.Step.{Step}
-use Rattle.run.specs.declared.step.Step.the-variants.{Send, Deliver, Consume}
+use Rattle.step.specs.declared.Step.{Step}
+use Rattle.step.specs.declared.Step.the-variants.{Send, Deliver, Consume}
 use Rattle.candidates.specs.declared.classes.Class.{Class}
 use Rattle.candidates.specs.declared.classes.Class.the-variants.{AnyConsume, DeliveryOf, NeededDelivery, NeededSend, AnyDelivery, AnySend}
 

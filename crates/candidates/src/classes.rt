@@ -4,7 +4,7 @@ ghost use Prim.Native.Nat.{_<_};
 ghost use Rattle.relation.specs.Scenario.{scenarioIn};
 ghost use Rattle.race.specs.Bridge.{Lent};
 ghost use Rattle.candidates.specs.Classes.{classIn, stepFor};
-use run::Step;
+use step::Step;
 
 // The classes of steps, in the order in which they are tried.
 pub enum Class {

@@ -1,18 +1,17 @@
 // The messages that the search of a class looks at: those whose step can be allowed at all.
+mod classes;
+
 ghost use Prim.Native.Nat.{_+_, _*_, _<_, _≤_};
 ghost use lib.ListN.{length};
 ghost use Rattle.model.specs.Limits.{messagesMost};
 ghost use Rattle.relation.specs.Width.{width};
 ghost use Rattle.candidates.specs.Candidates.{Undone, Needed, Candidates, NextIn};
-use buffers::HELD_WORDS;
-use relation::WIDTH;
-use relation::WORD_BITS;
-
-mod classes;
-
 pub use crate::classes::Class;
 pub use crate::classes::step_of;
 pub use crate::classes::takes;
+use buffers::HELD_WORDS;
+use relation::WIDTH;
+use relation::WORD_BITS;
 
 // The events that are not done.
 fn undone(done: [u64; WIDTH]) -> [u64; WIDTH]

@@ -1,25 +1,29 @@
 -- A step is allowed: the tests of the code, one behind the other, are the model's. Assumes nothing.
-use mathlib.Core.Path.{_≡_, refl, sym, ap, _∙_, subst⁻¹}
+use mathlib.Core.Path.{_≡_, refl, ap, subst⁻¹}
 use mathlib.Core.Bool.{Bool, true, false}
 use mathlib.Core.List.{List}
 use Prim.Native.Nat.{ℕ, _+_, _*_, _<_, _≤_}
 use native.Mathlib.Omega.{arith}
-use lib.ListN.{getD, length}
+use lib.ListN.{getD}
 use borrow.Author.Tests.{lt-ltb, le-ltb}
-use Rattle.model.specs.Run.{allowed}
+use Rattle.model.specs.Order.{Scenario}
+use Rattle.model.specs.Channel as model
+use Rattle.model.specs.Run as model-run
+use Rattle.model.specs.Run.{State, send, deliver, consume, allowed}
+use Rattle.model.specs.Schedule.{messageOfStep}
 use Rattle.model.proofs.Events.{send-event, receive-event}
 use Rattle.relation.specs.Width.{width}
 use Rattle.relation.specs.Rows.{holds}
+use Rattle.relation.specs.Scenario.{scenarioIn}
 use Rattle.channel_table.specs.declared.Channel.{Channel}
 use Rattle.channel_table.specs.Table.{channelIn}
-use Rattle.board.specs.Boards.{boardsMost}
 use Rattle.board.specs.Masks.{Standing}
 use Rattle.run.specs.declared.Buffer.{Buffer}
 use Rattle.run.specs.declared.Run.{Run}
-use Rattle.run.specs.declared.step.Step.{Step}
-use Rattle.run.specs.declared.step.Step.the-variants.{Send, Deliver, Consume}
-use Rattle.run.specs.Step.{messageIn, eventIn}
-use Rattle.run.specs.State.{inRow}
+use Rattle.step.specs.declared.Step.{Step}
+use Rattle.step.specs.declared.Step.the-variants.{Send, Deliver, Consume}
+use Rattle.step.specs.Steps.{stepIn, messageIn}
+use Rattle.run.specs.State.{inRow, stateOf}
 use Rattle.rules.specs.Tests.{freeIn}
 use Rattle.rules.specs.Rules.{SaysReady, SaysSendRule, SaysDeliverRule}
 use Rattle.rules.proofs.Conditions.{free-says}
@@ -92,25 +96,17 @@ module _ (count : ℕ) (on words : List ℕ) (c : Channel) (step : Step) (m : �
       → SaysStep count on words c done way buffer step r
   step-consumes i h = subst⁻¹ (λ (s : Step). SaysStep count on words c done way buffer s r) i (h c way)
 
+-- its message, as it is read
+pub known : (step : Step) (m count : ℕ) → m ≡ messageIn step → m < count → messageIn step < count
+known step m count e h = omega arith
+
 -- no step on a message that the scenario has not is allowed
+pub unknown-step : (S : Scenario) (c : model.Channel) (s : State) (t : model-run.Step) → S .count ≤ messageOfStep t → false ≡ allowed S c s t
+unfolding allowed
+unknown-step S c s (send m) h = rw (le-ltb m (S .count) h)
+unknown-step S c s (deliver m) h = rw (le-ltb m (S .count) h)
+unknown-step S c s (consume m) h = rw (le-ltb m (S .count) h)
+
 pub unknown : (count : ℕ) (on words : List ℕ) (c : Channel) (run : Run) (step : Step) (m : ℕ) → m ≡ messageIn step → count ≤ m
     → Says count on words c run step false
-unfolding allowed
-unknown count on words c run (Send m) k e h = rw (le-ltb m count (omega arith))
-unknown count on words c run (Deliver m) k e h = rw (le-ltb m count (omega arith))
-unknown count on words c run (Consume m) k e h = rw (le-ltb m count (omega arith))
-
--- the event of a step on a message of the scenario is one of its events, and its board has a buffer
-pub event-inside : (step : Step) (count : ℕ) → messageIn step < count → eventIn step < 2 * count
-event-inside (Send m) count h = omega arith
-event-inside (Deliver m) count h = omega arith
-event-inside (Consume m) count h = omega arith
-
-pub event-read : (count : ℕ) (on words masks : List ℕ) (step : Step) (m x : ℕ) → x ≡ eventIn step → Standing count on words masks
-    → m ≡ messageIn step → m < count → x < length on
-event-read count on words masks step m x i s j h = omega (arith, s .boardsLong, event-inside step count (omega arith))
-
-pub board-inside : (count : ℕ) (on words masks : List ℕ) (step : Step) (m x b : ℕ) → b ≡ getD on x 0 → x ≡ eventIn step
-    → Standing count on words masks → m ≡ messageIn step → m < count → b < boardsMost
-board-inside count on words masks step m x b e i s j h =
-    rw (e, i) (s .boardsBelow (eventIn step) (event-inside step count (omega arith)))
+unknown count on words c run step m e h = unknown-step (scenarioIn count on words) (channelIn c) (stateOf run) (stepIn step) (omega arith)

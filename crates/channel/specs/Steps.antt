@@ -10,8 +10,8 @@ use Rattle.channel_table.specs.declared.Channel.{Channel}
 use Rattle.channel_table.specs.Table.{channelIn}
 use Rattle.run.specs.declared.Buffer.{Buffer}
 use Rattle.run.specs.declared.Run.{Run}
-use Rattle.run.specs.declared.step.Step.{Step}
-use Rattle.run.specs.Step.{stepIn, eventIn}
+use Rattle.step.specs.declared.Step.{Step}
+use Rattle.step.specs.Steps.{stepIn, eventIn}
 use Rattle.run.specs.State.{bufferOf, stateOf}
 
 -- the scenario of `count` messages, event k being on board `getD on k 0`

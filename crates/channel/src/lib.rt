@@ -2,14 +2,14 @@
 ghost use mathlib.Core.List.{List};
 ghost use Prim.Native.Nat.{ℕ, _<_};
 ghost use Rattle.board.specs.Masks.{Standing};
-ghost use Rattle.run.specs.Step.{messageIn};
+ghost use Rattle.step.specs.Steps.{messageIn};
 ghost use Rattle.channel.specs.Steps.{Says, SaysStep};
 use board::board_of;
 use channel_table::Channel;
 use relation::WIDTH;
 use run::Buffer;
 use run::Run;
-use run::Step;
+use step::Step;
 
 // Message m may be sent: its send is ready, its board, the buffer's, is free, and the further condition holds.
 fn may_send<'a>(

@@ -16,7 +16,7 @@ use Rattle.model.specs.Bounded.{lowest}
 use Rattle.model.specs.Refusal.{Out, ok, refusal}
 use Rattle.model.specs.Order.{Event, receiveOf, number, event, Scenario, board}
 use Rattle.model.specs.Channel.{Channel, channelOf}
-use Rattle.model.specs.Run.{State, start, Step, send, deliver, consume, next, allowed, isOrderFrom, after, finished, stuck, EndsStuck, CanFinish}
+use Rattle.model.specs.Run.{State, start, Step, next, allowed, isOrderFrom, after, finished, stuck, EndsStuck, CanFinish}
 use Rattle.model.specs.Race.{RaceRule, never, raceRuleOf, escapes, isRace, races, lowestEvent, lowestMessage, lowestRace}
 use Rattle.model.specs.Schedule.{classesFor, choose, schedule, scheduleFrom, bytesOf}
 use Rattle.model.specs.Answer.{Answer, free, locked, acceptedOf, verdictOf, answerFor, answerOf, traceAfter, numbersOf}

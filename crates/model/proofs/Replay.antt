@@ -11,7 +11,7 @@ use mathlib.Core.Option.{Option, none, some}
 use borrow.Author.Tests.{lt-ltb, ltb-true, le-ltb, le-leb, eq-eqb, eqb-true}
 use lib.Dec.{eqb, leb, ltb}
 use lib.ListN.{length, take, drop, getD, length-append, length-take, take-append-drop}
-use lib.Seq.{take-at, drop-cons, getD-append-add}
+use lib.Seq.{take-at, getD-append-add}
 use Rattle.model.specs.Limits.{channels, messagesMost, scratchLeast, traceLeast}
 use Rattle.model.specs.Refusal.{Out, ok, refusal}
 use Rattle.model.specs.Order.{Scenario}
@@ -24,7 +24,7 @@ use Rattle.model.proofs.Bounded.{and-left, and-right, and-both, which, 
 use Rattle.model.proofs.Refusal.{cond-ok, cond-refused}
 use Rattle.model.proofs.Accepted.{sheet-count}
 use Rattle.model.proofs.Rules.{stuck-unfinished}
-use Rattle.model.proofs.Trace.{bytes-length, told-back, told-is}
+use Rattle.model.proofs.Trace.{bytes-length, told-back, told-is, two-more}
 use Rattle.model.proofs.PointThree.{locked-stuck}
 
 abbrev word : Replay → ℕ
@@ -149,14 +149,6 @@ module _ (S : Scenario) (c : Channel) where
         subst (λ (l : List ℕ). replayFrom S c 0 start (stepsIn l) ≡ notAllowed i) apart
         (forbidden-replayed 0 start ts (getD trace (2 * i) 0) (getD trace (2 * i + 1) 0) rest (F .isOrder) (F .forbidden)
         ∙ ap notAllowed (omega arith))
-      where
-        two-more : (l : List ℕ) (k : ℕ) → k + 1 < length l → drop k l ≡ getD l k 0 ∷ getD l (k + 1) 0 ∷ drop (k + 2) l
-        two-more l k h =
-            let first : k < length l = omega arith in
-            let second : suc k < length l = omega arith in
-            let one : suc k ≡ k + 1 = omega arith in
-            let two : suc (suc k) ≡ k + 2 = omega arith in
-            drop-cons l k 0 first ∙ ap (λ t. getD l k 0 ∷ t) (drop-cons l (suc k) 0 second ∙ subst₂ (λ (a b : ℕ). getD l (suc k) 0 ∷ drop (suc (suc k)) l ≡ getD l a 0 ∷ drop b l) one two refl)
 
     from-parts : Parted start trace → Judged (replay S c trace)
     from-parts p = go trace refl p

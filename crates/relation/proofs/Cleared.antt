@@ -8,7 +8,7 @@ use native.Mathlib.Nat.{mul-le-mul-right}
 use native.Mathlib.Decide.{decLe}
 use native.Mathlib.Omega.{arith}
 use lib.Dec.{leb}
-use lib.ListN.{length, getD, drop, replicate, length-append, length-replicate, length-drop, getD-replicate, List·getD-append}
+use lib.ListN.{length, getD, drop, replicate, length-replicate, getD-replicate, List·getD-append}
 use lib.Seq.{getD-append-add, getD-drop, drop-append-add, drop-drop}
 use borrow.Author.Tests.{le-leb, lt-leb}
 use Rattle.relation.specs.Width.{wordBits}
@@ -16,16 +16,12 @@ use Rattle.relation.specs.Rows.{holds, cleared, wordOf, bitOf}
 use Rattle.relation.proofs.Bits.{has-zero}
 use Rattle.relation.proofs.Place.{column-lt}
 
-pub length-cleared : (n : ℕ) (l : List ℕ) → n ≤ length l → length (cleared n l) ≡ length l
-unfolding cleared
-length-cleared n l h = simp (length-append, length-replicate, length-drop) (omega arith)
-
-pub cleared-at : (n : ℕ) (l : List ℕ) (k : ℕ) → k < n → getD (cleared n l) k 0 ≡ 0
+cleared-at : (n : ℕ) (l : List ℕ) (k : ℕ) → k < n → getD (cleared n l) k 0 ≡ 0
 unfolding cleared
 cleared-at n l k h =
     List·getD-append (replicate n 0) (drop n l) 0 k (rw (length-replicate n) h) ∙ getD-replicate n k 0 0 h
 
-pub cleared-beyond : (n : ℕ) (l : List ℕ) (k : ℕ) → n ≤ k → getD (cleared n l) k 0 ≡ getD l k 0
+cleared-beyond : (n : ℕ) (l : List ℕ) (k : ℕ) → n ≤ k → getD (cleared n l) k 0 ≡ getD l k 0
 unfolding cleared
 cleared-beyond n l k h =
     ap (λ (i : ℕ). getD (replicate n 0 ++ drop n l) i 0) at ∙ getD-append-add (replicate n 0) (drop n l) (k - n) 0 ∙ getD-drop n l (k - n) 0

@@ -97,3 +97,11 @@ trailing-clear (suc k) n i h = go (n % 2) refl i h (λ j g. trailing-clear k (n 
 pub alone-row : (W : ℕ) (row : List ℕ) (k : ℕ) → holds W row 0 k ≡ has (getD row (k / wordBits) 0) (k % wordBits)
 unfolding holds
 alone-row W row k = rw (zero-mul, zero-add)
+
+-- the words of the events that are not in a row
+abbrev pub flipped : List ℕ → ℕ → ℕ
+flipped row j = 2 ^ wordBits - 1 - getD row j 0
+
+pub has-flipped : (row : List ℕ) → ((j : ℕ) → getD row j 0 < 2 ^ wordBits)
+    → (k : ℕ) → has (flipped row (k / wordBits)) (k % wordBits) ≡ not (has (getD row (k / wordBits) 0) (k % wordBits))
+has-flipped row small k = has-not (k % wordBits) wordBits (getD row (k / wordBits) 0) (omega arith) (small (k / wordBits))

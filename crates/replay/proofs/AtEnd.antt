@@ -19,12 +19,12 @@ use Rattle.channel_table.specs.declared.Channel.{Channel}
 use Rattle.channel_table.specs.Table.{channelIn}
 use Rattle.run.specs.declared.Buffer.{Buffer}
 use Rattle.run.specs.declared.Run.{Run}
-use Rattle.run.specs.declared.step.Step.{Step}
-use Rattle.run.specs.declared.step.Step.the-variants as step
-use Rattle.run.specs.Step.{eventIn, messageIn}
+use Rattle.step.specs.declared.Step.{Step}
+use Rattle.step.specs.declared.Step.the-variants as step
+use Rattle.step.specs.Steps.{eventIn, messageIn}
 use Rattle.board.specs.Boards.{boardsMost}
 use Rattle.board.specs.Masks.{Standing}
-use Rattle.channel.proofs.StepTests.{event-inside}
+use Rattle.step.proofs.Steps.{event-inside}
 use Rattle.run.specs.State.{inRow, bufferOf, stateOf}
 use Rattle.buffers.specs.Held.{HeldIn}
 use Rattle.channel.specs.Steps.{SaysStep}

@@ -7,7 +7,6 @@ use Prim.Native.Nat.{ℕ, suc, _+_, _*_, _/_, _%_, _<_, _≤_}
 use native.Mathlib.Omega.{arith}
 use borrow.Author.Tests.{not-true, not-false, ltb-true}
 use lib.ListN.{length, getD, drop, drop-of-length-le}
-use lib.Seq.{drop-cons}
 use Rattle.model.specs.Limits.{traceLeast}
 use Rattle.model.specs.Order.{Scenario}
 use Rattle.model.specs.Run.{State, start, Step, send, deliver, consume, next, allowed}
@@ -15,30 +14,21 @@ use Rattle.model.specs.Channel as model
 use Rattle.model.specs.Schedule.{stepTold, messageOfStep}
 use Rattle.model.specs.Replay.{notAllowed, stepsIn, standing, replayFrom, replay}
 use Rattle.model.proofs.Bounded.{and-left}
+use Rattle.model.proofs.Trace.{two-more}
 use Rattle.relation.specs.Scenario.{scenarioIn}
 use Rattle.channel_table.specs.declared.Channel.{Channel}
 use Rattle.channel_table.specs.Table.{channelIn}
 use Rattle.board.specs.Masks.{Standing}
 use Rattle.run.specs.declared.Run.{Run}
-use Rattle.run.specs.declared.step.Step as code
-use Rattle.run.specs.declared.step.StepOrNone.{StepOrNone}
-use Rattle.run.specs.declared.step.StepOrNone.the-variants as maybe
-use Rattle.run.specs.Step.{stepIn, messageIn, stepOrNone, Reaches}
+use Rattle.step.specs.declared.Step as code
+use Rattle.step.specs.declared.StepOrNone.{StepOrNone}
+use Rattle.step.specs.declared.StepOrNone.the-variants as maybe
+use Rattle.step.specs.Steps.{stepIn, messageIn, stepOrNone, Reaches}
 use Rattle.run.specs.State.{stateOf, Follows}
 use Rattle.channel.specs.Steps.{Says}
 use Rattle.replay.specs.declared.Replay.{Replay}
 use Rattle.replay.specs.declared.Replay.the-variants.{NotAllowed}
 use Rattle.replay.specs.Bridge.{replayIn}
-
-two-more : (l : List ℕ) (k : ℕ) → k + 1 < length l → drop k l ≡ getD l k 0 ∷ getD l (k + 1) 0 ∷ drop (k + 2) l
-two-more l k h =
-    let first : k < length l = omega arith in
-    let second : suc k < length l = omega arith in
-    let one : suc k ≡ k + 1 = omega arith in
-    let two : suc (suc k) ≡ k + 2 = omega arith in
-    drop-cons l k 0 first
-    ∙ ap (λ t. getD l k 0 ∷ t)
-    (drop-cons l (suc k) 0 second ∙ subst₂ (λ (a b : ℕ). getD l (suc k) 0 ∷ drop (suc (suc k)) l ≡ getD l a 0 ∷ drop b l) one two refl)
 
 -- a step that is allowed is one on a message of the scenario
 allowed-inside : (S : Scenario) (c : model.Channel) (s : State) (t : Step) → allowed S c s t ≡ true → messageOfStep t < S .count

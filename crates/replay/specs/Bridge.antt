@@ -10,7 +10,7 @@ use Rattle.relation.specs.Scenario.{scenarioIn}
 use Rattle.channel_table.specs.declared.Channel.{Channel}
 use Rattle.channel_table.specs.Table.{channelIn}
 use Rattle.run.specs.declared.Run.{Run}
-use Rattle.run.specs.declared.step.Step.{Step}
+use Rattle.step.specs.declared.Step.{Step}
 use Rattle.run.specs.State.{inRow, stateOf}
 use Rattle.buffers.specs.Held.{HeldIn}
 use Rattle.channel.specs.Steps.{Says}

@@ -14,8 +14,8 @@ ghost use Rattle.replay.specs.Bridge.{replayIn};
 use channel_table::Channel;
 use expansion::Expanded;
 use run::Run;
-use run::Step;
-use run::StepOrNone;
+use step::Step;
+use step::StepOrNone;
 
 mod standing;
 

@@ -8,7 +8,7 @@ ghost use Rattle.relation.specs.Scenario.{scenarioIn};
 ghost use Rattle.channel_table.specs.Table.{channelIn};
 ghost use Rattle.board.specs.Masks.{Standing};
 ghost use Rattle.run.specs.State.{stateOf};
-ghost use Rattle.run.specs.Step.{messageIn};
+ghost use Rattle.step.specs.Steps.{messageIn};
 ghost use Rattle.replay.specs.Bridge.{replayIn, allDone, SaysIn, SaysStill};
 use crate::Replay;
 use board::board_of;
@@ -16,7 +16,7 @@ use buffers::HELD_WORDS;
 use channel_table::Channel;
 use relation::WIDTH;
 use run::Run;
-use run::Step;
+use step::Step;
 
 // All events are done.
 fn is_finished(done: &[u64; WIDTH], count: usize) -> bool

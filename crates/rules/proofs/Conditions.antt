@@ -13,9 +13,9 @@ use Rattle.model.specs.Limits.{boards, messagesMost}
 use Rattle.model.specs.Bounded.{every}
 use Rattle.model.specs.Channel as model
 use Rattle.model.specs.Order.{Event, sendOf, receiveOf, number, event, messageOf, boardOf, board, Scenario}
-use Rattle.model.specs.Run.{everyEvent, isAhead, ready, bufferEmpty, boardFree, maySend, mayDeliver, send, allowed}
+use Rattle.model.specs.Run.{everyEvent, isAhead, ready, bufferEmpty, boardFree, maySend, mayDeliver}
 use Rattle.model.proofs.Bounded.{and-left, and-right, every-at, every-from, which, not-is-true}
-use Rattle.model.proofs.Events.{event-number, number-event, send-event, receive-event, below-number, below-event}
+use Rattle.model.proofs.Events.{event-number, number-event, below-number, below-event}
 use Rattle.model.proofs.Rules.{everyEvent-at, everyEvent-from}
 use Rattle.relation.specs.Width.{width, wordBits}
 use Rattle.relation.specs.Rows.{holds}

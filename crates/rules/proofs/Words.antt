@@ -14,7 +14,7 @@ use Rattle.model.proofs.Bounded.{every-at, every-from, which, not-both, not-is-
 use Rattle.relation.specs.Width.{width, wordBits}
 use Rattle.relation.specs.Rows.{has, holds}
 use Rattle.relation.proofs.Bits.{has-zero}
-use Rattle.relation.proofs.Words.{has-and, has-not, some-bit, alone-row}
+use Rattle.relation.proofs.Words.{has-and, some-bit, alone-row, flipped, has-flipped}
 use Rattle.rules.specs.Tests.{undone, noneOfRow, noneIn}
 
 -- a row of W words w 0, w 1, .. and its bits q: no event is in it if and only if all its words are zero
@@ -81,14 +81,10 @@ pub row-end : (W : ℕ) (words : List ℕ) (y : ℕ) (masks : List ℕ) (b : ℕ
     → noneOfRow (wordBits * i) W words y masks b r ≡ true → i ≤ W → W ≤ i → true ≡ noneOfRow (wordBits * W) W words y masks b r
 row-end W words y masks b r i = at-end W i (λ n. noneOfRow n W words y masks b r)
 
--- the words of the events that are not done
-abbrev pub flipped : List ℕ → ℕ → ℕ
-flipped done j = 2 ^ wordBits - 1 - getD done j 0
-
+-- the bits of the events that are not done
 pub undone-words : (done : List ℕ) → ((j : ℕ) → getD done j 0 < 2 ^ wordBits)
     → (k : ℕ) → undone done k ≡ has (flipped done (k / wordBits)) (k % wordBits)
-undone-words done small k =
-    rw (alone-row width done k) (sym (has-not (k % wordBits) wordBits (getD done (k / wordBits) 0) (omega arith) (small (k / wordBits))))
+undone-words done small k = rw (alone-row width done k) (sym (has-flipped done small k))
 
 module _ (W : ℕ) (masks : List ℕ) (b : ℕ) (given : List ℕ) where
   two-bits : (k : ℕ) → k < wordBits * W

@@ -1,4 +1,6 @@
 // What the step rules ask: that an event is ready, that a board is free, and the further conditions of the channel.
+mod rows;
+
 ghost use mathlib.Core.Path.{_≡_};
 ghost use Prim.Native.Nat.{_+_, _*_, _<_, _≤_};
 ghost use lib.ListN.{length};
@@ -18,8 +20,6 @@ use channel_table::ToSend;
 use relation::WIDTH;
 use run::Buffer;
 use run::without;
-
-mod rows;
 
 // Event x is ready: not done, and all events before it on its board are done.
 pub fn ready(

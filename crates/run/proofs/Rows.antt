@@ -2,7 +2,7 @@
 use mathlib.Core.Path.{_≡_, sym, ap, _∙_}
 use mathlib.Core.Bool.{false, not, _&&_, _||_, or-false, and-true}
 use mathlib.Core.List.{List}
-use Prim.Native.Nat.{ℕ, _-_, _/_, _%_, _^_, _<_}
+use Prim.Native.Nat.{ℕ, _-_, _*_, _/_, _%_, _^_, _<_}
 use native.Mathlib.Decide.{ℕ-discrete}
 use native.Mathlib.Omega.{arith}
 use lib.Bits.{bitAnd, bitOr}
@@ -13,7 +13,7 @@ use lib.Seq.{getD-set-same, getD-set-other}
 use borrow.Author.Tests.{ne-eqb}
 use Rattle.relation.specs.Width.{wordBits}
 use Rattle.relation.specs.Rows.{has, holds}
-use Rattle.relation.proofs.Bits.{has-or, has-power}
+use Rattle.relation.proofs.Bits.{has-or, has-power, mask-power}
 use Rattle.relation.proofs.Tests.{eqb-same}
 use Rattle.relation.proofs.Words.{has-and, has-not, alone-row}
 
@@ -34,7 +34,7 @@ module _ (W : ℕ) (row : List ℕ) (x : ℕ) (inside : x / wordBits < length ro
   other-event : (k : ℕ) → (k / wordBits ≡ x / wordBits → ⊥) → eqb k x ≡ false
   other-event k n = ne-eqb k x (λ e. n (ap (λ (m : ℕ). m / wordBits) e))
 
-  pub with-bit : (k : ℕ) → holds W (set row (x / wordBits) (bitOr (getD row (x / wordBits) 0) (2 ^ (x % wordBits)))) 0 k
+  with-bit : (k : ℕ) → holds W (set row (x / wordBits) (bitOr (getD row (x / wordBits) 0) (2 ^ (x % wordBits)))) 0 k
       ≡ (holds W row 0 k || eqb k x)
   with-bit k = go (ℕ-discrete (k / wordBits) (x / wordBits))
     where
@@ -47,7 +47,7 @@ module _ (W : ℕ) (row : List ℕ) (x : ℕ) (inside : x / wordBits < length ro
           ∙ rw (has-power (x % wordBits) (k % wordBits), same-bit k e, here k e)
       go (no n) = set-there v k n ∙ rw (other-event k n, or-false)
 
-  pub without-bit : (k : ℕ)
+  without-bit : (k : ℕ)
       → holds W (set row (x / wordBits) (bitAnd (getD row (x / wordBits) 0) (2 ^ wordBits - 1 - 2 ^ (x % wordBits)))) 0 k
       ≡ (holds W row 0 k && not (eqb k x))
   without-bit k = go (ℕ-discrete (k / wordBits) (x / wordBits))
@@ -60,3 +60,13 @@ module _ (W : ℕ) (row : List ℕ) (x : ℕ) (inside : x / wordBits < length ro
           set-here v k e ∙ has-and (getD row (x / wordBits) 0) (2 ^ wordBits - 1 - 2 ^ (x % wordBits)) (k % wordBits)
           ∙ rw (has-not (k % wordBits) wordBits (2 ^ (x % wordBits)) (omega arith) (pow-lt {j = wordBits} (omega arith)), has-power (x % wordBits) (k % wordBits), same-bit k e, here k e)
       go (no n) = set-there v k n ∙ rw (other-event k n, and-true)
+
+  -- as the code makes them: one shifted is the event's bit
+  pub with-event : (k : ℕ)
+      → holds W (set row (x / wordBits) (bitOr (getD row (x / wordBits) 0) (1 * 2 ^ (x % wordBits) % 2 ^ wordBits))) 0 k ≡ (holds W row 0 k || eqb k x)
+  with-event k = rw (mask-power x) (with-bit k)
+
+  pub without-event : (k : ℕ)
+      → holds W (set row (x / wordBits) (bitAnd (getD row (x / wordBits) 0) (2 ^ wordBits - 1 - 1 * 2 ^ (x % wordBits) % 2 ^ wordBits))) 0 k
+      ≡ (holds W row 0 k && not (eqb k x))
+  without-event k = rw (mask-power x) (without-bit k)

@@ -1,18 +1,17 @@
 // The state of a run, and the state behind a step.
+mod row;
+
 ghost use mathlib.Core.Path.{_≡_};
+ghost use Prim.Native.Nat.{_<_};
+ghost use Rattle.model.specs.Limits.{messagesMost};
 ghost use Rattle.model.specs.Run.{start};
-ghost use Rattle.run.specs.Step.{stepIn, Reaches};
-ghost use Rattle.run.specs.State.{stateOf, Follows};
+ghost use Rattle.step.specs.Steps.{stepIn, messageIn};
+ghost use Rattle.run.specs.State.{stateOf, DoneBehind, WayBehind, HeldBehind, Reaches, Follows};
 use crate::row::with;
+pub use crate::row::without;
 use board::board_of;
 use relation::WIDTH;
-
-mod row;
-mod step;
-
-pub use crate::row::without;
-pub use crate::step::Step;
-pub use crate::step::StepOrNone;
+use step::Step;
 
 // The messages that a board's buffer holds, as bits of their sends.
 pub struct Buffer {
@@ -24,6 +23,46 @@ pub struct Run {
     pub done: [u64; WIDTH],
     pub way: [u64; WIDTH],
     pub buffers: [Buffer; model::BOARDS],
+}
+
+// The events done behind a step: a send is done when sent, a receive when consumed.
+fn done_behind(done: [u64; WIDTH], step: Step) -> [u64; WIDTH]
+    requires { ⌜ messageIn step < messagesMost ⌝ }
+    ensures { λ r. ⌜ DoneBehind done step r ⌝ }
+{
+    let send = 2 * step.message();
+    let receive = send + 1;
+    match step {
+        Step::Send(_) => with(done, send),
+        Step::Deliver(_) => done,
+        Step::Consume(_) => with(done, receive),
+    }
+}
+
+// The messages under way behind a step: a message sent goes under way, and one delivered leaves the channel.
+fn way_behind(way: [u64; WIDTH], step: Step) -> [u64; WIDTH]
+    requires { ⌜ messageIn step < messagesMost ⌝ }
+    ensures { λ r. ⌜ WayBehind way step r ⌝ }
+{
+    let send = 2 * step.message();
+    match step {
+        Step::Send(_) => with(way, send),
+        Step::Deliver(_) => without(way, send),
+        Step::Consume(_) => way,
+    }
+}
+
+// What the receiver's buffer holds behind a step: a message delivered enters it, and one consumed leaves it.
+fn held_behind(held: [u64; WIDTH], step: Step) -> [u64; WIDTH]
+    requires { ⌜ messageIn step < messagesMost ⌝ }
+    ensures { λ r. ⌜ HeldBehind held step r ⌝ }
+{
+    let send = 2 * step.message();
+    match step {
+        Step::Send(_) => held,
+        Step::Deliver(_) => with(held, send),
+        Step::Consume(_) => without(held, send),
+    }
 }
 
 impl Run {
@@ -38,46 +77,25 @@ impl Run {
         }
     }
 
-    // Send: the message's send is done, and it goes under way. Deliver: it leaves the channel and enters its receiver's
-    // buffer. Consume: its receive is done, and it leaves the buffer.
+    // The run behind a step.
     pub fn next(self, boards: &[u8], step: Step) -> Self
         requires { ⌜ Reaches (now boards) step ⌝ }
         ensures { λ r. ⌜ Follows (now (boards .entry)) self (stepIn step) r ⌝ }
     {
-        let send = 2 * step.message();
-        let receive = send + 1;
+        let receive = 2 * step.message() + 1;
         let target = board_of(boards, receive);
         let done = self.done;
         let way = self.way;
         let mut buffers = self.buffers;
         let buffer = buffers[target];
         let held = buffer.held;
-        match step {
-            Step::Send(_) => Run {
-                done: with(done, send),
-                way: with(way, send),
-                buffers,
-            },
-            Step::Deliver(_) => {
-                buffers[target] = Buffer {
-                    held: with(held, send),
-                };
-                Run {
-                    done,
-                    way: without(way, send),
-                    buffers,
-                }
-            }
-            Step::Consume(_) => {
-                buffers[target] = Buffer {
-                    held: without(held, send),
-                };
-                Run {
-                    done: with(done, receive),
-                    way,
-                    buffers,
-                }
-            }
+        buffers[target] = Buffer {
+            held: held_behind(held, step),
+        };
+        Run {
+            done: done_behind(done, step),
+            way: way_behind(way, step),
+            buffers,
         }
     }
 }

@@ -17,14 +17,15 @@ use Rattle.channel_table.specs.declared.Channel as channel
 use Rattle.channel_table.specs.Table.{channelIn}
 use Rattle.board.specs.Masks.{Standing}
 use Rattle.run.specs.declared.Run.{Run}
-use Rattle.run.specs.declared.step.Step as code
-use Rattle.run.specs.declared.step.StepOrNone.{StepOrNone}
-use Rattle.run.specs.declared.step.StepOrNone.the-variants as maybe
-use Rattle.run.specs.Step.{stepIn, messageIn, stepOrNone, Reaches}
-use Rattle.run.specs.State.{stateOf, Follows}
-use Rattle.schedule.specs.Search.{Chosen}
+use Rattle.step.specs.declared.Step as code
+use Rattle.step.specs.declared.StepOrNone.{StepOrNone}
+use Rattle.step.specs.declared.StepOrNone.the-variants as maybe
+use Rattle.step.specs.Steps.{stepIn, messageIn, stepOrNone}
+use Rattle.run.specs.State.{stateOf, Reaches, Follows}
+use Rattle.run.proofs.States.{reaches}
+use Rattle.next_step.specs.Search.{Chosen}
 use Rattle.schedule.specs.Schedule.{Scheduled}
-use Rattle.schedule.proofs.Searching.{chosen-inside}
+use Rattle.next_step.proofs.Searching.{chosen-inside}
 
 pub two-bytes : (trace : List ℕ) (i k m : ℕ) (s : code.Step) → k ≡ kindOf (stepIn s) → m ≡ messageIn s
     → set (set trace (2 * i) k) (2 * i + 1) m ≡ set (set trace (2 * i) (kindOf (stepIn s))) (2 * i + 1) (messageIn s)
@@ -161,13 +162,7 @@ module _ (count : ℕ) (boards words : List ℕ) (c : channel.Channel) (e : ℕ)
     step-inside = chosen-inside S (channelIn c) (classesFor S e) (stateOf run) (stepIn s) taken
 
     pub step-reaches : (masks : List ℕ) → Standing count boards words masks → Reaches boards s
-    step-reaches masks t =
-        let l : messageIn s < count = step-inside in
-        record {
-          few = omega (arith, t .few);
-          long = omega (arith, t .boardsLong);
-          below = t .boardsBelow (2 * messageIn s + 1) (omega arith);
-        }
+    step-reaches masks t = reaches count boards words masks s t step-inside
 
     pub step-few : (masks : List ℕ) → Standing count boards words masks → messageIn s < messagesMost
     step-few masks t = step-reaches masks t .few

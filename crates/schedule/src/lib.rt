@@ -7,15 +7,13 @@ ghost use Rattle.model.specs.Schedule.{kindOf};
 ghost use Rattle.relation.specs.Scenario.{scenarioIn};
 ghost use Rattle.channel_table.specs.Table.{channelIn};
 ghost use Rattle.board.specs.Masks.{Standing};
-ghost use Rattle.run.specs.Step.{stepIn, messageIn};
+ghost use Rattle.step.specs.Steps.{stepIn, messageIn};
 ghost use Rattle.schedule.specs.Schedule.{Scheduled};
-use crate::search::choose;
 use channel_table::Channel;
+use next_step::choose;
 use run::Run;
-use run::Step;
-use run::StepOrNone;
-
-mod search;
+use step::Step;
+use step::StepOrNone;
 
 // Step i of the trace: its kind and its message.
 fn write_step(trace: &mut [u8], i: usize, step: Step)

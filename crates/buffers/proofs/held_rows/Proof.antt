@@ -9,10 +9,10 @@ use Rattle.buffers.proofs.held_rows.Statement.{statement}
 use Rattle.buffers.proofs.held_rows.Tie as tie
 
 abbrev Inv-loop : tie.InvT-loop
-Inv-loop run rows₀ b₀ rows b = Laid run rows b
+Inv-loop run rows₀ board₀ rows board = Laid run rows board
 
 abbrev μ-loop : tie.MeasureT-loop
-μ-loop run rows₀ b₀ rows b = boards - b
+μ-loop run rows₀ board₀ rows board = boards - board
 
 loop-holds : tie.Need-loop-holds Inv-loop μ-loop
 loop-holds c = laid-start _
@@ -26,8 +26,8 @@ element-copy-out-buffer c = search needs
 join-held-requires : tie.Need-join-held-requires Inv-loop μ-loop
 join-held-requires c κs = search needs
 
-add-b : tie.Need-add-b Inv-loop μ-loop
-add-b c = search needs
+add-board : tie.Need-add-board Inv-loop μ-loop
+add-board c = search needs
 
 loop-less : tie.Need-loop-less Inv-loop μ-loop
 loop-less c = search needs
@@ -52,7 +52,7 @@ held-rows-spec =
     mul-buffer
     element-copy-out-buffer
     join-held-requires
-    add-b
+    add-board
     loop-less
     loop-again
     returns)

@@ -5,7 +5,8 @@ use mathlib.Core.Path.{ap}
 use Prim.Native.Nat.{ℕ, _-_, _^_}
 use native.Mathlib.Omega.{arith}
 use Rattle.relation.specs.Width.{width, wordBits}
-use Rattle.candidates.proofs.Skipped.{Filled, flipped, filled-start, filled-more, flipped-all}
+use Rattle.relation.proofs.Words.{flipped}
+use Rattle.candidates.proofs.Skipped.{Filled, filled-start, filled-more, flipped-all}
 use Rattle.candidates.proofs.undone.Statement.{statement}
 use Rattle.candidates.proofs.undone.Tie as tie
 

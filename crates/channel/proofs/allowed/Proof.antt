@@ -1,6 +1,6 @@
 -- `channel::allowed` meets its contract. Assumes nothing.
 use borrow.Author.Needs.{needs}
-use Rattle.run.specs.declared.step.Step.the-variants.{Send, Deliver, Consume}
+use Rattle.step.specs.declared.Step.the-variants.{Send, Deliver, Consume}
 use Rattle.channel.proofs.StepTests.{inside, step-sends, step-delivers, step-consumes}
 use Rattle.channel.proofs.allowed.Statement.{statement}
 use Rattle.channel.proofs.allowed.Tie as tie

@@ -4,8 +4,8 @@ use Prim.Native.Nat.{_<_}
 use native.Mathlib.Omega.{arith}
 use borrow.Author.Needs.{needs}
 use Rattle.model.specs.Limits.{boards}
-use Rattle.run.proofs.States.{buffers-long, buffer-read}
-use Rattle.channel.proofs.StepTests.{unknown, event-read, board-inside}
+use Rattle.run.proofs.States.{buffers-long, buffer-read, event-below, board-below}
+use Rattle.channel.proofs.StepTests.{known, unknown}
 use Rattle.channel.proofs.allowed_in.Statement.{statement}
 use Rattle.channel.proofs.allowed_in.Tie as tie
 
@@ -19,13 +19,13 @@ event-requires : tie.Need-event-requires
 event-requires c κs = search needs
 
 board-of-requires : tie.Need-board-of-requires
-board-of-requires c κs = search (event-read, needs)
+board-of-requires c κs = search (event-below, known)
 
 mul-buffer : tie.Need-mul-buffer
-mul-buffer c = let there : c .board-of .result < boards = search board-inside in search needs
+mul-buffer c = let there : c .board-of .result < boards = search (board-below, known) in search needs
 
 element-copy-out-buffer : tie.Need-element-copy-out-buffer
-element-copy-out-buffer c = search board-inside
+element-copy-out-buffer c = search (board-below, known)
 
 allowed-requires : tie.Need-allowed-requires
 allowed-requires c κs = search needs
@@ -36,7 +36,7 @@ returns-2 c =
     let e = w .before in
     let s = e .before .before .before .before .before .before in
     let long = buffers-long (s .args .t1) _ (s .good .0) in
-    let there : w .board-of .result < boards = search board-inside in
+    let there : w .board-of .result < boards = search (board-below, known) in
     c .allowed .ensures (s .args .t1) refl refl (buffer-read (s .args .t1) _ _ _ (w .board-of .ensures ∙ rw (e .event .ensures)) (omega arith))
 
 pub allowed-in-spec : {M : Type 1} → statement M

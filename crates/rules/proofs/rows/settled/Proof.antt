@@ -6,8 +6,9 @@ use Prim.Native.Nat.{_+_, _*_, _-_, _≤_}
 use borrow.Author.Needs.{needs}
 use Rattle.model.specs.Bounded.{every}
 use Rattle.relation.specs.Width.{width, wordBits}
+use Rattle.relation.proofs.Words.{flipped}
 use Rattle.rules.specs.Tests.{undone, noneOfRow}
-use Rattle.rules.proofs.Words.{flipped, undone-words, row-more, row-found, row-end}
+use Rattle.rules.proofs.Words.{undone-words, row-more, row-found, row-end}
 use Rattle.rules.proofs.rows.settled.Statement.{statement}
 use Rattle.rules.proofs.rows.settled.Tie as tie
 

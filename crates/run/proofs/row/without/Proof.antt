@@ -4,8 +4,7 @@ use mathlib.Core.Path.{_≡_}
 use native.Mathlib.Omega.{arith}
 use lib.ListN.{length}
 use Rattle.relation.specs.Width.{width}
-use Rattle.relation.proofs.Bits.{mask-power}
-use Rattle.run.proofs.Rows.{without-bit}
+use Rattle.run.proofs.Rows.{without-event}
 use borrow.Author.Needs.{needs}
 use Rattle.run.proofs.row.without.Statement.{statement}
 use Rattle.run.proofs.row.without.Tie as tie
@@ -28,7 +27,7 @@ array-write-rest c = search needs
 returns : tie.Need-returns
 returns c =
     let long : length (c .args .row) ≡ width = c .good .0 .1 .0 .1 in
-    λ k. rw (mask-power (c .args .x)) (without-bit width (c .args .row) (c .args .x) (omega arith) k)
+    without-event width (c .args .row) (c .args .x) (omega arith)
 
 pub without-spec : {M : Type 1} → statement M
 without-spec =

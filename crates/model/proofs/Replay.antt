@@ -8,12 +8,13 @@ use mathlib.Core.Logic.{_⊎_, inl, inr, ⊎-elim, _↔_}
 use mathlib.Core.Bool.{Bool, true, false, not, cond, _&&_}
 use mathlib.Core.List.{List, [], _∷_, _++_}
 use mathlib.Core.Option.{Option, none, some}
-use borrow.Author.Tests.{lt-ltb, ltb-true, le-ltb, le-leb, eq-eqb, eqb-true}
+use borrow.Author.Tests.{lt-ltb, ltb-true, le-ltb, le-leb, leb-true, eq-eqb, eqb-true}
 use lib.Dec.{eqb, leb, ltb}
 use lib.ListN.{length, take, drop, getD, length-append, length-take, take-append-drop}
 use lib.Seq.{take-at, getD-append-add}
-use Rattle.model.specs.Limits.{channels, messagesMost, scratchLeast, traceLeast}
-use Rattle.model.specs.Refusal.{Out, ok, refusal}
+use Rattle.model.specs.Limits.{channels, messagesMost, rowsMost, scratchLeast, traceLeast}
+use Rattle.model.specs.Refusal.{Out, ok, refusal, channelRefusal, benchRefusal, traceRefusal}
+use Rattle.model.specs.Place.{lineOf}
 use Rattle.model.specs.Order.{Scenario}
 use Rattle.model.specs.Channel.{Channel, channelOf}
 use Rattle.model.specs.Run.{State, start, Step, next, allowed, isOrderFrom, noStep, after, finished, stuck, EndsStuck, EndsFinished}
@@ -21,13 +22,14 @@ use Rattle.model.specs.Schedule.{kindOf, messageOfStep, bytesOf, stepTol
 use Rattle.model.specs.Answer.{Answer, locked, sheetOf, acceptedOf, answerFor, answerOf, verdictOf}
 use Rattle.model.specs.Replay.{Replay, finishes, sticks, open′, notAllowed, refused, stepsIn, standing, replayFrom, replay, isTrace, replayable, replayFor, replayOf, ReplayNumbers, replayNumbers, finishedWord, stuckWord, openWord, notAllowedWord, FirstForbidden, EndsOpen, ByTheRules}
 use Rattle.model.proofs.Bounded.{and-left, and-right, and-both, which, not-both}
-use Rattle.model.proofs.Refusal.{cond-ok, cond-refused}
+use Rattle.model.proofs.Refusal.{not-refused, cond-ok, cond-refused}
+use Rattle.model.proofs.Lines.{Well, sheet-well}
 use Rattle.model.proofs.Accepted.{sheet-count}
 use Rattle.model.proofs.Rules.{stuck-unfinished}
 use Rattle.model.proofs.Trace.{bytes-length, told-back, told-is, two-more}
 use Rattle.model.proofs.PointThree.{locked-stuck}
 
-abbrev word : Replay → ℕ
+abbrev pub word : Replay → ℕ
 word v = replayNumbers v .word
 
 module _ (S : Scenario) (c : Channel) where
@@ -220,6 +222,16 @@ module _ (S : Scenario) (c : Channel) where
               notAllowedWhen = λ n. (halted-said j n, λ F. let e : v ≡ notAllowed n = sym i ∙ forbidden-judged n F in (ap word e, ap (λ (w : Replay). replayNumbers w .one) e));
             }
 
+    -- no trace of an accepted sheet is refused
+    unrefused : {C : Type 0} {v : Replay} → Judged v → (number line : ℕ) → v ≡ refused number line → C
+    unrefused (ended ts b h (isFinished f)) number line e = let z : _≡_ {A = ℕ} 0 1 = cc in absurd (omega arith)
+    unrefused (ended ts b h (isStuck f)) number line e = let z : _≡_ {A = ℕ} 0 1 = cc in absurd (omega arith)
+    unrefused (ended ts b h (isOpen f k)) number line e = let z : _≡_ {A = ℕ} 0 1 = cc in absurd (omega arith)
+    unrefused (halted F) number line e = let z : _≡_ {A = ℕ} 0 1 = cc in absurd (omega arith)
+
+    replay-unrefused : {C : Type 0} → length trace % 2 ≡ 0 → (number line : ℕ) → replay S c trace ≡ refused number line → C
+    replay-unrefused even number line e = unrefused (from-parts (parted trace even start)) number line e
+
 -- What the call promises of an accepted sheet, and of the check's own traces.
 module _ (text : List ℕ) (code scratchLength : ℕ) (trace : List ℕ) where
   pub replay-parts : (S : Scenario) → replayable text code scratchLength (length trace) ≡ ok S
@@ -251,3 +263,51 @@ module _ (text : List ℕ) (code scratchLength : ℕ) (trace : List ℕ) where
       let even : length trace % 2 ≡ 0 = omega arith in
       rw (lt-ltb code channels (k .1 .codeKnown), le-ltb scratchLength scratchLeast l, eq-eqb (length trace % 2) 0 even, le-leb (length trace) traceLeast few, k .1 .sheet)
       (order-judged S (channelOf code) trace ts (sym t) (k .2 .isOrder) ∙ stuck-stands S (channelOf code) (after S start ts) (k .2 .isStuck))
+
+-- the two numbers behind the word are small: a refusal's number and its line, or a step's index
+module _ (text : List ℕ) (code scratchLength : ℕ) (trace : List ℕ) where
+  abbrev SmallPair : ReplayNumbers → Type 0
+  SmallPair r = (r .one ≤ traceLeast) × (r .two ≤ lineOf rowsMost)
+
+  refusal-small : (number line : ℕ) → replayable text code scratchLength (length trace) ≡ refusal number line → (number ≤ traceLeast) × (line ≤ lineOf rowsMost)
+  unfolding replayable
+  refusal-small number line e = go (ltb code channels) (ltb scratchLength scratchLeast) (isTrace (length trace)) e
+    where
+      of-sheet : (o : Out Scenario) → Well (lineOf rowsMost) o → o ≡ refusal number line → (number ≤ traceLeast) × (line ≤ lineOf rowsMost)
+      of-sheet (ok S) w i = not-refused (sym i)
+      of-sheet (refusal n l) w i =
+          let a : n ≡ number = cc in
+          let b : l ≡ line = cc in
+          (omega (arith, w .known), omega (arith, w .within))
+
+      fixed : (n : ℕ) → n ≤ traceRefusal → _≡_ {A = Out Scenario} (refusal n 0) (refusal number line) → (number ≤ traceLeast) × (line ≤ lineOf rowsMost)
+      fixed n h i =
+          let a : n ≡ number = cc in
+          let b : 0 ≡ line = cc in
+          (omega arith, omega arith)
+
+      go : (a b d : Bool) → cond a (cond b (refusal benchRefusal 0) (cond d (sheetOf text) (refusal traceRefusal 0))) (refusal channelRefusal 0) ≡ refusal number line
+          → (number ≤ traceLeast) × (line ≤ lineOf rowsMost)
+      go false b d i = fixed channelRefusal (omega arith) i
+      go true true d i = fixed benchRefusal (omega arith) i
+      go true false true i = of-sheet (sheetOf text) (sheet-well text) i
+      go true false false i = fixed traceRefusal (omega arith) i
+
+  pub replay-small : SmallPair (replayNumbers (replayOf text code scratchLength trace))
+  unfolding replayOf replayFor isTrace
+  replay-small = go (replayable text code scratchLength (length trace)) refl
+    where
+      by-verdict : (S : Scenario) → length trace % 2 ≡ 0 → length trace ≤ traceLeast → (v : Replay) → ByTheRules S (channelOf code) trace (replayNumbers v) → replay S (channelOf code) trace ≡ v → SmallPair (replayNumbers v)
+      by-verdict S even l finishes r e = (omega arith, omega arith)
+      by-verdict S even l sticks r e = (omega arith, omega arith)
+      by-verdict S even l open′ r e = (omega arith, omega arith)
+      by-verdict S even l (notAllowed i) r e = (omega (arith, r .notAllowedWhen i .0 (refl, refl) .inside), omega arith)
+      by-verdict S even l (refused number line) r e = replay-unrefused S (channelOf code) trace even number line e
+
+      go : (o : Out Scenario) → replayable text code scratchLength (length trace) ≡ o → SmallPair (replayNumbers (replayFor o code trace))
+      go (refusal number line) e = refusal-small number line e
+      go (ok S) e =
+          let p = replay-parts text code scratchLength trace S e in
+          let fits = and-right (eqb (length trace % 2) 0) (leb (length trace) traceLeast) (p .1) in
+          let even : length trace % 2 ≡ 0 = eqb-true (length trace % 2) 0 (and-left (eqb (length trace % 2) 0) (leb (length trace) traceLeast) (p .1)) in
+          by-verdict S even (leb-true (length trace) traceLeast fits) (replay S (channelOf code) trace) (by-the-rules S (channelOf code) trace even) refl

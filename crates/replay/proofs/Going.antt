@@ -23,8 +23,8 @@ use Rattle.run.specs.declared.Run.{Run}
 use Rattle.step.specs.declared.Step as code
 use Rattle.step.specs.declared.StepOrNone.{StepOrNone}
 use Rattle.step.specs.declared.StepOrNone.the-variants as maybe
-use Rattle.step.specs.Steps.{stepIn, messageIn, stepOrNone, Reaches}
-use Rattle.run.specs.State.{stateOf, Follows}
+use Rattle.step.specs.Steps.{stepIn, messageIn, stepOrNone}
+use Rattle.run.specs.State.{stateOf, Reaches, Follows}
 use Rattle.channel.specs.Steps.{Says}
 use Rattle.replay.specs.declared.Replay.{Replay}
 use Rattle.replay.specs.declared.Replay.the-variants.{NotAllowed}

@@ -1,2 +1,3 @@
-mod AtEnd
 mod Going
+mod Parts
+mod Whole

@@ -1,21 +1,9 @@
--- The verdict on a trace as the model's, and what the parts of the call say of a run. Assumes nothing.
-use mathlib.Core.Path.{_≡_}
-use mathlib.Core.Bool.{Bool, not, _&&_}
-use mathlib.Core.List.{List}
-use Prim.Native.Nat.{ℕ, _+_, _*_}
-use Rattle.model.specs.Bounded.{every}
-use Rattle.model.specs.Run.{send, deliver, consume, allowed}
+-- The verdict on a trace, as the model's, and the numbers that C gets. Assumes nothing.
+use Prim.Native.Nat.{ℕ, _^_, _<_}
 use Rattle.model.specs.Replay as model
-use Rattle.relation.specs.Scenario.{scenarioIn}
-use Rattle.channel_table.specs.declared.Channel.{Channel}
-use Rattle.channel_table.specs.Table.{channelIn}
-use Rattle.run.specs.declared.Run.{Run}
-use Rattle.step.specs.declared.Step.{Step}
-use Rattle.run.specs.State.{inRow, stateOf}
-use Rattle.buffers.specs.Held.{HeldIn}
-use Rattle.channel.specs.Steps.{Says}
 use Rattle.replay.specs.declared.Replay.{Replay}
 use Rattle.replay.specs.declared.Replay.the-variants.{Finished, Stuck, Open, NotAllowed, Refused}
+use Rattle.replay.specs.declared.answer.TraceCheckAnswer.{TraceCheckAnswer}
 
 abbrev pub replayIn : Replay → model.Replay
 replayIn Finished = model.finishes
@@ -24,22 +12,11 @@ replayIn Open = model.open′
 replayIn (NotAllowed i) = model.notAllowed i
 replayIn (Refused number line) = model.refused number line
 
--- the row has the send and the receive of each of the first `count` messages
-abbrev pub allDone : ℕ → List ℕ → Bool
-allDone count done = every count (λ m. inRow done (2 * m) && inRow done (2 * m + 1))
+-- the three numbers handed to C
+abbrev pub numbersIn : TraceCheckAnswer → model.ReplayNumbers
+numbersIn r = record { word = r .word; one = r .one; two = r .two }
 
--- no step on message m is allowed in the run
-abbrev pub stillAt : ℕ → List ℕ → List ℕ → Channel → Run → ℕ → Bool
-stillAt count on words c run m =
-    let may = allowed (scenarioIn count on words) (channelIn c) (stateOf run) in
-    not (may (send m)) && not (may (deliver m)) && not (may (consume m))
-
--- of every run with these events done, these messages under way and these buffers in rows: whether the step is allowed
-abbrev pub SaysIn : ℕ → List ℕ → List ℕ → Channel → List ℕ → List ℕ → List ℕ → Step → Bool → Type 0
-SaysIn count on words c done way rows step r =
-    (run : Run) → run .done ≡ done → run .way ≡ way → HeldIn run rows → Says count on words c run step r
-
--- and whether no step on message m is
-abbrev pub SaysStill : ℕ → List ℕ → List ℕ → Channel → List ℕ → List ℕ → List ℕ → ℕ → Bool → Type 0
-SaysStill count on words c done way rows m r =
-    (run : Run) → run .done ≡ done → run .way ≡ way → HeldIn run rows → r ≡ stillAt count on words c run m
+-- the numbers behind the word fit 32 bits
+pub record Small (r : model.ReplayNumbers) : Type 0 where
+  pub one : r .one < 2 ^ 32
+  pub two : r .two < 2 ^ 32

@@ -10,14 +10,17 @@ ghost use Rattle.relation.specs.Width.{width};
 ghost use Rattle.relation.specs.Scenario.{scenarioIn};
 ghost use Rattle.channel_table.specs.Table.{channelIn};
 ghost use Rattle.board.specs.Masks.{Standing};
-ghost use Rattle.replay.specs.Bridge.{replayIn};
+ghost use Rattle.standing.specs.Bridge.{standIn};
+ghost use Rattle.replay.specs.Bridge.{replayIn, numbersIn};
+use crate::answer::TraceCheckAnswer;
 use channel_table::Channel;
 use expansion::Expanded;
 use run::Run;
+use standing::Stand;
 use step::Step;
 use step::StepOrNone;
 
-mod standing;
+mod answer;
 
 // The verdict: finished, stuck or open; the index, from 0, of the first step that is not allowed; or refused, with number and line.
 pub enum Replay {
@@ -33,6 +36,17 @@ fn wide(byte: u8) -> usize
     ensures { λ r. ⌜ r ≡ byte ⌝ }
 {
     byte as usize
+}
+
+// The verdict on a trace that is at its end.
+fn stood(stand: Stand) -> Replay
+    ensures { λ r. ⌜ replayIn r ≡ standIn stand ⌝ }
+{
+    match stand {
+        Stand::Finished => Replay::Finished,
+        Stand::Stuck => Replay::Stuck,
+        Stand::Open => Replay::Open,
+    }
 }
 
 // The steps of a trace, two bytes each, from the start on.
@@ -61,7 +75,7 @@ fn take_steps(
         }
         run = run.next(boards, step);
     }
-    standing::standing(run, words, masks, boards, count, c)
+    stood(standing::stand_of(run, words, masks, boards, count, c))
 }
 
 // A text's scenario, in the words of the relation, and the verdict on the trace.
@@ -83,8 +97,8 @@ fn judge(text: &[u8], code: usize, words: &mut [u64], trace: &[u8]) -> Replay
     }
 }
 
-// The call: refusals 1 and 2 touch nothing; behind every other verdict the scratch is cleared.
-pub fn judge_trace(text: &[u8], code: u32, scratch: &mut [u64], trace: &[u8]) -> Replay
+// Refusals 1 and 2 touch nothing; behind every other verdict the scratch is cleared.
+fn judge_trace(text: &[u8], code: u32, scratch: &mut [u64], trace: &[u8]) -> Replay
     ensures { λ r. ⌜ Replayed (now (text .entry)) code (now (scratch .entry)) (now (scratch .exit)) (now (trace .entry)) (replayNumbers (replayIn r)) ⌝ }
 {
     let channel = code as usize;
@@ -102,4 +116,11 @@ pub fn judge_trace(text: &[u8], code: u32, scratch: &mut [u64], trace: &[u8]) ->
     let verdict = judge(text, channel, &mut scratch[..end], trace);
     relation::clear(scratch, model::SCRATCH_LEAST);
     verdict
+}
+
+// The call, with the verdict's numbers for C.
+pub fn trace_check(text: &[u8], code: u32, scratch: &mut [u64], trace: &[u8]) -> TraceCheckAnswer
+    ensures { λ r. ⌜ Replayed (now (text .entry)) code (now (scratch .entry)) (now (scratch .exit)) (now (trace .entry)) (numbersIn r) ⌝ }
+{
+    answer::numbers(judge_trace(text, code, scratch, trace))
 }

@@ -1,8 +1,8 @@
--- `replay::standing::may_step` meets its contract. Assumes nothing.
-use Rattle.replay.proofs.AtEnd.{event-there, board-there, by-buffer}
+-- `standing::may_step` meets its contract. Assumes nothing.
+use Rattle.standing.proofs.AtEnd.{event-there, board-there, by-buffer}
 use borrow.Author.Needs.{needs}
-use Rattle.replay.proofs.standing.may_step.Statement.{statement}
-use Rattle.replay.proofs.standing.may_step.Tie as tie
+use Rattle.standing.proofs.may_step.Statement.{statement}
+use Rattle.standing.proofs.may_step.Tie as tie
 
 event-requires : tie.Need-event-requires
 event-requires c κs = search needs

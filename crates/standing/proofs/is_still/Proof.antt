@@ -1,9 +1,9 @@
--- `replay::standing::is_still` meets its contract. Assumes nothing.
+-- `standing::is_still` meets its contract. Assumes nothing.
 use Prim.Native.Nat.{_-_}
-use Rattle.replay.proofs.AtEnd.{Stilled, stilled-starts, still-moves, still-stands, all-still}
+use Rattle.standing.proofs.AtEnd.{Stilled, stilled-starts, still-moves, still-stands, all-still}
 use borrow.Author.Needs.{needs}
-use Rattle.replay.proofs.standing.is_still.Statement.{statement}
-use Rattle.replay.proofs.standing.is_still.Tie as tie
+use Rattle.standing.proofs.is_still.Statement.{statement}
+use Rattle.standing.proofs.is_still.Tie as tie
 
 abbrev Inv-loop : tie.InvT-loop
 Inv-loop words masks boards count c done way rows m₀ m = Stilled count boards words c done way rows m

@@ -1,8 +1,8 @@
--- `replay::standing::is_held_up` meets its contract. Assumes nothing.
-use Rattle.replay.proofs.AtEnd.{may-send, may-deliver, may-consume}
+-- `standing::is_held_up` meets its contract. Assumes nothing.
+use Rattle.standing.proofs.AtEnd.{may-send, may-deliver, may-consume}
 use borrow.Author.Needs.{needs}
-use Rattle.replay.proofs.standing.is_held_up.Statement.{statement}
-use Rattle.replay.proofs.standing.is_held_up.Tie as tie
+use Rattle.standing.proofs.is_held_up.Statement.{statement}
+use Rattle.standing.proofs.is_held_up.Tie as tie
 
 may-step-requires : tie.Need-may-step-requires
 may-step-requires c κs = search needs

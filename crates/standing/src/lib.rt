@@ -3,20 +3,26 @@ ghost use mathlib.Core.Path.{_≡_};
 ghost use Prim.Native.Nat.{_<_, _≤_};
 ghost use Rattle.model.specs.Limits.{messagesMost};
 ghost use Rattle.model.specs.Run.{noStep};
-ghost use Rattle.model.specs.Replay as model;
+ghost use Rattle.model.specs.Replay.{standing};
 ghost use Rattle.relation.specs.Scenario.{scenarioIn};
 ghost use Rattle.channel_table.specs.Table.{channelIn};
 ghost use Rattle.board.specs.Masks.{Standing};
 ghost use Rattle.run.specs.State.{stateOf};
 ghost use Rattle.step.specs.Steps.{messageIn};
-ghost use Rattle.replay.specs.Bridge.{replayIn, allDone, SaysIn, SaysStill};
-use crate::Replay;
+ghost use Rattle.standing.specs.Bridge.{standIn, allDone, SaysIn, SaysStill};
 use board::board_of;
 use buffers::HELD_WORDS;
 use channel_table::Channel;
 use relation::WIDTH;
 use run::Run;
 use step::Step;
+
+// All events done; no step allowed, and not all done; or a step allowed.
+pub enum Stand {
+    Finished,
+    Stuck,
+    Open,
+}
 
 // All events are done.
 fn is_finished(done: &[u64; WIDTH], count: usize) -> bool
@@ -129,23 +135,23 @@ fn is_still(run: Run, words: &[u64], masks: &[u64], boards: &[u8], count: usize,
     true
 }
 
-// The verdict on a trace that is at its end.
-pub fn standing(
+// Where the run stands.
+pub fn stand_of(
     run: Run,
     words: &[u64],
     masks: &[u64],
     boards: &[u8],
     count: usize,
     c: Channel,
-) -> Replay
+) -> Stand
     requires { ⌜ Standing count (now boards) (now words) (now masks) ⌝ }
-    ensures { λ r. ⌜ replayIn r ≡ model.standing (scenarioIn count (now (boards .entry)) (now (words .entry))) (channelIn c) (stateOf run) ⌝ }
+    ensures { λ r. ⌜ standIn r ≡ standing (scenarioIn count (now (boards .entry)) (now (words .entry))) (channelIn c) (stateOf run) ⌝ }
 {
     if is_finished(&run.done, count) {
-        return Replay::Finished;
+        return Stand::Finished;
     }
     if is_still(run, words, masks, boards, count, c) {
-        return Replay::Stuck;
+        return Stand::Stuck;
     }
-    Replay::Open
+    Stand::Open
 }

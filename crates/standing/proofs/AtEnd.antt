@@ -10,7 +10,7 @@ use lib.ListN.{length, getD}
 use Rattle.model.specs.Bounded.{every}
 use Rattle.model.specs.Run.{send, deliver, consume, allowed, noStep, finished, everyEvent, stuck}
 use Rattle.model.specs.Order.{number}
-use Rattle.model.specs.Replay as model
+use Rattle.model.specs.Replay.{standing}
 use Rattle.model.proofs.Bounded.{and-both, every-fails, not-both}
 use Rattle.relation.specs.Width.{width}
 use Rattle.relation.specs.Rows.{holds}
@@ -28,8 +28,8 @@ use Rattle.step.proofs.Steps.{event-inside}
 use Rattle.run.specs.State.{inRow, bufferOf, stateOf}
 use Rattle.buffers.specs.Held.{HeldIn}
 use Rattle.channel.specs.Steps.{SaysStep}
-use Rattle.replay.specs.Bridge.{replayIn, allDone, stillAt, SaysIn, SaysStill}
-use Rattle.replay.specs.declared.Replay.the-variants.{Finished, Stuck, Open}
+use Rattle.standing.specs.Bridge.{standIn, allDone, stillAt, SaysIn, SaysStill}
+use Rattle.standing.specs.declared.Stand.the-variants.{Finished, Stuck, Open}
 
 -- so far every number passes
 pub record Passing (count : ℕ) (p : ℕ → Bool) (i : ℕ) : Type 0 where
@@ -143,15 +143,15 @@ module _ (count : ℕ) (on words : List ℕ) (c : Channel) (run : Run) where
   unfolding finished everyEvent number
   finished-by b h = sym h
 
-  pub stands-finished : (b : Bool) → b ≡ true → b ≡ allDone count (run .done) → replayIn Finished ≡ model.standing (scenarioIn count on words) (channelIn c) (stateOf run)
-  unfolding model.standing
+  pub stands-finished : (b : Bool) → b ≡ true → b ≡ allDone count (run .done) → standIn Finished ≡ standing (scenarioIn count on words) (channelIn c) (stateOf run)
+  unfolding standing
   stands-finished b t h = rw (finished-by b h, t)
 
   module _ (b k : Bool) (f : b ≡ false) (h : b ≡ allDone count (run .done)) (i : k ≡ noStep (scenarioIn count on words) (channelIn c) (stateOf run)) where
-    pub stands-stuck : k ≡ true → replayIn Stuck ≡ model.standing (scenarioIn count on words) (channelIn c) (stateOf run)
-    unfolding model.standing stuck
+    pub stands-stuck : k ≡ true → standIn Stuck ≡ standing (scenarioIn count on words) (channelIn c) (stateOf run)
+    unfolding standing stuck
     stands-stuck t = rw (finished-by b h, f, ← i, t)
 
-    pub stands-open : k ≡ false → replayIn Open ≡ model.standing (scenarioIn count on words) (channelIn c) (stateOf run)
-    unfolding model.standing stuck
+    pub stands-open : k ≡ false → standIn Open ≡ standing (scenarioIn count on words) (channelIn c) (stateOf run)
+    unfolding standing stuck
     stands-open t = rw (finished-by b h, f, ← i, t)

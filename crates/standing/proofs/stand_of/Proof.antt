@@ -1,8 +1,8 @@
--- `replay::standing::standing` meets its contract. Assumes nothing.
-use Rattle.replay.proofs.AtEnd.{stands-finished, stands-stuck, stands-open}
+-- `standing::stand_of` meets its contract. Assumes nothing.
+use Rattle.standing.proofs.AtEnd.{stands-finished, stands-stuck, stands-open}
 use borrow.Author.Needs.{needs}
-use Rattle.replay.proofs.standing.standing.Statement.{statement}
-use Rattle.replay.proofs.standing.standing.Tie as tie
+use Rattle.standing.proofs.stand_of.Statement.{statement}
+use Rattle.standing.proofs.stand_of.Tie as tie
 
 is-finished-requires : tie.Need-is-finished-requires
 is-finished-requires c κs = search needs
@@ -19,6 +19,6 @@ returns-2 c = search stands-stuck
 returns-3 : tie.Need-returns-3
 returns-3 c = search stands-open
 
-pub standing-spec : {M : Type 1} → statement M
-standing-spec =
+pub stand-of-spec : {M : Type 1} → statement M
+stand-of-spec =
     tie.close (tie.spec is-finished-requires returns is-still-requires returns-2 returns-3)

@@ -1,9 +1,9 @@
--- `replay::standing::is_finished` meets its contract. Assumes nothing.
+-- `standing::is_finished` meets its contract. Assumes nothing.
 use Prim.Native.Nat.{_-_}
-use Rattle.replay.proofs.AtEnd.{Finishing, finishing-starts, send-undone, receive-undone, both-done, all-done}
+use Rattle.standing.proofs.AtEnd.{Finishing, finishing-starts, send-undone, receive-undone, both-done, all-done}
 use borrow.Author.Needs.{needs}
-use Rattle.replay.proofs.standing.is_finished.Statement.{statement}
-use Rattle.replay.proofs.standing.is_finished.Tie as tie
+use Rattle.standing.proofs.is_finished.Statement.{statement}
+use Rattle.standing.proofs.is_finished.Tie as tie
 
 abbrev Inv-loop : tie.InvT-loop
 Inv-loop done count m₀ m = Finishing done count m

@@ -26,6 +26,8 @@ use Rattle.step.specs.declared.StepOrNone.the-variants as maybe
 use Rattle.step.specs.Steps.{stepIn, messageIn, stepOrNone}
 use Rattle.run.specs.State.{stateOf, Reaches, Follows}
 use Rattle.channel.specs.Steps.{Says}
+use Rattle.standing.specs.declared.Stand.{Stand}
+use Rattle.standing.specs.Bridge.{standIn}
 use Rattle.replay.specs.declared.Replay.{Replay}
 use Rattle.replay.specs.declared.Replay.the-variants.{NotAllowed}
 use Rattle.replay.specs.Bridge.{replayIn}
@@ -60,12 +62,12 @@ module _ (count : ℕ) (on words : List ℕ) (c : Channel) (trace : List ℕ) wh
   going-starts run e h =
       record { whole = refl; even = e .0; within = omega arith; few = e .1; rest = ap (λ s. replayFrom S (channelIn c) 0 s (stepsIn trace)) (sym h) }
 
-  pub steps-end : (end : ℕ) (run : Run) (i : ℕ) (r : Replay) → Going end run i → end ≤ i → replayIn r ≡ standing S (channelIn c) (stateOf run)
-      → replayIn r ≡ replay S (channelIn c) trace
+  pub steps-end : (end : ℕ) (run : Run) (i : ℕ) (d : Stand) (r : Replay) → Going end run i → end ≤ i → replayIn r ≡ standIn d
+      → standIn d ≡ standing S (channelIn c) (stateOf run) → replayIn r ≡ replay S (channelIn c) trace
   unfolding replayFrom stepsIn
-  steps-end end run i r G l h =
+  steps-end end run i d r G l k h =
       let none-left : drop (2 * i) trace ≡ [] = drop-of-length-le trace {i = 2 * i} (omega (arith, G .whole, G .within, G .even)) in
-      h ∙ sym (G .rest ∙ ap (λ t. replayFrom S (channelIn c) i (stateOf run) (stepsIn t)) none-left)
+      k ∙ h ∙ sym (G .rest ∙ ap (λ t. replayFrom S (channelIn c) i (stateOf run) (stepsIn t)) none-left)
 
   module _ (end : ℕ) (run : Run) (i kind m : ℕ) (told : StepOrNone) (G : Going end run i) (l : i < end)
       (tells : stepOrNone told ≡ stepTold kind m) (k : kind ≡ getD trace (2 * i) 0) (n : m ≡ getD trace (2 * i + 1) 0) where

@@ -58,5 +58,18 @@ module _ (a : Replay) where
   pub small-line : (number line : ℕ) → a ≡ Refused number line → Small (replayNumbers (replayIn a)) → line < 2 ^ 32
   small-line number line e s = subst (λ (b : Replay). Small (replayNumbers (replayIn b))) e s .two
 
-  pub numbers-of : (b : Replay) → a ≡ b → replayNumbers (replayIn b) ≡ replayNumbers (replayIn a)
-  numbers-of b e = ap (λ (r : Replay). replayNumbers (replayIn r)) (sym e)
+  pub finished-numbers : a ≡ Finished → _≡_ {A = ReplayNumbers} (record { word = 0; one = 0; two = 0 }) (replayNumbers (replayIn a))
+  finished-numbers i = ap (λ (r : Replay). replayNumbers (replayIn r)) (sym i)
+
+  pub stuck-numbers : a ≡ Stuck → _≡_ {A = ReplayNumbers} (record { word = 1; one = 0; two = 0 }) (replayNumbers (replayIn a))
+  stuck-numbers i = ap (λ (r : Replay). replayNumbers (replayIn r)) (sym i)
+
+  pub open-numbers : a ≡ Open → _≡_ {A = ReplayNumbers} (record { word = 2; one = 0; two = 0 }) (replayNumbers (replayIn a))
+  open-numbers i = ap (λ (r : Replay). replayNumbers (replayIn r)) (sym i)
+
+  pub not-allowed-numbers : (n : ℕ) → a ≡ NotAllowed n → _≡_ {A = ReplayNumbers} (record { word = 3; one = n; two = 0 }) (replayNumbers (replayIn a))
+  not-allowed-numbers n i = ap (λ (r : Replay). replayNumbers (replayIn r)) (sym i)
+
+  pub refused-numbers : (number line : ℕ) → a ≡ Refused number line
+      → _≡_ {A = ReplayNumbers} (record { word = 4; one = number; two = line }) (replayNumbers (replayIn a))
+  refused-numbers number line i = ap (λ (r : Replay). replayNumbers (replayIn r)) (sym i)

@@ -1,22 +1,20 @@
 -- The whole promise, from what the parts of the call hand on. Assumes nothing.
 use mathlib.Core.Path.{_≡_, refl, sym, _∙_, ap, subst⁻¹}
-use mathlib.Core.Logic.{_⊎_, inl, inr}
-use mathlib.Core.Bool.{Bool, true, false, cond, _&&_}
+use mathlib.Core.Bool.{Bool, true, false, not, _&&_}
 use mathlib.Core.List.{List, _++_}
-use Prim.Native.Nat.{ℕ, _*_, _%_, _^_, _<_, _≤_}
+use Prim.Native.Nat.{ℕ, _%_, _<_, _≤_}
 use native.Mathlib.Omega.{arith}
-use borrow.Author.Tests.{lt-ltb, le-ltb, le-leb, lt-leb, eq-eqb, ne-eqb}
-use lib.Dec.{eqb, leb, ltb}
+use borrow.Author.Tests.{lt-ltb, le-ltb, le-leb, leb-true, eq-eqb, eqb-true, ne-eqb, not-true, not-false}
+use lib.Dec.{eqb, leb}
 use lib.ListN.{length, drop}
-use Rattle.model.specs.Limits.{channels, rowsMost, scratchLeast, traceLeast}
-use Rattle.model.specs.Refusal.{Out, ok, refusal, channelRefusal, benchRefusal, traceRefusal}
-use Rattle.model.specs.Place.{lineOf}
+use Rattle.model.specs.Limits.{channels, scratchLeast, traceLeast}
+use Rattle.model.specs.Refusal.{Out, refusal, channelRefusal, benchRefusal, traceRefusal}
 use Rattle.model.specs.Order.{Scenario}
-use Rattle.model.specs.Channel.{Channel, channelOf}
+use Rattle.model.specs.Channel.{channelOf}
 use Rattle.model.specs.Answer.{sheetOf, scratchBehind}
-use Rattle.model.specs.Replay.{ReplayNumbers, replayNumbers, isTrace, replay, replayable, replayFor, replayOf, ByTheRules, Replayed}
+use Rattle.model.specs.Replay.{ReplayNumbers, replayNumbers, isTrace, replayable, replayFor, replayOf, ByTheRules, Replayed}
+use Rattle.model.proofs.Bounded.{and-left, and-right}
 use Rattle.model.proofs.Accepted.{sheet-meets}
-use Rattle.model.proofs.Lines.{Well, sheet-well}
 use Rattle.model.proofs.Replay.{word, replay-parts, replay-by-the-rules, schedules-stick, replay-small}
 use Rattle.relation.specs.Rows.{cleared}
 use Rattle.scenario.proofs.Laws.{scratch-behind}
@@ -41,6 +39,22 @@ replayed-from text code scratch scratchExit trace r o e i s =
           subst⁻¹ (λ (q : ReplayNumbers). q .word ≡ 1) said (ap word (schedules-stick text code (length scratch) trace m n a x ts h t l));
     }
 
+-- the test of a trace's length
+pub even-test : (n : ℕ) → (n % 2 ≡ 0 → ⊥) → false ≡ isTrace n
+unfolding isTrace
+even-test n odd = sym (rw (ne-eqb (n % 2) 0 odd))
+
+pub most-test : (n : ℕ) → n % 2 ≡ 0 → leb n traceLeast ≡ isTrace n
+unfolding isTrace
+most-test n even = sym (rw (eq-eqb (n % 2) 0 even))
+
+-- a trace that passed has an even length, within the limit
+pub trace-fits : (n : ℕ) (t : Bool) → not t ≡ false → t ≡ isTrace n → (n % 2 ≡ 0) × (n ≤ traceLeast)
+unfolding isTrace
+trace-fits n t f i =
+    let both : (eqb (n % 2) 0 && leb n traceLeast) ≡ true = sym i ∙ not-false t f in
+    (eqb-true (n % 2) 0 (and-left (eqb (n % 2) 0) (leb n traceLeast) both), leb-true n traceLeast (and-right (eqb (n % 2) 0) (leb n traceLeast) both))
+
 -- What each return of `judge_trace` is to show.
 module _ (text : List ℕ) (code : ℕ) (scratch trace : List ℕ) where
   untouched : (number : ℕ) → number ≤ benchRefusal → replayable text code (length scratch) (length trace) ≡ refusal number 0
@@ -57,29 +71,20 @@ module _ (text : List ℕ) (code : ℕ) (scratch trace : List ℕ) where
   unfolding replayable
   refuses-scratch h l = untouched benchRefusal (omega arith) (rw (lt-ltb code channels h, lt-ltb (length scratch) scratchLeast l))
 
-  no-trace : (length trace % 2 ≡ 0 → ⊥) ⊎ (traceLeast < length trace) → isTrace (length trace) ≡ false
-  unfolding isTrace
-  no-trace (inl odd) = rw (ne-eqb (length trace % 2) 0 odd)
-  no-trace (inr long) = rw (lt-leb (length trace) traceLeast long) (falls (eqb (length trace % 2) 0))
-    where
-      falls : (b : Bool) → (b && false) ≡ false
-      falls true = refl
-      falls false = refl
-
-  pub refuses-trace : (scratchExit : List ℕ) → (length trace % 2 ≡ 0 → ⊥) ⊎ (traceLeast < length trace) → code < channels → scratchLeast ≤ length scratch
+  pub refuses-trace : (t : Bool) (scratchExit : List ℕ) → not t ≡ true → t ≡ isTrace (length trace) → code < channels → scratchLeast ≤ length scratch
       → scratchExit ≡ cleared scratchLeast scratch → Replayed text code scratch scratchExit trace (record { word = 4; one = traceRefusal; two = 0 })
   unfolding replayable replayFor scratchBehind cleared
-  refuses-trace scratchExit odd h l s =
+  refuses-trace t scratchExit f i h l s =
       replayed-from text code scratch scratchExit trace _ (refusal traceRefusal 0)
-      (rw (lt-ltb code channels h, le-ltb (length scratch) scratchLeast l, no-trace odd)) refl s
+      (rw (lt-ltb code channels h, le-ltb (length scratch) scratchLeast l, ← i, not-true t f)) refl s
 
-  pub replays : (scratchExit used : List ℕ) (n : ℕ) (r : Replay) → code < channels → scratchLeast ≤ length scratch → length trace % 2 ≡ 0 → length trace ≤ traceLeast
+  pub replays : (t : Bool) (scratchExit used : List ℕ) (n : ℕ) (r : Replay) → not t ≡ false → t ≡ isTrace (length trace) → code < channels → scratchLeast ≤ length scratch
       → length used ≡ n → n ≤ scratchLeast → scratchExit ≡ cleared scratchLeast (used ++ drop n scratch) → replayIn r ≡ replayFor (sheetOf text) code trace
       → Replayed text code scratch scratchExit trace (replayNumbers (replayIn r))
-  unfolding replayable isTrace
-  replays scratchExit used n r h l even few e m s d =
+  unfolding replayable
+  replays t scratchExit used n r f i h l e m s d =
       replayed-from text code scratch scratchExit trace (replayNumbers (replayIn r)) (sheetOf text)
-      (rw (lt-ltb code channels h, le-ltb (length scratch) scratchLeast l, eq-eqb (length trace % 2) 0 even, le-leb (length trace) traceLeast few))
+      (rw (lt-ltb code channels h, le-ltb (length scratch) scratchLeast l, ← i, not-false t f))
       (ap replayNumbers d) (s ∙ scratch-behind text scratch used n e m)
 
 -- the verdict's numbers are small, and handing them on keeps the promise

@@ -4,7 +4,7 @@ ghost use Prim.Native.Nat.{_*_, _%_, _<_, _≤_};
 ghost use lib.ListN.{length};
 ghost use Rattle.model.specs.Limits.{channels, messagesMost, traceLeast};
 ghost use Rattle.model.specs.Answer.{sheetOf};
-ghost use Rattle.model.specs.Replay.{replayNumbers, replayFor, Replayed};
+ghost use Rattle.model.specs.Replay.{replayNumbers, isTrace, replayFor, Replayed};
 ghost use Rattle.model.specs.Replay as model;
 ghost use Rattle.relation.specs.Width.{width};
 ghost use Rattle.relation.specs.Scenario.{scenarioIn};
@@ -97,6 +97,16 @@ fn judge(text: &[u8], code: usize, words: &mut [u64], trace: &[u8]) -> Replay
     }
 }
 
+// A trace has an even length, of two bytes for each of three steps a message at most.
+fn is_trace(length: usize) -> bool
+    ensures { λ r. ⌜ r ≡ isTrace length ⌝ }
+{
+    if length % 2 != 0 {
+        return false;
+    }
+    length <= model::TRACE_LEAST
+}
+
 // Refusals 1 and 2 touch nothing; behind every other verdict the scratch is cleared.
 fn judge_trace(text: &[u8], code: u32, scratch: &mut [u64], trace: &[u8]) -> Replay
     ensures { λ r. ⌜ Replayed (now (text .entry)) code (now (scratch .entry)) (now (scratch .exit)) (now (trace .entry)) (replayNumbers (replayIn r)) ⌝ }
@@ -108,7 +118,7 @@ fn judge_trace(text: &[u8], code: u32, scratch: &mut [u64], trace: &[u8]) -> Rep
     if scratch.len() < model::SCRATCH_LEAST {
         return Replay::Refused(model::BENCH, 0);
     }
-    if trace.len() % 2 != 0 || model::TRACE_LEAST < trace.len() {
+    if !is_trace(trace.len()) {
         relation::clear(scratch, model::SCRATCH_LEAST);
         return Replay::Refused(model::TRACE, 0);
     }

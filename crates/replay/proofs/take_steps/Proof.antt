@@ -68,8 +68,11 @@ loop-less c = search needs
 loop-again : tie.Need-loop-again Inv-loop μ-loop
 loop-again c = search going-on
 
-standing-requires : tie.Need-standing-requires Inv-loop μ-loop
-standing-requires c κs = search needs
+stand-of-requires : tie.Need-stand-of-requires Inv-loop μ-loop
+stand-of-requires c κs = search needs
+
+stood-requires : tie.Need-stood-requires Inv-loop μ-loop
+stood-requires c κs = search needs
 
 returns-3 : tie.Need-returns-3 Inv-loop μ-loop
 returns-3 c = search steps-end
@@ -98,5 +101,6 @@ take-steps-spec =
     add-i
     loop-less
     loop-again
-    standing-requires
+    stand-of-requires
+    stood-requires
     returns-3)

@@ -1,26 +1,20 @@
+-- `replay::trace_check` meets its contract: the numbers are those of the verdict. Assumes nothing.
+use Rattle.replay.proofs.Whole.{small-replayed, same-numbers}
 use borrow.Author.Needs.{needs}
 use Rattle.replay.proofs.trace_check.Statement.{statement}
 use Rattle.replay.proofs.trace_check.Tie as tie
-use Rattle.replay.proofs.trace_check.Reads as reads
-use Rattle.replay.proofs.trace_check.Lts as lts
-use Rattle.replay.proofs.answer.numbers.Reads as numbers-reads
-use Rattle.replay.proofs.judge_trace.Reads as judge-trace-reads
 
--- src/lib.rt:125:21
 judge-trace-requires : tie.Need-judge-trace-requires
 judge-trace-requires c κs = search needs
 
--- src/lib.rt:125:5
 numbers-requires : tie.Need-numbers-requires
-numbers-requires c κs = ?
+numbers-requires c κs = search small-replayed
 
--- src/lib.rt:122:1
 same-length : tie.Need-same-length
 same-length c = search needs
 
--- src/lib.rt:122:1
 returns : tie.Need-returns
-returns c = ?
+returns c = search same-numbers
 
 pub trace-check-spec : {M : Type 1} → statement M
 trace-check-spec = tie.close (tie.spec judge-trace-requires numbers-requires same-length returns)

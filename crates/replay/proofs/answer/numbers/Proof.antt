@@ -1,60 +1,50 @@
+-- `replay::answer::numbers` meets its contract, verdict by verdict. Assumes nothing.
+use native.Mathlib.Omega.{arith}
+use Rattle.replay.proofs.Parts.{small-index, small-line, finished-numbers, stuck-numbers, open-numbers, not-allowed-numbers, refused-numbers}
 use borrow.Author.Needs.{needs}
 use Rattle.replay.proofs.answer.numbers.Statement.{statement}
 use Rattle.replay.proofs.answer.numbers.Tie as tie
-use Rattle.replay.proofs.answer.numbers.Reads as reads
-use Rattle.replay.proofs.answer.numbers.Lts as lts
 
--- src/answer.rt:21:29
 enum-told : tie.Need-enum-told
 enum-told c = search needs
 
--- src/answer.rt:26:26
 enum-told-2 : tie.Need-enum-told-2
 enum-told-2 c = search needs
 
--- src/answer.rt:31:25
 enum-told-3 : tie.Need-enum-told-3
 enum-told-3 c = search needs
 
--- src/answer.rt:36:28
 enum-known-verdict : tie.Need-enum-known-verdict
 enum-known-verdict c = search needs
 
--- src/answer.rt:38:18
 cast-t6 : tie.Need-cast-t6
-cast-t6 c = ?
+cast-t6 c =
+    omega (arith, small-index (c .before .before .before .args .verdict) _ (c .before .verdict .given .1) (c .before .before .before .pre))
 
--- src/answer.rt:41:25
 enum-known-verdict-2 : tie.Need-enum-known-verdict-2
 enum-known-verdict-2 c = search needs
 
--- src/answer.rt:44:22
 cast-t7 : tie.Need-cast-t7
 cast-t7 c = search needs
 
--- src/answer.rt:45:22
 cast-t8 : tie.Need-cast-t8
-cast-t8 c = ?
+cast-t8 c =
+    omega (arith, small-line (c .before .before .before .args .verdict) _ _ (c .before .verdict2 .given .1) (c .before .before .before .pre))
 
--- src/answer.rt:16:1
 returns : tie.Need-returns
-returns c = ?
+returns c = search finished-numbers
 
--- src/answer.rt:16:1
 returns-2 : tie.Need-returns-2
-returns-2 c = ?
+returns-2 c = search stuck-numbers
 
--- src/answer.rt:16:1
 returns-3 : tie.Need-returns-3
-returns-3 c = ?
+returns-3 c = search open-numbers
 
--- src/answer.rt:16:1
 returns-4 : tie.Need-returns-4
-returns-4 c = ?
+returns-4 c = search not-allowed-numbers
 
--- src/answer.rt:16:1
 returns-5 : tie.Need-returns-5
-returns-5 c = ?
+returns-5 c = search refused-numbers
 
 pub numbers-spec : {M : Type 1} → statement M
 numbers-spec =

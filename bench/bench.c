@@ -42,6 +42,30 @@ static void dense(int n) {
     for (int m = 0; m + 2 < n; m++) line("P", 2 * m, 2 * m + 4);
 }
 
+/* The chain, with each of its P rows given twice. */
+static void chain_twice(int n) {
+    chain(n);
+    for (int m = 1; m < n; m++) line("P", 2 * m - 1, 2 * m);
+}
+
+/* Calls of a sheet with one message and 376 P rows, all of one order: as many calls as there may be messages. */
+static void order_rows(int n) {
+    begin();
+    for (int i = 0; i < n; i++) line("C", 1, 0);
+    line("S", 1, 0);
+    line("M", 3, 3);
+    for (int i = 0; i < 376; i++) line("P", 0, 1);
+}
+
+/* Case 2 of the paper: a small sheet; n is not used. */
+static void case_2(int n) {
+    (void)n;
+    begin();
+    line("M", 0, 1);
+    line("M", 2, 1);
+    line("P", 1, 3);
+}
+
 /* 1,024 calls of empty sheets; n is not used. */
 static void calls(int n) {
     (void)n;
@@ -93,6 +117,7 @@ static void streams(int n) {
 
 static const struct { const char *name; void (*make)(int); } sheets[] = {
     {"longest-trace", longest_trace}, {"chain", chain}, {"dense", dense}, {"calls", calls}, {"blocks", blocks}, {"refused", refused},
+    {"chain-twice", chain_twice}, {"order-rows", order_rows}, {"case-2", case_2},
     {"early-race", early_race}, {"streams", streams},
 };
 

@@ -11,6 +11,9 @@ typedef struct { uint32_t number, line; } refusal; /* number 0: none */
 
 static inline int test(const uint64_t *words, size_t y, size_t x) { return words[y * W + x / 64] >> (x % 64) & 1; }
 static inline void mark(uint64_t *words, size_t y, size_t x) { words[y * W + x / 64] |= UINT64_C(1) << (x % 64); }
+static inline void copy(uint64_t *words, size_t to, const uint64_t *other, size_t from) {
+    for (size_t i = 0; i < W; i++) words[to * W + i] = other[from * W + i];
+}
 static inline void join(uint64_t *words, size_t to, const uint64_t *other, size_t from) {
     for (size_t i = 0; i < W; i++) words[to * W + i] |= other[from * W + i];
 }
@@ -138,14 +141,15 @@ static void message(walk *w, uint8_t a, uint8_t b) {
     size_t send = 2 * w->count, receive = send + 1;
     w->boards[send] = a;
     w->boards[receive] = b;
-    join(w->words, send, w->past, a);
-    join(w->words, receive, w->past, b);
+    copy(w->words, send, w->past, a);
+    copy(w->words, receive, w->past, b);
     join(w->words, receive, w->words, send);
     mark(w->words, receive, send);
     w->count++;
 }
 
 static void insert(walk *w, size_t x, size_t y) {
+    if (test(w->words, y, x)) return;
     for (size_t b = 2 * w->first; b < 2 * w->count; b++)
         if (b == y || test(w->words, b, y)) {
             join(w->words, b, w->words, x);
@@ -167,9 +171,10 @@ static refusal walk_sheets(const sheet *s, walk *w) {
             insert(w, 2 * w->first + s->one[row], 2 * w->first + s->two[row]);
             row++;
             break;
-        case 'B':
+        case 'B': /* an empty block costs its row */
             open_block(w);
-            row++;
+            do row++;
+            while (row < s->count && s->kind[row] == 'B');
             break;
         case 'C':
             if (level == LEVELS) return (refusal){8, line};
@@ -188,9 +193,7 @@ static refusal walk_sheets(const sheet *s, walk *w) {
 }
 
 static refusal expand(const sheet *s, walk *w) {
-    memset(w->words, 0, EVENTS * W * 8);
     memset(w->past, 0, sizeof w->past);
-    memset(w->boards, 0, sizeof w->boards);
     w->calls = w->first = w->count = 0;
     refusal r = walk_sheets(s, w);
     if (r.number) return r;

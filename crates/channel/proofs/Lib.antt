@@ -1,6 +1,1 @@
-pub mod Words
-pub mod Rows
-pub mod Steps
-pub mod Codes
-pub mod Masking
-pub mod Allowed
+pub mod StepTests

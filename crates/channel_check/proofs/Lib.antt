@@ -1,3 +1,2 @@
-pub mod Parts
-pub mod Small
-pub mod Whole
+mod Told
+mod Small

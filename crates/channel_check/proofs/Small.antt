@@ -1,36 +1,24 @@
 -- The numbers of an answer fit 32 bits. Assumes nothing.
 use mathlib.Core.Path.{_≡_, refl}
 use mathlib.Core.Bool.{Bool, true, false, cond, _||_}
-use mathlib.Core.List.{List, [], _∷_}
+use mathlib.Core.List.{List}
 use mathlib.Core.Option.{Option, none, some}
-use Prim.Native.Nat.{ℕ, zero, suc, _*_, _≤_}
+use Prim.Native.Nat.{ℕ, _*_, _≤_}
 use native.Mathlib.Omega.{arith}
-use lib.ListN.{length}
 use Rattle.model.specs.Limits.{channels, messagesMost, rowsMost, scratchLeast, traceLeast}
 use lib.Dec.{ltb}
 use Rattle.model.specs.Refusal.{Out, ok, refusal, channelRefusal, benchRefusal}
 use Rattle.model.specs.Place.{lineOf}
 use Rattle.model.specs.Order.{Scenario}
-use Rattle.model.specs.Channel.{Channel, channelOf}
-use Rattle.model.specs.Run.{State, Step, start, next}
+use Rattle.model.specs.Channel.{channelOf}
+use Rattle.model.specs.Run.{start}
 use Rattle.model.specs.Race.{raceRuleOf, lowestRace}
-use Rattle.model.specs.Schedule.{classesFor, choose, scheduleFrom, schedule}
+use Rattle.model.specs.Schedule.{schedule}
 use Rattle.model.specs.Answer.{free, locked, sheetOf, acceptedOf, verdictOf, answerFor, answerOf, numbersOf}
-use Rattle.model.proofs.Accepted.{accepted-count}
+use Rattle.model.proofs.Accepted.{sheet-count}
+use Rattle.model.proofs.PointThree.{race-lowest, schedule-most}
 use Rattle.model.proofs.Lines.{Well, sheet-well}
-use Rattle.channel_check.specs.Parts.{Small}
-use Rattle.channel_check.proofs.Parts.{race-below}
-
--- at most so many steps
-schedule-most : (S : Scenario) (c : Channel) (e fuel : ℕ) (s : State) → length (scheduleFrom S c e fuel s) ≤ fuel
-unfolding scheduleFrom
-schedule-most S c e zero s = omega arith
-schedule-most S c e (suc fuel) s = go (choose S c (classesFor S e) s) (schedule-most S c e fuel)
-  where
-    go : (o : Option Step) → ((t : State) → length (scheduleFrom S c e fuel t) ≤ fuel)
-        → length {A = Step} (elim o [ none ↦ [] | some t ↦ t ∷ scheduleFrom S c e fuel (next S s t) ]) ≤ suc fuel
-    go none later = omega arith
-    go (some t) later = omega (arith, later (next S s t))
+use Rattle.channel_check.specs.Numbers.{Small}
 
 verdict-small : (S : Scenario) (code : ℕ) → S .count ≤ messagesMost → Small (numbersOf (verdictOf S code))
 unfolding verdictOf schedule
@@ -40,7 +28,7 @@ verdict-small S code few = go (lowestRace S (raceRuleOf code)) refl
         → Small (numbersOf (elim o [ none ↦ free | some race ↦ locked (race .0) (race .1) (schedule S (channelOf code) (race .0)) ]))
     go none i = record { one = omega arith; two = omega arith; three = omega arith }
     go (some race) i =
-        let l = race-below S code (race .0) (race .1) i in
+        let l = race-lowest S code (race .0) (race .1) i .inScenario in
         record {
           one = omega (arith, l .0);
           two = omega (arith, l .1);
@@ -52,7 +40,7 @@ unfolding answerFor acceptedOf
 sheet-small text code = go (sheetOf text) refl (sheet-well text)
   where
     few : (S : Scenario) → sheetOf text ≡ ok S → S .count ≤ messagesMost
-    few S i = accepted-count text 0 scratchLeast traceLeast S i
+    few S i = sheet-count text S i
 
     go : (o : Out Scenario) → sheetOf text ≡ o → Well (lineOf rowsMost) o → Small (numbersOf (answerFor o code))
     go (refusal number line) i w = record { one = omega (arith, w .known); two = omega (arith, w .within); three = omega arith }

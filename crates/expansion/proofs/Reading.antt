@@ -1,7 +1,7 @@
 -- What the columns and the table lent hold, the rows being those of some text: each row stands where the walk comes to it, each
 -- sheet called starts where the table says, and the rows are few. Assumes nothing.
 use Prim.Native.Nat.{ℕ, zero, suc, _+_, _-_, _<_, _≤_}
-use native.Mathlib.Numerals.{add-one}
+use native.Mathlib.Decide.{ℕ-discrete}
 use native.Mathlib.Omega.{arith}
 use mathlib.Core.Path.{_≡_, refl, _∙_, ap, subst}
 use mathlib.Core.Bool.{Bool, true, false, not, cond, _&&_, _||_}
@@ -23,25 +23,11 @@ use Rattle.model.proofs.Closure.{cells-length, cells-at}
 use Rattle.model.proofs.Standing.{Fits, read-fits, cond-some}
 use Rattle.model.proofs.Walked.{OnOneBoard, message-parts, order-parts}
 use Rattle.sheet.specs.Bridge.{rowFrom, rowsAt, rowsOf, startIn}
-use Rattle.sheet.proofs.Bridge.{rows-length, rows-drop as rows-at-drop}
-use Rattle.expansion.specs.Lent.{rowsFrom, AreRead, RowsRead}
-use Rattle.expansion.specs.Parts.{Present, AllStand}
-
--- The rows from row i on.
-module _ (kind one two : List ℕ) where
-  pub rows-drop : (count i : ℕ) → drop i (rowsOf kind one two count) ≡ rowsFrom kind one two count i
-  rows-drop count i = rows-at-drop kind one two i 0 count ∙ ap (λ (k : ℕ). rowsAt kind one two k (count - i)) (omega arith)
-
-  pub rows-next : (count i : ℕ) → i < count
-      → rowsFrom kind one two count i ≡ rowFrom (getD kind i 0) (getD one i 0) (getD two i 0) ∷ rowsFrom kind one two count (i + 1)
-  unfolding rowsAt
-  rows-next count i h =
-      let e : count - i ≡ suc (count - (i + 1)) = omega arith in
-      rw (e, add-one i)
-
-  pub rows-end : (count i : ℕ) → count ≤ i → rowsFrom kind one two count i ≡ []
-  unfolding rowsAt
-  rows-end count i h = let e : count - i ≡ 0 = omega arith in rw e
+use Rattle.sheet.proofs.Bridge.{rows-length, row-call}
+use Rattle.walk.specs.Block.{rowsFrom, AllStand}
+use Rattle.walk.proofs.Meeting.{rows-drop}
+use Rattle.levels.specs.Levels.{Sheets}
+use Rattle.expansion.specs.Lent.{AreRead, RowsRead}
 
 -- a row that is read is one of the first 512, and its place allows it
 pub record Judged (i : ℕ) (p q : Place) (r : Row) : Type 0 where
@@ -107,6 +93,13 @@ read-rows c i p (l ∷ ls) rs e h =
     ((moved-known p (rp .1) (rp .0) (j .allowed), on .0), omega (arith, on .1))
 
 -- every sheet called is there
+abbrev Present : List ℕ → Row → Type 0
+Present opened (sheet k) = Unit {0}
+Present opened (message a b) = Unit {0}
+Present opened (order x y) = Unit {0}
+Present opened block = Unit {0}
+Present opened (call k) = (k < sheets) × (among k opened ≡ true)
+
 abbrev AllPresent : List ℕ → List Row → Type 0
 AllPresent opened [] = Unit {0}
 AllPresent opened (r ∷ rs) = Present opened r × AllPresent opened rs
@@ -126,35 +119,44 @@ all-present opened i (call n ∷ rs) k e = go (among n opened) refl e (all-prese
     go true t e on = ((k .0, t), on e)
     go false t e on = let z : _≡_ {A = ℕ} 0 1 = cc in absurd (omega arith)
 
--- so the rows stand, from the open block's events on
-all-stand : (opened events : List ℕ) (rs : List Row) → Fits events rs → AllPresent opened rs → AllStand opened (length events) rs
-all-stand opened events [] f p = tt
-all-stand opened events (sheet n ∷ rs) f p = (tt, tt, all-stand opened [] rs f (p .1))
-all-stand opened events (message a b ∷ rs) f p = (
+present-at : (opened kind one two : List ℕ) (i n : ℕ) → AllPresent opened (rowsAt kind one two i n) → (j : ℕ) → i ≤ j → j < i + n
+    → Present opened (rowFrom (getD kind j 0) (getD one j 0) (getD two j 0))
+unfolding rowsAt
+present-at opened kind one two i zero a j l h = absurd (omega arith)
+present-at opened kind one two i (suc n) a j l h = go (ℕ-discrete i j) (λ l′. present-at opened kind one two (suc i) n (a .1) j l′ (omega arith))
+  where
+    go : Dec (i ≡ j) → (suc i ≤ j → Present opened (rowFrom (getD kind j 0) (getD one j 0) (getD two j 0)))
+        → Present opened (rowFrom (getD kind j 0) (getD one j 0) (getD two j 0))
+    go (yes e) later = subst (λ (k : ℕ). Present opened (rowFrom (getD kind k 0) (getD one k 0) (getD two k 0))) e (a .0)
+    go (no n) later = later (omega arith)
+
+-- the rows stand, from the open block's events on
+all-stand : (events : List ℕ) (rs : List Row) → Fits events rs → AllStand (length events) rs
+all-stand events [] f = tt
+all-stand events (sheet n ∷ rs) f = (tt, all-stand [] rs f)
+all-stand events (message a b ∷ rs) f = (
   message-parts events a b (f .0),
-  tt,
-  subst (λ (n : ℕ). AllStand opened n rs) (length-append events (a ∷ b ∷ [])) (all-stand opened (withMessage events a b) rs (f .1) (p .1)),
+  subst (λ (n : ℕ). AllStand n rs) (length-append events (a ∷ b ∷ [])) (all-stand (withMessage events a b) rs (f .1)),
 )
-all-stand opened events (order x y ∷ rs) f p =
+all-stand events (order x y ∷ rs) f =
     let o : OnOneBoard events x y = order-parts events x y (f .0) in
-    ((o .firstThere, o .secondThere), tt, all-stand opened events rs (f .1) (p .1))
-all-stand opened events (block ∷ rs) f p = (tt, tt, all-stand opened [] rs f (p .1))
-all-stand opened events (call n ∷ rs) f p = (tt, p .0, all-stand opened [] rs f (p .1))
+    ((o .firstThere, o .secondThere), all-stand events rs (f .1))
+all-stand events (block ∷ rs) f = (tt, all-stand [] rs f)
+all-stand events (call n ∷ rs) f = (tt, all-stand [] rs f)
 
 -- and so do the rows behind each sheet's S row
-sheet-stand : (opened : List ℕ) (k n : ℕ) (rs : List Row) → AllStand opened k rs → AllStand opened 0 (drop (startOf n rs) rs)
+sheet-stand : (k n : ℕ) (rs : List Row) → AllStand k rs → AllStand 0 (drop (startOf n rs) rs)
 unfolding startOf
-sheet-stand opened k n [] a = tt
-sheet-stand opened k n (sheet m ∷ rs) a = go (eqb m n) (sheet-stand opened 0 n rs (a .2))
+sheet-stand k n [] a = tt
+sheet-stand k n (sheet m ∷ rs) a = go (eqb m n) (sheet-stand 0 n rs (a .1))
   where
-    go : (b : Bool) → AllStand opened 0 (drop (startOf n rs) rs)
-        → AllStand opened 0 (drop (elim b [ true ↦ 1 | false ↦ suc (startOf n rs) ]) (sheet m ∷ rs))
-    go true g = a .2
+    go : (b : Bool) → AllStand 0 (drop (startOf n rs) rs) → AllStand 0 (drop (elim b [ true ↦ 1 | false ↦ suc (startOf n rs) ]) (sheet m ∷ rs))
+    go true g = a .1
     go false g = g
-sheet-stand opened k n (message x y ∷ rs) a = sheet-stand opened (k + 2) n rs (a .2)
-sheet-stand opened k n (order x y ∷ rs) a = sheet-stand opened k n rs (a .2)
-sheet-stand opened k n (block ∷ rs) a = sheet-stand opened 0 n rs (a .2)
-sheet-stand opened k n (call m ∷ rs) a = sheet-stand opened 0 n rs (a .2)
+sheet-stand k n (message x y ∷ rs) a = sheet-stand (k + 2) n rs (a .1)
+sheet-stand k n (order x y ∷ rs) a = sheet-stand k n rs (a .1)
+sheet-stand k n (block ∷ rs) a = sheet-stand 0 n rs (a .1)
+sheet-stand k n (call m ∷ rs) a = sheet-stand 0 n rs (a .1)
 
 -- What the rows of a text are: few, each stands, and sheet 0 is there.
 record Whole (rs : List Row) : Type 0 where
@@ -193,18 +195,29 @@ read-whole rs r =
     body-whole (linesOf (r .0)) rs
     (cond-ok (ltb 0 (length (r .0)) && leb (length (r .0)) textMost) (bodyOf (linesOf (r .0))) _ _ rs (r .1) .1)
 
--- The rows lent are few, so a row's line fits.
-pub rows-few : (kind one two : List ℕ) (count : ℕ) → AreRead (rowsOf kind one two count) → count ≤ rowsMost
-rows-few kind one two count r = omega (arith, rows-length kind one two 0 count, read-whole (rowsOf kind one two count) r .few)
-
 module _ (kind one two : List ℕ) (count : ℕ) (start : List ℕ) (lent : RowsRead kind one two count start) where
   abbrev file : List Row
   file = rowsOf kind one two count
 
-  -- a sheet that is there starts where the table says
-  pub start-at : (n : ℕ) → n < sheets → among n (opens file) ≡ true → getD start n 0 ≡ startOf n file
+  -- the rows lent are few, so a row's line fits
+  rows-few : count ≤ rowsMost
+  rows-few = omega (arith, rows-length kind one two 0 count, read-whole file (lent .read) .few)
+
+  -- the sheet that a call names is there, and starts where the table says
+  start-at : (n : ℕ) → n < sheets → among n (opens file) ≡ true → getD start n 0 ≡ startOf n file
   unfolding startIn
   start-at n h a = ap (λ (l : List ℕ). getD l n 0) (lent .starts) ∙ cells-at sheets (startIn file) n 0 h ∙ rw a
+
+  call-present : (i : ℕ) → i < count → getD kind i 0 ≡ 67 → Present (opens file) (call (getD one i 0))
+  call-present i h e =
+      subst (Present (opens file)) (row-call (getD kind i 0) (getD one i 0) (getD two i 0) e)
+      (present-at (opens file) kind one two 0 count (read-whole file (lent .read) .present) i (omega arith) (omega arith))
+
+  call-known : (i : ℕ) → i < count → getD kind i 0 ≡ 67 → getD one i 0 < sheets
+  call-known i h e = call-present i h e .0
+
+  call-start : (i : ℕ) → i < count → getD kind i 0 ≡ 67 → getD start (getD one i 0) 0 ≡ startOf (getD one i 0) file
+  call-start i h e = let p = call-present i h e in start-at (getD one i 0) (p .0) (p .1)
 
   pub start-long : length start ≡ sheets
   start-long = ap length (lent .starts) ∙ cells-length sheets (startIn file)
@@ -213,7 +226,16 @@ module _ (kind one two : List ℕ) (count : ℕ) (start : List ℕ) (lent : Rows
   start-zero = start-at 0 (omega arith) (read-whole file (lent .read) .begins)
 
   -- and its rows stand
-  pub start-stand : (n : ℕ) → AllStand (opens file) 0 (drop (startOf n file) file)
+  pub start-stand : (n : ℕ) → AllStand 0 (rowsFrom kind one two count (startOf n file))
   start-stand n =
-      sheet-stand (opens file) 0 n file
-      (all-stand (opens file) [] file (read-fits (lent .read .0) file (lent .read .1)) (read-whole file (lent .read) .present))
+      subst (AllStand 0) (rows-drop kind one two count (startOf n file))
+      (sheet-stand 0 n file (all-stand [] file (read-fits (lent .read .0) file (lent .read .1))))
+
+  pub sheets-lent : Sheets kind one two count start
+  sheets-lent =
+      record {
+        rows = record { few = rows-few; kindLong = lent .kindLong; oneLong = lent .oneLong; twoLong = lent .twoLong };
+        known = λ i h e. omega (arith, call-known i h e, start-long);
+        starts = call-start;
+        stand = start-stand;
+      }

@@ -1,47 +1,52 @@
--- The whole expansion: the walk begins with nothing met, and what it leaves is the paper's answer. Assumes nothing.
-use Prim.Native.Nat.{ℕ, _*_}
+-- The whole expansion: the walk begins with nothing met, each block goes on with it, and what it leaves is the paper's answer.
+-- Assumes nothing.
+use Prim.Native.Nat.{ℕ, _+_, _-_, _*_, _<_, _≤_}
 use native.Mathlib.Omega.{arith}
 use mathlib.Core.Path.{_≡_, refl, sym, _∙_, ap, subst}
 use mathlib.Core.Bool.{Bool, true, false, cond}
-use mathlib.Core.List.{List}
-use lib.ListN.{length, getD, drop, replicate}
+use mathlib.Core.List.{List, _++_, append-nil}
+use lib.ListN.{length, getD, replicate, length-replicate, drop-of-length-le}
 use Rattle.model.specs.Limits.{boards, messagesMost, levels}
 use Rattle.model.specs.Refusal.{Out, ok, refusal, andThen, circleRefusal}
 use Rattle.model.specs.Rows.{Row}
-use Rattle.model.specs.Place.{lineOf, opens}
-use Rattle.model.specs.Expansion.{Progress, freshWalk, walkRows, callAt, expand}
+use Rattle.model.specs.Place.{lineOf}
+use Rattle.model.specs.Expansion.{Progress, startOf, walkRows, callAt}
+use Rattle.model.specs.Expansion.{expand as expandRows}
 use Rattle.model.specs.Answer.{expandedOf}
+use Rattle.model.proofs.Lists.{replicate-at}
 use Rattle.model.proofs.Standing.{read-fits}
 use Rattle.relation.specs.Width.{width}
 use Rattle.relation.specs.Rows.{cleared, anyOwn}
 use Rattle.relation.specs.Scenario.{scenarioIn}
-use Rattle.expansion.specs.Store.{Store, zeros, freshStore, storeOps}
+use Rattle.relation.proofs.Loops.{Clearing, clearing-end}
 use Rattle.sheet.specs.Bridge.{rowsOf}
+use Rattle.blocks.specs.Store.{Store, storeOf, storeOps, concluded}
+use Rattle.blocks.specs.Room.{Room}
+use Rattle.walk.specs.Block.{fresh, stateOf, rowsFrom, blockWalked, Leaves, AllStand, Ready}
+use Rattle.walk.specs.declared.Walk.{Walk}
+use Rattle.walk.specs.declared.Walked.the-variants.{To, Stopped}
+use Rattle.walk.proofs.Meeting.{in-rows, rows-drop}
+use Rattle.blocks.proofs.Sim.{Begins}
+use Rattle.blocks.proofs.Scenarios.{expanded-same}
 use Rattle.expansion.specs.Lent.{RowsRead}
-use Rattle.expansion.specs.Room.{storeOf}
-use Rattle.expansion.specs.Outcome.{outcomeOf, concludedAs}
-use Rattle.expansion.specs.Parts.{fresh, stateOf, Leaves, rowsWalked, AllStand, Ready}
+use Rattle.expansion.specs.Outcome.{outcomeOf, concludedAs, zeros}
+use Rattle.levels.specs.Levels.{after, idle, rest, rank, Between, Reaches}
 use Rattle.expansion.specs.declared.Expanded.{Expanded}
 use Rattle.expansion.specs.declared.Expanded.the-variants.{Messages, Refused}
-use Rattle.expansion.specs.declared.Walk.{Walk}
-use Rattle.expansion.specs.declared.Walked.the-variants.{Going, Stopped}
-use Rattle.expansion.proofs.Sim.{zeros-length, zeros-at}
-use Rattle.expansion.proofs.Scenarios.{concluded, expanded-same}
-use Rattle.expansion.proofs.Turns.{cleared-zeros}
-use Rattle.expansion.proofs.Reading.{rows-drop, start-zero, start-stand}
+use Rattle.levels.specs.declared.Reached.{Reached}
+use Rattle.levels.specs.declared.Reached.the-variants as reached
+use Rattle.expansion.proofs.Reading.{start-zero, start-stand}
+use Rattle.levels.proofs.Closing.{rest-walked, AfterBlock, block-ends, block-more}
 
--- what the code has cleared and made is the fresh store
-pub record Cleared (events words past : List ℕ) : Type 0 where
-  pub eventsZero : events ≡ zeros (2 * messagesMost)
-  pub wordsZero : words ≡ zeros (2 * messagesMost * width)
-  pub pastZero : past ≡ zeros (boards * width)
+-- the boards are zeros once the loop over them is done
+cleared-zeros : (n : ℕ) (l : List ℕ) → length l ≡ n → cleared n l ≡ zeros n
+unfolding cleared zeros
+cleared-zeros n l e =
+    ap (λ (r : List ℕ). replicate n 0 ++ r) (drop-of-length-le l {i = n} (omega arith)) ∙ append-nil (replicate n 0)
 
-pub cleared-all : (events words words₀ : List ℕ) → events ≡ zeros (2 * messagesMost) → words ≡ cleared (2 * messagesMost * width) words₀
-    → length words₀ ≡ 2 * messagesMost * width
-    → Cleared events words (replicate (boards * width) 0)
-unfolding zeros
-cleared-all events words words₀ e f l =
-    record { eventsZero = e; wordsZero = f ∙ cleared-zeros (2 * messagesMost * width) words₀ l; pastZero = refl }
+pub boards-zero : (l : List ℕ) (i : ℕ) (now : List ℕ) → Clearing (2 * messagesMost) l i now → 2 * messagesMost ≤ i → length l ≡ 2 * messagesMost
+    → now ≡ zeros (2 * messagesMost)
+boards-zero l i now j h e = clearing-end (2 * messagesMost) l i now j h ∙ cleared-zeros (2 * messagesMost) l e
 
 -- the circle test, by what the code's branch learned
 module _ (words : List ℕ) (count : ℕ) (r : Bool) (test : r ≡ anyOwn width words (2 * count)) where
@@ -51,62 +56,133 @@ module _ (words : List ℕ) (count : ℕ) (r : Bool) (test : r ≡ anyOwn width 
   pub circle-none : r ≡ false → Messages count ≡ concludedAs (anyOwn width words (2 * count)) count
   circle-none e = rw (sym test ∙ e)
 
-module _ (kind one two : List ℕ) (count : ℕ) (start : List ℕ) (lent : RowsRead kind one two count start) (events words past : List ℕ)
-    (z : Cleared events words past) where
+module _ (kind one two : List ℕ) (count : ℕ) where
   abbrev file : List Row
   file = rowsOf kind one two count
 
-  -- the walk begins at sheet 0's first row, in an empty block
-  pub fresh-ready : Ready kind one two count (getD start 0 0) 0 0 (storeOf events words past)
-  fresh-ready =
-      record {
-        room = record {
-          eventsLong = ap length (z .eventsZero) ∙ zeros-length (2 * messagesMost);
-          wordsLong = ap length (z .wordsZero) ∙ zeros-length (2 * messagesMost * width);
-          pastLong = ap length (z .pastZero) ∙ zeros-length (boards * width);
-          firstMost = omega arith;
-          countMost = omega arith;
-          boardsMost = λ k. omega (arith, ap (λ (l : List ℕ). getD l k 0) (z .eventsZero), zeros-at (2 * messagesMost) k);
-        };
-        stand =
-            subst (λ (rs : List Row). AllStand (opens file) 0 rs) (rows-drop kind one two count (getD start 0 0))
-            (subst (λ (i : ℕ). AllStand (opens file) 0 (drop i file)) (sym (start-zero kind one two count start lent))
-            (start-stand kind one two count start lent 0));
-      }
+  -- What the loop over the blocks keeps: from here the whole comes to the paper's answer.
+  pub record Walking (from : List ℕ) (level i : ℕ) (w : Walk) (t : Store) : Type 0 where
+    pub exact : rest kind one two count from level i (idle (w .calls) (w .count) t) ≡ expandedOf file
+    pub between : Between kind one two count from level i (w .calls)
+    pub room : Room (w .count) (w .count) t
 
-  abbrev walked : Out (Progress Store)
-  walked = rowsWalked kind one two count levels (getD start 0 0) (stateOf fresh (storeOf events words past))
+  module _ (start : List ℕ) (lent : RowsRead kind one two count start) where
+    begins : (t : Store) → Begins t → (from : List ℕ) → rest kind one two count from 0 (getD start 0 0) (idle 0 0 t) ≡ expandedOf file
+    unfolding after expandRows
+    begins t z from =
+        ap (λ (i : ℕ). rest kind one two count from 0 i (idle 0 0 t)) (start-zero kind one two count start lent)
+        ∙ ap (λ (rs : List Row). andThen (walkRows storeOps (callAt storeOps levels file) rs (lineOf (startOf 0 file)) (idle 0 0 t)) concluded)
+        (sym (rows-drop kind one two count (startOf 0 file)))
+        ∙ expanded-same file (read-fits (lent .read .0) file (lent .read .1)) t z
 
-  fresh-walked : walked ≡ expand storeOps file freshStore
-  unfolding expand
-  fresh-walked =
-      rw (z .eventsZero, z .wordsZero, z .pastZero)
-      (ap (λ (rs : List Row). walkRows storeOps (callAt storeOps levels file) rs (lineOf (getD start 0 0)) (record { walk = freshWalk; kept = freshStore }))
-      (sym (rows-drop kind one two count (getD start 0 0)))
-      ∙ ap (λ (i : ℕ). walkRows storeOps (callAt storeOps levels file) (drop i file) (lineOf i) (record { walk = freshWalk; kept = freshStore }))
-      (start-zero kind one two count start lent))
+    -- nothing is met, whatever the words hold
+    pub walking-start : (events words from : List ℕ) (w : Walk) → events ≡ zeros (2 * messagesMost) → length words ≡ 2 * messagesMost * width
+        → length from ≡ levels
+        → w ≡ fresh
+        → Walking from 0 (getD start 0 0) w (storeOf events words (replicate (boards * width) 0))
+    unfolding zeros
+    walking-start events words from w e l f g =
+        let long : length events ≡ 2 * messagesMost = ap length e ∙ length-replicate {A = ℕ} (2 * messagesMost) 0 in
+        let zero-at : (k : ℕ) → getD events k 0 ≡ 0 = λ k. ap (λ (l : List ℕ). getD l k 0) e ∙ replicate-at (2 * messagesMost) k 0 in
+        let z : Begins (storeOf events words (replicate (boards * width) 0)) = record {
+          eventsLong = long;
+          wordsLong = l;
+          pastLong = length-replicate {A = ℕ} (boards * width) 0;
+          eventsZero = zero-at;
+          pastZero = λ k. replicate-at (boards * width) k 0;
+        } in
+        rw g
+        (record {
+          exact = begins (storeOf events words (replicate (boards * width) 0)) z from;
+          between = record {
+            deep = omega arith;
+            long = f;
+            few = omega arith;
+            stand =
+                subst (λ (i : ℕ). AllStand 0 (rowsFrom kind one two count i)) (sym (start-zero kind one two count start lent))
+                (start-stand kind one two count start lent 0);
+            behind = λ k h. absurd (omega arith);
+          };
+          room = record {
+            eventsLong = long;
+            wordsLong = l;
+            pastLong = length-replicate {A = ℕ} (boards * width) 0;
+            firstMost = omega arith;
+            countMost = omega arith;
+            boardsMost = λ k. omega (arith, zero-at k);
+          };
+        })
 
-  -- so what the walk leaves comes to the paper's answer
-  answer : (o : Out (Progress Store)) → o ≡ walked → andThen o concluded ≡ expandedOf file
-  answer o e =
-      ap (λ (o : Out (Progress Store)). andThen o concluded) (e ∙ fresh-walked)
-      ∙ expanded-same file (read-fits (lent .read .0) file (lent .read .1))
+  module _ (from : List ℕ) (level i : ℕ) (w : Walk) (t : Store) (j : Walking from level i w t) (from′ : List ℕ) where
+    abbrev Reached-as : Reached → Type 0
+    Reached-as r = Reaches kind one two count from level i (w .calls) r from′
 
-  pub answer-stopped : (number line : ℕ) (t : Store) → Leaves (Stopped number line) t walked → refusal number line ≡ expandedOf file
-  unfolding andThen
-  answer-stopped number line t l = answer (refusal number line) (l .exact)
+    pub walking-stopped : (number line : ℕ) → Reached-as (reached.Stopped number line) → refusal number line ≡ expandedOf file
+    walking-stopped number line r = sym (r .exact (w .count) t) ∙ j .exact
 
-  pub answer-going : (v : Walk) (events′ words′ past′ : List ℕ) → Leaves (Going v) (storeOf events′ words′ past′) walked
-      → (r : Expanded)
-      → r ≡ concludedAs (anyOwn width words′ (2 * v .count)) (v .count)
-      → outcomeOf r events′ words′ ≡ expandedOf file
-  unfolding andThen
-  answer-going v events′ words′ past′ l r e =
-      ap (λ (x : Expanded). outcomeOf x events′ words′) e
-      ∙ by-test (anyOwn width words′ (2 * v .count))
-      ∙ answer (ok (stateOf v (storeOf events′ words′ past′))) (l .exact)
-    where
-      by-test : (t : Bool) → outcomeOf (concludedAs t (v .count)) events′ words′
-          ≡ cond t (refusal circleRefusal 0) (ok (scenarioIn (v .count) events′ words′))
-      by-test true = refl
-      by-test false = refl
+    -- sheet 0 has ended
+    pub walking-end : Reached-as reached.End → (a : Expanded) → a ≡ concludedAs (anyOwn width (t .words) (2 * w .count)) (w .count)
+        → outcomeOf a (t .events) (t .words) ≡ expandedOf file
+    walking-end r a e =
+        ap (λ (x : Expanded). outcomeOf x (t .events) (t .words)) e ∙ by-test (anyOwn width (t .words) (2 * w .count)) ∙ sym (r .exact (w .count) t) ∙ j .exact
+      where
+        by-test : (b : Bool) → outcomeOf (concludedAs b (w .count)) (t .events) (t .words)
+            ≡ cond b (refusal circleRefusal 0) (ok (scenarioIn (w .count) (t .events) (t .words)))
+        by-test true = refl
+        by-test false = refl
+
+    -- a block is walked
+    module _ (level′ i′ calls : ℕ) (r : Reached-as (reached.Block level′ i′ calls)) where
+      abbrev b : Between kind one two count from′ level′ i′ calls
+      b = r .stands .between
+
+      pub block-ready : Ready kind one two count i′ (w .count) (w .count) t
+      block-ready =
+          let none : 0 ≡ 2 * (w .count - w .count) = omega arith in
+          record { room = j .room; stand = subst (λ (n : ℕ). AllStand n (rowsFrom kind one two count i′)) none (b .stand) }
+
+      abbrev s : Progress Store
+      s = idle calls (w .count) t
+
+      abbrev walked : Out (ℕ × Progress Store)
+      walked = blockWalked (rowsFrom kind one two count i′) i′ s
+
+      onward : (o : Out (ℕ × Progress Store)) → o ≡ walked → andThen o (λ p. rest kind one two count from′ level′ (p .0) (p .1)) ≡ expandedOf file
+      onward o e =
+          ap (λ (o : Out (ℕ × Progress Store)). andThen o (λ p. rest kind one two count from′ level′ (p .0) (p .1))) e
+          ∙ sym (rest-walked kind one two count from′ level′ i′ s)
+          ∙ sym (r .exact (w .count) t)
+          ∙ j .exact
+
+      pub walking-refused : (number line : ℕ) (t′ : Store) → Leaves (Stopped number line) t′ walked → refusal number line ≡ expandedOf file
+      unfolding andThen
+      walking-refused number line t′ l = onward (refusal number line) (l .exact)
+
+      module _ (k : ℕ) (u : Walk) (t′ : Store) (l : Leaves (To k u) t′ walked) where
+        behind : AfterBlock kind one two count i′ s (k, stateOf u t′)
+        behind = block-ends kind one two count i′ 0 s (k, stateOf u t′) (b .stand) (sym (l .exact))
+
+        pub walking-less : rank count level′ k (u .calls) < rank count level i (w .calls)
+        walking-less =
+            let more : i′ < k = block-more kind one two count i′ 0 s (k, stateOf u t′) (b .stand) (sym (l .exact)) (r .stands .row) in
+            let in-file : i′ < count = in-rows kind count i′ true (sym (r .stands .row)) refl in
+            let same : u .calls ≡ calls = behind .calls in
+            omega (arith, r .stands .nearer)
+
+        pub walking-on : Walking from′ level′ k u t′
+        unfolding andThen
+        walking-on =
+            record {
+              exact =
+                  ap (λ (n : ℕ). rest kind one two count from′ level′ k (record { walk = record { calls = u .calls; first = n; count = u .count }; kept = t′ }))
+                  (sym (behind .empty))
+                  ∙ onward (ok (k, stateOf u t′)) (l .exact);
+              between = record {
+                deep = b .deep;
+                long = b .long;
+                few = omega (arith, behind .calls, b .few);
+                stand = behind .stand;
+                behind = b .behind;
+              };
+              room = subst (λ (n : ℕ). Room n (u .count) t′) (behind .empty) (l .room);
+            }

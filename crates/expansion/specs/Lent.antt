@@ -1,22 +1,17 @@
 -- What the caller lends: the rows of a text in three columns, and where each sheet starts.
 -- Assumes nothing.
-use Prim.Native.Nat.{ℕ, _-_, _≤_}
+use Prim.Native.Nat.{ℕ, _≤_}
 use mathlib.Core.Path.{_≡_}
 use mathlib.Core.List.{List}
 use lib.ListN.{length}
-use Rattle.model.specs.Limits.{rowsMost}
 use Rattle.model.specs.Refusal.{ok}
 use Rattle.model.specs.Rows.{Row}
 use Rattle.model.specs.Place.{readOf}
-use Rattle.sheet.specs.Bridge.{rowsAt, rowsOf, startsOf}
+use Rattle.sheet.specs.Bridge.{rowsOf, startsOf}
 
 -- the rows are those of some text
 abbrev pub AreRead : List Row → Type 0
 AreRead rs = (text : List ℕ) × (readOf text ≡ ok rs)
-
--- the rows from row i on, of the first so many
-abbrev pub rowsFrom : List ℕ → List ℕ → List ℕ → ℕ → ℕ → List Row
-rowsFrom kind one two count i = rowsAt kind one two i (count - i)
 
 -- The columns lent hold the rows of some text, and the table says where each sheet starts.
 pub record RowsRead (kind one two : List ℕ) (count : ℕ) (start : List ℕ) : Type 0 where
@@ -25,9 +20,3 @@ pub record RowsRead (kind one two : List ℕ) (count : ℕ) (start : List ℕ) :
   pub kindLong : count ≤ length kind
   pub oneLong : count ≤ length one
   pub twoLong : count ≤ length two
-
--- a part of the walk reads as many rows as the first column has, and they are few
-pub record RowsFew (kind one two : List ℕ) : Type 0 where
-  pub few : length kind ≤ rowsMost
-  pub oneLong : length kind ≤ length one
-  pub twoLong : length kind ≤ length two

@@ -1,5 +1,2 @@
 pub mod Lent
 pub mod Outcome
-pub mod Store
-pub mod Room
-pub mod Parts

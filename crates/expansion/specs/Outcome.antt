@@ -3,6 +3,7 @@
 use Prim.Native.Nat.{ℕ}
 use mathlib.Core.Bool.{Bool, true, false}
 use mathlib.Core.List.{List}
+use lib.ListN.{replicate}
 use Rattle.model.specs.Refusal.{Out, ok, refusal, circleRefusal}
 use Rattle.model.specs.Order.{Scenario}
 use Rattle.relation.specs.Scenario.{scenarioIn}
@@ -17,3 +18,7 @@ outcomeOf (Refused number line) events words = refusal number line
 abbrev pub concludedAs : Bool → ℕ → Expanded
 concludedAs true count = Refused circleRefusal 0
 concludedAs false count = Messages count
+
+-- what the boards hold where nothing is met
+unfoldable pub zeros : ℕ → List ℕ
+zeros n = replicate n 0

@@ -1,5 +1,5 @@
--- An accepted text: what was read and walked, its code and buffers, and all that the theorem uses of its "before".
--- Assumes nothing.
+-- A text that has a scenario: what was read and walked, and all that the theorem uses of its "before"; and an accepted one: its code
+-- and buffers. Assumes nothing.
 use Prim.Native.Nat.{ℕ, _<_, _≤_}
 use native.Mathlib.Omega.{arith}
 use mathlib.Core.Path.{_≡_, refl, sym, _∙_, subst}
@@ -9,25 +9,23 @@ use lib.Dec.{ltb}
 use lib.ListN.{getD}
 use borrow.Author.Tests.{ltb-true, ltb-false}
 use Rattle.model.specs.Limits.{boards, messagesMost, channels, scratchLeast, traceLeast}
-use Rattle.model.specs.Refusal.{ok}
+use Rattle.model.specs.Refusal.{ok, andThen}
 use Rattle.model.specs.Rows.{Row}
 use Rattle.model.specs.Place.{readOf}
 use Rattle.model.specs.Expansion.{Progress, expand}
 use Rattle.model.specs.Order.{Event, sendOf, receiveOf, number, boardOf, Scenario, Met, nothingMet, metOps, exchangeOf, scenarioOf, board, hasCircle}
-use Rattle.model.specs.Answer.{withoutCircle, expandedOf, sheetOf, acceptedOf}
+use Rattle.model.specs.Answer.{withoutCircle, expandedOf, sheetOf, exchangeMet, acceptedOf}
+use Rattle.model.specs.Verdict.{Meets}
 use Rattle.model.proofs.Bounded.{not-both}
 use Rattle.model.proofs.Events.{below-number}
 use Rattle.model.proofs.Refusal.{and-then-ok, cond-ok, cond-refused}
 use Rattle.model.proofs.Causal.{Causal}
-use Rattle.model.proofs.Order.{boardIn, RowsInside, RowsOnOneBoard, causal}
+use Rattle.model.proofs.Order.{boardIn, RowsInside, RowsOnOneBoard, before-exact, causal}
 use Rattle.model.proofs.Standing.{read-fits}
 use Rattle.model.proofs.Walked.{Sound, expanded-sound}
 
--- what an accepted text comes from
-pub record Accepted (text : List ℕ) (code scratchLength traceLength : ℕ) (S : Scenario) : Type 0 where
-  pub codeKnown : code < channels
-  pub scratchEnough : scratchLeast ≤ scratchLength
-  pub traceEnough : traceLeast ≤ traceLength
+-- what the scenario of a text comes from
+pub record SheetParts (text : List ℕ) (S : Scenario) : Type 0 where
   pub rows : List Row
   pub read : readOf text ≡ ok rows
   pub walked : Progress Met
@@ -35,31 +33,38 @@ pub record Accepted (text : List ℕ) (code scratchLength traceLength : ℕ) (S 
   pub scenario : scenarioOf (exchangeOf walked) ≡ S
   pub noCircle : hasCircle (scenarioOf (exchangeOf walked)) ≡ false
 
+pub sheet-parts : (text : List ℕ) (S : Scenario) → sheetOf text ≡ ok S → SheetParts text S
+unfolding sheetOf expandedOf withoutCircle
+sheet-parts text S e =
+    let c = and-then-ok (readOf text) expandedOf S e in
+    let d = and-then-ok (expand metOps (c .0) nothingMet) (λ s. withoutCircle (scenarioOf (exchangeOf s))) S (c .2) in
+    let f = cond-refused (hasCircle (scenarioOf (exchangeOf (d .0)))) _ _ _ S (d .2) in
+    record { rows = c .0; read = c .1; walked = d .0; expanded = d .1; scenario = cc (f .1); noCircle = f .0 }
+
 or-false : (a b : Bool) → (a || b) ≡ false → (a ≡ false) × (b ≡ false)
 or-false true b h = not-both true refl h
 or-false false b h = (refl, h)
 
+-- what acceptance says: the code and the buffers' lengths are in order, and the sheet has its scenario
+pub record Accepted (text : List ℕ) (code scratchLength traceLength : ℕ) (S : Scenario) : Type 0 where
+  pub codeKnown : code < channels
+  pub scratchEnough : scratchLeast ≤ scratchLength
+  pub traceEnough : traceLeast ≤ traceLength
+  pub sheet : sheetOf text ≡ ok S
+
 pub accepted-parts : (text : List ℕ) (code scratchLength traceLength : ℕ) (S : Scenario)
     → acceptedOf text code scratchLength traceLength ≡ ok S
     → Accepted text code scratchLength traceLength S
-unfolding acceptedOf sheetOf expandedOf withoutCircle
+unfolding acceptedOf
 accepted-parts text code scratchLength traceLength S e =
     let a = cond-ok (ltb code channels) _ _ _ S e in
     let b = cond-refused (ltb scratchLength scratchLeast || ltb traceLength traceLeast) _ _ _ S (a .1) in
-    let c = and-then-ok (readOf text) expandedOf S (b .1) in
-    let d = and-then-ok (expand metOps (c .0) nothingMet) (λ s. withoutCircle (scenarioOf (exchangeOf s))) S (c .2) in
-    let f = cond-refused (hasCircle (scenarioOf (exchangeOf (d .0)))) _ _ _ S (d .2) in
     let lengths = or-false (ltb scratchLength scratchLeast) (ltb traceLength traceLeast) (b .0) in
     record {
       codeKnown = ltb-true code channels (a .0);
       scratchEnough = ltb-false scratchLength scratchLeast (lengths .0);
       traceEnough = ltb-false traceLength traceLeast (lengths .1);
-      rows = c .0;
-      read = c .1;
-      walked = d .0;
-      expanded = d .1;
-      scenario = cc (f .1);
-      noCircle = f .0;
+      sheet = b .1;
     }
 
 -- an event's board stands at its number
@@ -80,34 +85,44 @@ module _ (s : Progress Met) (h : Sound s) where
   unfolding exchangeOf
   rows-on-one-board x y l = board-at s x ∙ h .ordersOnBoards (number x) (number y) l .sameBoard ∙ sym (board-at s y)
 
-module _ (text : List ℕ) (code scratchLength traceLength : ℕ) (S : Scenario) (e : acceptedOf text code scratchLength traceLength ≡ ok S) where
-  pub accepted-sound : Sound (accepted-parts text code scratchLength traceLength S e .walked)
-  accepted-sound =
-      let a = accepted-parts text code scratchLength traceLength S e in
+-- What holds of the scenario of any text that has one.
+module _ (text : List ℕ) (S : Scenario) (e : sheetOf text ≡ ok S) where
+  pub sheet-sound : Sound (sheet-parts text S e .walked)
+  sheet-sound =
+      let a = sheet-parts text S e in
       expanded-sound (a .rows) (read-fits text (a .rows) (a .read)) (a .walked) (a .expanded)
 
-  pub accepted-causal : Causal S
-  accepted-causal =
-      let a = accepted-parts text code scratchLength traceLength S e in
+  pub sheet-causal : Causal S
+  sheet-causal =
+      let a = sheet-parts text S e in
       subst Causal (a .scenario)
-      (causal (exchangeOf (a .walked)) (rows-inside (a .walked) accepted-sound) (rows-on-one-board (a .walked) accepted-sound) (a .noCircle))
+      (causal (exchangeOf (a .walked)) (rows-inside (a .walked) sheet-sound) (rows-on-one-board (a .walked) sheet-sound) (a .noCircle))
 
-  pub accepted-code : code < channels
-  accepted-code = accepted-parts text code scratchLength traceLength S e .codeKnown
-
-  pub accepted-lengths : (scratchLeast ≤ scratchLength) × (traceLeast ≤ traceLength)
-  accepted-lengths =
-      let a = accepted-parts text code scratchLength traceLength S e in (a .scratchEnough, a .traceEnough)
-
-  pub accepted-count : S .count ≤ messagesMost
+  pub sheet-count : S .count ≤ messagesMost
   unfolding scenarioOf exchangeOf
-  accepted-count =
-      let a = accepted-parts text code scratchLength traceLength S e in
-      subst (λ (T : Scenario). T .count ≤ messagesMost) (a .scenario) (accepted-sound .countMost)
+  sheet-count =
+      let a = sheet-parts text S e in
+      subst (λ (T : Scenario). T .count ≤ messagesMost) (a .scenario) (sheet-sound .countMost)
 
-  pub accepted-boards : (x : Event) → board S x < boards
+  pub sheet-boards : (x : Event) → board S x < boards
   unfolding scenarioOf
-  accepted-boards x =
-      let a = accepted-parts text code scratchLength traceLength S e in
+  sheet-boards x =
+      let a = sheet-parts text S e in
       subst (λ (T : Scenario). board T x < boards) (a .scenario)
-      (rw (board-at (a .walked) x) (accepted-sound .boardsMost (number x)))
+      (rw (board-at (a .walked) x) (sheet-sound .boardsMost (number x)))
+
+  -- "before" is the paper's relation over what the walk meets
+  pub sheet-meets : Meets text S
+  unfolding scenarioOf exchangeMet andThen
+  sheet-meets =
+      let a = sheet-parts text S e in
+      let E = exchangeOf (a .walked) in
+      subst (Meets text) (a .scenario)
+      (record {
+        exchange = E;
+        met = rw (a .read, a .expanded);
+        messages = refl;
+        sources = λ m. refl;
+        targets = λ m. refl;
+        before = before-exact E (rows-inside (a .walked) sheet-sound);
+      })

@@ -10,10 +10,11 @@ use lib.Dec.{leb}
 use Rattle.model.specs.Order.{Event, sendOf, receiveOf, Scenario, board, atOrBefore}
 use Rattle.model.specs.Channel.{Channel, ToSend, ToDeliver, noEarlierUnderWay, channelEmpty, inOrder, alone}
 use Rattle.model.specs.Run.{Step, send, deliver, consume}
+use Rattle.model.specs.Schedule.{kindOf, messageOfStep}
 use Rattle.model.proofs.Bounded.{which, not-both}
 use Rattle.model.proofs.Events.{at-or-before-cases}
 use Rattle.model.proofs.Causal.{Causal}
-use Rattle.model.proofs.Phases.{equal-or-not, doneAt, bump, bump-other, bump-cases, messageIn, phaseIn}
+use Rattle.model.proofs.Phases.{equal-or-not, doneAt, bump, bump-other, bump-cases}
 use Rattle.model.proofs.Rules.{Ready, SendRule, DeliverRule, MaySend, MayDeliver, MayConsume, May}
 
 module _ (S : Scenario) where
@@ -63,12 +64,12 @@ module _ (S : Scenario) where
     unsent : (φ : ℕ → ℕ) (m : ℕ) → MaySend S φ c C m → φ m ≡ 0
     unsent φ m h = let l : φ m < 1 = leb-false 1 (φ m) (h .ready .undone) in omega arith
 
-    pub may-phase : (φ : ℕ → ℕ) (t : Step) → May S φ c C t → φ (messageIn t) ≡ phaseIn t
+    pub may-phase : (φ : ℕ → ℕ) (t : Step) → May S φ c C t → φ (messageOfStep t) ≡ kindOf t
     may-phase φ (send m) h = unsent φ m h
     may-phase φ (deliver m) h = h .underWay
     may-phase φ (consume m) h = h .held
 
-    pub moves : (φ : ℕ → ℕ) (t : Step) → May S φ c C t → Moves φ (messageIn t)
+    pub moves : (φ : ℕ → ℕ) (t : Step) → May S φ c C t → Moves φ (messageOfStep t)
     moves φ (send m) h =
         let p = unsent φ m h in
         record { inside = h .inside; phase = omega arith; sent = λ e. h; delivered = λ e. absurd (omega arith); consumed = λ e. absurd (omega arith) }

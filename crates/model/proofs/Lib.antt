@@ -13,6 +13,7 @@ pub mod Lines
 pub mod Least
 pub mod Phases
 pub mod Rank
+pub mod Trace
 pub mod Rules
 pub mod Invariants
 pub mod Suited

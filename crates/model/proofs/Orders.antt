@@ -11,9 +11,10 @@ use Rattle.model.specs.Order.{Event, sendOf, receiveOf, messageOf, Scena
 use Rattle.model.specs.Channel.{Channel}
 use Rattle.model.specs.Run.{State, start, Step, next, allowed, isOrderFrom, after, finished, IsOrder, EndsFinished, CanFinish}
 use Rattle.model.specs.Race.{RaceRule, isRace}
+use Rattle.model.specs.Schedule.{messageOfStep}
 use Rattle.model.proofs.Bounded.{and-left, and-right, and-both, which}
 use Rattle.model.proofs.Causal.{Causal}
-use Rattle.model.proofs.Phases.{doneAt, bump, view, view-start, view-next, messageIn}
+use Rattle.model.proofs.Phases.{doneAt, bump, view, view-start, view-next}
 use Rattle.model.proofs.Rank.{rank, rank-bump, rank-most, rank-less, rank-full, rank-zero}
 use Rattle.model.proofs.Rules.{may-use, may-inside, finished-use, finished-not}
 use Rattle.model.proofs.Invariants.{Inv, moves, may-phase, inv-bump, inv-start}
@@ -54,16 +55,16 @@ module _ (S : Scenario) where
       reached [] φ I o = record { phases = φ; state = refl; inv = I; grown = omega arith }
       reached (t ∷ ts) φ I o =
           let M = may-use S φ c C t (and-left (allowed S c (view S φ) t) (isOrderFrom S c (next S (view S φ) t) ts) o) in
-          let step : next S (view S φ) t ≡ view S (bump φ (messageIn t)) = view-next S φ t (may-phase S C c φ t M) in
+          let step : next S (view S φ) t ≡ view S (bump φ (messageOfStep t)) = view-next S φ t (may-phase S C c φ t M) in
           let rest : isOrderFrom S c (next S (view S φ) t) ts ≡ true = and-right (allowed S c (view S φ) t) (isOrderFrom S c (next S (view S φ) t) ts) o in
           let R =
-          reached ts (bump φ (messageIn t)) (inv-bump S C c φ I (messageIn t) (moves S C c φ t M))
+          reached ts (bump φ (messageOfStep t)) (inv-bump S C c φ I (messageOfStep t) (moves S C c φ t M))
           (subst (λ (s : State). isOrderFrom S c s ts ≡ true) step rest) in
           record {
             phases = R .phases;
             state = subst⁻¹ (λ (s : State). after S s ts ≡ view S (R .phases)) step (R .state);
             inv = R .inv;
-            grown = omega (arith, R .grown, rank-bump (S .count) φ (messageIn t) (may-inside S φ c C t M));
+            grown = omega (arith, R .grown, rank-bump (S .count) φ (messageOfStep t) (may-inside S φ c C t M));
           }
 
       pub reached-from-start : (ts : List Step) → IsOrder S c ts → Reached start 0 ts
@@ -126,8 +127,8 @@ module _ (S : Scenario) where
             let M = may-use S φ c C t (p .1) in
             rest-step (view S φ) t (p .1)
             (subst⁻¹ Rest (view-next S φ t (may-phase S C c φ t M))
-            (carried-on fuel (bump φ (messageIn t)) (inv-bump S C c φ I (messageIn t) (moves S C c φ t M))
-            (omega (arith, rank-bump (S .count) φ (messageIn t) (may-inside S φ c C t M))))))
+            (carried-on fuel (bump φ (messageOfStep t)) (inv-bump S C c φ I (messageOfStep t) (moves S C c φ t M))
+            (omega (arith, rank-bump (S .count) φ (messageOfStep t) (may-inside S φ c C t M))))))
             (which (finished S (view S φ)))
 
         pub can-finish : (ts : List Step) → IsOrder S c ts → CanFinish S c ts

@@ -9,6 +9,7 @@ use borrow.Author.Tests.{eqb-true, eqb-false, leb-true, leb-false, eq-eqb, ne-eq
 use lib.Dec.{eqb, leb}
 use Rattle.model.specs.Order.{Event, sendOf, receiveOf, number, Scenario}
 use Rattle.model.specs.Run.{State, start, Step, send, deliver, consume, with, withDone, withHeld, next}
+use Rattle.model.specs.Schedule.{kindOf, messageOfStep}
 use Rattle.model.proofs.Bounded.{which}
 
 -- two numbers are equal or differ
@@ -81,17 +82,6 @@ leb-stays j a h =
 
 eqb-stays : (j a : ℕ) → (a ≡ j → ⊥) → (suc a ≡ j → ⊥) → eqb a j ≡ eqb (suc a) j
 eqb-stays j a h g = ne-eqb a j h ∙ sym (ne-eqb (suc a) j g)
-
--- the message, and the phase it is in before, of a step
-abbrev pub messageIn : Step → ℕ
-messageIn (send m) = m
-messageIn (deliver m) = m
-messageIn (consume m) = m
-
-abbrev pub phaseIn : Step → ℕ
-phaseIn (send m) = 0
-phaseIn (deliver m) = 1
-phaseIn (consume m) = 2
 
 module _ (φ : ℕ → ℕ) (m : ℕ) where
   -- tests that the step leaves as they were, and those that it changes, message by message
@@ -183,7 +173,8 @@ module _ (S : Scenario) where
             (rw and-false refl)
 
   -- a step on a message in the step's phase moves that message one phase on
-  pub view-next : (φ : ℕ → ℕ) (t : Step) → φ (messageIn t) ≡ phaseIn t → next S (view φ) t ≡ view (bump φ (messageIn t))
+  -- the kind of a step is the phase that it ends
+  pub view-next : (φ : ℕ → ℕ) (t : Step) → φ (messageOfStep t) ≡ kindOf t → next S (view φ) t ≡ view (bump φ (messageOfStep t))
   view-next φ (send m) h = view-send φ m h
   view-next φ (deliver m) h = view-deliver φ m h
   view-next φ (consume m) h = view-consume φ m h

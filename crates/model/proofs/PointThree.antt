@@ -1,6 +1,6 @@
 -- Point 3: for every text, code and pair of buffer lengths, the verdict on an accepted sheet is that of whole orders.
 -- Assumes nothing.
-use Prim.Native.Nat.{ℕ, _*_, _<_, _≤_}
+use Prim.Native.Nat.{ℕ, zero, suc, _*_, _<_, _≤_}
 use native.Mathlib.Omega.{arith}
 use mathlib.Core.Path.{_≡_, refl, subst, subst⁻¹}
 use mathlib.Core.Logic.{inl, inr, ⊎-elim}
@@ -15,19 +15,20 @@ use Rattle.model.specs.Limits.{channels, messagesMost, traceLeast}
 use Rattle.model.specs.Bounded.{lowest}
 use Rattle.model.specs.Refusal.{Out, ok, refusal}
 use Rattle.model.specs.Order.{Event, receiveOf, number, event, Scenario, board}
-use Rattle.model.specs.Channel.{channelOf}
-use Rattle.model.specs.Run.{State, start, Step, send, deliver, consume, next, allowed, isOrderFrom, after, finished, stuck, EndsStuck, CanFinish}
+use Rattle.model.specs.Channel.{Channel, channelOf}
+use Rattle.model.specs.Run.{State, start, Step, next, allowed, isOrderFrom, after, finished, stuck, EndsStuck, CanFinish}
 use Rattle.model.specs.Race.{RaceRule, never, raceRuleOf, escapes, isRace, races, lowestEvent, lowestMessage, lowestRace}
-use Rattle.model.specs.Schedule.{schedule, scheduleFrom, bytesOf}
+use Rattle.model.specs.Schedule.{classesFor, choose, schedule, scheduleFrom, bytesOf}
 use Rattle.model.specs.Answer.{Answer, free, locked, acceptedOf, verdictOf, answerFor, answerOf, traceAfter, numbersOf}
 use Rattle.model.specs.Verdict.{LowestRace, Verdict, PointThree}
 use Rattle.model.proofs.Bounded.{and-left, and-right, which, not-both, any-some, any-none, IsLowest, Found, lowest-found}
 use Rattle.model.proofs.Events.{event-number, below-number}
 use Rattle.model.proofs.Causal.{Causal}
-use Rattle.model.proofs.Accepted.{accepted-causal, accepted-code, accepted-count, accepted-lengths}
+use Rattle.model.proofs.Accepted.{accepted-parts, sheet-causal, sheet-count}
 use Rattle.model.proofs.Phases.{view, view-start}
 use Rattle.model.proofs.Rules.{stuck-unfinished, stuck-forbids}
 use Rattle.model.proofs.Invariants.{inv-start}
+use Rattle.model.proofs.Trace.{bytes-length}
 use Rattle.model.proofs.Suited.{suited}
 use Rattle.model.proofs.Progress.{progress}
 use Rattle.model.proofs.Withholding.{schedule-order, schedule-stuck, course-start}
@@ -43,17 +44,70 @@ race-parts S r e x h =
     let both : (t && b) ≡ true = and-left (t && b) (escapes S r e x) h in
     (eqb-true (board S x) (S .target e) (and-left t b both), and-right t b both, and-right (t && b) (escapes S r e x) h)
 
--- the two bytes of each step
-pub bytes-length : (ts : List Step) → length (bytesOf ts) ≡ 2 * length ts
-unfolding bytesOf
-bytes-length [] = refl
-bytes-length (send m ∷ ts) = omega (arith, bytes-length ts)
-bytes-length (deliver m ∷ ts) = omega (arith, bytes-length ts)
-bytes-length (consume m ∷ ts) = omega (arith, bytes-length ts)
-
 never-escapes : (S : Scenario) (e : ℕ) (x : Event) → escapes S never e x ≡ false
 unfolding escapes
 never-escapes S e x = refl
+
+-- the lowest message that races, and in it the lowest event
+module _ (S : Scenario) (r : RaceRule) where
+  abbrev at : ℕ → ℕ → Bool
+  at e k = isRace S r e (event k)
+
+  -- what the search for the race named found
+  Named : Option (ℕ × ℕ) → Type 0
+  Named none = (e : ℕ) → e < S .count → (k : ℕ) → k < 2 * S .count → isRace S r e (event k) ≡ false
+  Named (some race) =
+      IsLowest (S .count) (races S r) (race .0) × IsLowest (2 * S .count) (at (race .0)) (race .1)
+
+  named : Named (lowestRace S r)
+  unfolding Named lowestRace lowestMessage lowestEvent races
+  named = go (lowest (S .count) (races S r)) (lowest-found (S .count) (races S r))
+    where
+      with-event : (e : ℕ) → IsLowest (S .count) (races S r) e → (o : Option ℕ) → Found (2 * S .count) (at e) o
+          → Named (elim o [ none ↦ none | some x ↦ some (e, x) ])
+      with-event e L none f =
+          let k = any-some (2 * S .count) (at e) (L .passes) in
+          not-both (at e (k .0)) (k .2) (f (k .0) (k .1))
+      with-event e L (some x) f = (L, f)
+
+      go : (o : Option ℕ) → Found (S .count) (races S r) o
+          → Named (elim o [ none ↦ none | some e ↦ elim (lowest (2 * S .count) (at e)) [ none ↦ none | some x ↦ some (e, x) ] ])
+      go none f = λ e l. any-none (2 * S .count) (at e) (f e l)
+      go (some e) L = with-event e L (lowest (2 * S .count) (at e)) (lowest-found (2 * S .count) (at e))
+
+-- the race named is the lowest
+pub race-lowest : (S : Scenario) (code e x : ℕ) → lowestRace S (raceRuleOf code) ≡ some (e, x) → LowestRace S code e x
+unfolding Named races
+race-lowest S code e x i =
+    let r = raceRuleOf code in
+    let found : Named S r (some (e, x)) = subst (Named S r) i (named S r) in
+    record {
+      inScenario = (found .0 .below, found .1 .below);
+      race = found .1 .passes;
+      noLowerMessage = λ g y l h. any-none (2 * S .count) (λ k. isRace S r g (event k)) (found .0 .first g l) y h;
+      noLowerEvent = found .1 .first;
+    }
+
+-- where none is named there is none
+pub race-none : (S : Scenario) → Causal S → (r : RaceRule) → lowestRace S r ≡ none
+    → (e : ℕ) (x : Event) → e < S .count → isRace S r e x ≡ true → ⊥
+unfolding Named
+race-none S C r i e x l h =
+    let found : Named S r none = subst (Named S r) i (named S r) in
+    let inside = below-number x (S .count) .0 (C .inside x (receiveOf e) (race-parts S r e x h .1) .0) in
+    not-both (isRace S r e x) h
+    (subst (λ (z : Event). isRace S r e z ≡ false) (event-number x) (found e l (number x) inside))
+
+-- a schedule has at most as many steps as it may take
+pub schedule-most : (S : Scenario) (c : Channel) (e fuel : ℕ) (s : State) → length (scheduleFrom S c e fuel s) ≤ fuel
+unfolding scheduleFrom
+schedule-most S c e zero s = omega arith
+schedule-most S c e (suc fuel) s = go (choose S c (classesFor S e) s) (schedule-most S c e fuel)
+  where
+    go : (o : Option Step) → ((t : State) → length (scheduleFrom S c e fuel t) ≤ fuel)
+        → length {A = Step} (elim o [ none ↦ [] | some t ↦ t ∷ scheduleFrom S c e fuel (next S s t) ]) ≤ suc fuel
+    go none later = omega arith
+    go (some t) later = omega (arith, later (next S s t))
 
 module _ (S : Scenario) (C : Causal S) (code : ℕ) (known : code < channels) where
   -- the steps of a race's schedule are an order that ends stuck
@@ -79,50 +133,14 @@ module _ (S : Scenario) (C : Causal S) (code : ℕ) (known : code < channels) wh
     isFree : ((e : ℕ) (x : Event) → e < S .count → isRace S (raceRuleOf code) e x ≡ true → ⊥) → Decided free
     isLocked : {e x : ℕ} → LowestRace S code e x → Decided (locked e x (schedule S (channelOf code) e))
 
-  -- the race named is the lowest, and where none is named there is none
-  Named : Option (ℕ × ℕ) → Type 0
-  Named none = (e : ℕ) (x : Event) → e < S .count → isRace S (raceRuleOf code) e x ≡ true → ⊥
-  Named (some race) = LowestRace S code (race .0) (race .1)
-
-  named : Named (lowestRace S (raceRuleOf code))
-  unfolding Named lowestRace lowestMessage lowestEvent races
-  named = go (lowest (S .count) (races S r)) (lowest-found (S .count) (races S r))
-    where
-      r : RaceRule
-      r = raceRuleOf code
-
-      at : ℕ → ℕ → Bool
-      at e k = isRace S r e (event k)
-
-      with-event : (e : ℕ) → IsLowest (S .count) (races S r) e → (o : Option ℕ) → Found (2 * S .count) (at e) o
-          → Named (elim o [ none ↦ none | some x ↦ some (e, x) ])
-      with-event e L none f =
-          let k = any-some (2 * S .count) (at e) (L .passes) in
-          not-both (at e (k .0)) (k .2) (f (k .0) (k .1))
-      with-event e L (some x) f =
-          record {
-            inScenario = (L .below, f .below);
-            race = f .passes;
-            noLowerMessage = λ g y l h. any-none (2 * S .count) (at g) (L .first g l) y h;
-            noLowerEvent = f .first;
-          }
-
-      go : (o : Option ℕ) → Found (S .count) (races S r) o
-          → Named (elim o [ none ↦ none | some e ↦ elim (lowest (2 * S .count) (at e)) [ none ↦ none | some x ↦ some (e, x) ] ])
-      go none f = λ e x l h.
-          not-both (isRace S r e x) h
-          (subst (λ (z : Event). isRace S r e z ≡ false) (event-number x)
-          (any-none (2 * S .count) (at e) (f e l) (number x) (below-number x (S .count) .0 (C .inside x (receiveOf e) (race-parts S r e x h .1) .0))))
-      go (some e) L = with-event e L (lowest (2 * S .count) (at e)) (lowest-found (2 * S .count) (at e))
-
   decided : Decided (verdictOf S code)
-  unfolding Named verdictOf
-  decided = go (lowestRace S (raceRuleOf code)) named
+  unfolding verdictOf
+  decided = go (lowestRace S (raceRuleOf code)) refl
     where
-      go : (o : Option (ℕ × ℕ)) → Named o
+      go : (o : Option (ℕ × ℕ)) → lowestRace S (raceRuleOf code) ≡ o
           → Decided (elim o [ none ↦ free | some race ↦ locked (race .0) (race .1) (schedule S (channelOf code) (race .0)) ])
-      go none quiet = isFree quiet
-      go (some race) L = isLocked L
+      go none i = isFree (race-none S C (raceRuleOf code) i)
+      go (some race) i = isLocked (race-lowest S code (race .0) (race .1) i)
 
   -- a stuck state allows no order but the empty one, and that does not finish
   stuck-goes-nowhere : (φ : ℕ → ℕ) → stuck S (channelOf code) (view S φ) ≡ true → (more : List Step)
@@ -193,7 +211,7 @@ module _ (S : Scenario) (C : Causal S) (code : ℕ) (known : code < channels) wh
   trace-fits a (isFree quiet) trace l = refl
   trace-fits a (isLocked {e = e} L) trace l =
       let ts = schedule S (channelOf code) e in
-      let short : length ts ≤ 3 * S .count = none-longer S (channelOf code) C ts (schedule-order S (channelOf code) e (3 * S .count) start) in
+      let short : length ts ≤ 3 * S .count = schedule-most S (channelOf code) e (3 * S .count) start in
       simp (length-append, length-drop, bytes-length) (omega arith)
 
 -- Point 3, for every text, code, scratch length and trace buffer, with no premise but that the sheet is accepted.
@@ -202,10 +220,10 @@ pub point-three : (text : List ℕ) (code scratchLength : ℕ) (trace : List ℕ
     (traceAfter (answerOf text code scratchLength (length trace)) trace)
 unfolding answerOf answerFor
 point-three text code scratchLength trace S e =
-    let C = accepted-causal text code scratchLength (length trace) S e in
-    let known = accepted-code text code scratchLength (length trace) S e in
+    let a = accepted-parts text code scratchLength (length trace) S e in
+    let C = sheet-causal text S (a .sheet) in
     subst⁻¹ (λ (o : Out Scenario). Verdict S code (numbersOf (answerFor o code)) (traceAfter (answerFor o code) trace)) e
-    (verdict-for S C code known (verdictOf S code) (decided S C code known) trace)
+    (verdict-for S C code (a .codeKnown) (verdictOf S code) (decided S C code (a .codeKnown)) trace)
 
 -- the trace buffer keeps its length, whatever the text: the steps of a schedule always fit the least buffer
 pub trace-kept : (text : List ℕ) (code scratchLength : ℕ) (trace : List ℕ)
@@ -216,8 +234,8 @@ trace-kept text code scratchLength trace = go (acceptedOf text code scratchLengt
     go : (o : Out Scenario) → acceptedOf text code scratchLength (length trace) ≡ o → length (traceAfter (answerFor o code) trace) ≡ length trace
     go (refusal number line) e = refl
     go (ok S) e =
-        let C = accepted-causal text code scratchLength (length trace) S e in
-        let known = accepted-code text code scratchLength (length trace) S e in
-        let count : S .count ≤ messagesMost = accepted-count text code scratchLength (length trace) S e in
-        let long : traceLeast ≤ length trace = accepted-lengths text code scratchLength (length trace) S e .1 in
-        trace-fits S C code known (verdictOf S code) (decided S C code known) trace (omega arith)
+        let a = accepted-parts text code scratchLength (length trace) S e in
+        let C = sheet-causal text S (a .sheet) in
+        let count : S .count ≤ messagesMost = sheet-count text S (a .sheet) in
+        let long : traceLeast ≤ length trace = a .traceEnough in
+        trace-fits S C code (a .codeKnown) (verdictOf S code) (decided S C code (a .codeKnown)) trace (omega arith)

@@ -9,9 +9,10 @@ use Rattle.model.specs.Bounded.{every}
 use Rattle.model.specs.Order.{Event, sendOf, receiveOf, messageOf, Scenario, board}
 use Rattle.model.specs.Channel.{Channel, ToSend, ToDeliver, noEarlierUnderWay, channelEmpty, inOrder, alone}
 use Rattle.model.specs.Run.{State, Step, send, deliver, consume, everyEvent, isAhead, ready, bufferEmpty, boardFree, maySend, mayDeliver, allowed, noStep, finished, stuck}
+use Rattle.model.specs.Schedule.{messageOfStep}
 use Rattle.model.proofs.Bounded.{and-left, and-right, and-both, or-cases, or-left, or-right, which, not-both, not-is-true, every-at, every-from, every-not}
 use Rattle.model.proofs.Causal.{Causal}
-use Rattle.model.proofs.Phases.{equal-or-not, doneAt, view, messageIn}
+use Rattle.model.proofs.Phases.{equal-or-not, doneAt, view}
 
 -- a conjunction that fails, with its first half passed or not
 and-fails : (a b : Bool) → a ≡ true → (a && b) ≡ false → b ≡ false
@@ -321,7 +322,7 @@ module _ (S : Scenario) (c : Channel) (s : State) where
   unfolding stuck
   stuck-unfinished h = not-true (finished S s) (and-left (not (finished S s)) (noStep S c s) h)
 
-pub may-inside : (S : Scenario) (φ : ℕ → ℕ) (c : Channel) (C : Causal S) (t : Step) → May S φ c C t → messageIn t < S .count
+pub may-inside : (S : Scenario) (φ : ℕ → ℕ) (c : Channel) (C : Causal S) (t : Step) → May S φ c C t → messageOfStep t < S .count
 may-inside S φ c C (send m) h = h .inside
 may-inside S φ c C (deliver m) h = h .inside
 may-inside S φ c C (consume m) h = h .inside
@@ -334,12 +335,12 @@ stuck-forbids S φ c C h t a = not-both (allowed S c (view S φ) t) a (not-true 
     on : Step → Bool
     on u = not (allowed S c (view S φ) u)
 
-    at : (on (send (messageIn t)) && on (deliver (messageIn t)) && on (consume (messageIn t))) ≡ true
+    at : (on (send (messageOfStep t)) && on (deliver (messageOfStep t)) && on (consume (messageOfStep t))) ≡ true
     at =
         every-at (S .count) (λ m. on (send m) && on (deliver m) && on (consume m))
-        (and-right (not (finished S (view S φ))) (noStep S c (view S φ)) h) (messageIn t) (may-inside S φ c C t (may-use S φ c C t a))
+        (and-right (not (finished S (view S φ))) (noStep S c (view S φ)) h) (messageOfStep t) (may-inside S φ c C t (may-use S φ c C t a))
 
-    each : (u : Step) → (on (send (messageIn u)) && on (deliver (messageIn u)) && on (consume (messageIn u))) ≡ true → on u ≡ true
+    each : (u : Step) → (on (send (messageOfStep u)) && on (deliver (messageOfStep u)) && on (consume (messageOfStep u))) ≡ true → on u ≡ true
     each (send m) p = and-left (on (send m)) (on (deliver m)) (and-left (on (send m) && on (deliver m)) (on (consume m)) p)
     each (deliver m) p = and-right (on (send m)) (on (deliver m)) (and-left (on (send m) && on (deliver m)) (on (consume m)) p)
     each (consume m) p = and-right (on (send m) && on (deliver m)) (on (consume m)) p

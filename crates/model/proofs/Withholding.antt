@@ -15,6 +15,7 @@ use Rattle.model.specs.Channel.{Channel, ToSend, ToDeliver, alone}
 use Rattle.model.specs.Run.{State, Step, send, deliver, consume, next, allowed, isOrderFrom, after, finished, stuck}
 use Rattle.model.specs.Race.{RaceRule, byEvent, byOrigin, never, origin, escapes, isRace}
 use Rattle.model.specs.Schedule.{
+  messageOfStep,
   Class,
   anyConsume,
   deliveryOf,
@@ -29,7 +30,7 @@ use Rattle.model.specs.Schedule.{
 use Rattle.model.proofs.Bounded.{and-left, and-right, and-both, which, not-both, not-is-true, every-at, every-not, Found, lowest-found}
 use Rattle.model.proofs.Events.{at-or-before-cases, at-or-before-same, at-or-before-before}
 use Rattle.model.proofs.Causal.{Causal}
-use Rattle.model.proofs.Phases.{equal-or-not, doneAt, bump, bump-same, bump-cases, view, messageIn, view-next}
+use Rattle.model.proofs.Phases.{equal-or-not, doneAt, bump, bump-same, bump-cases, view, view-next}
 use Rattle.model.proofs.Rank.{rank, rank-bump, rank-less}
 use Rattle.model.proofs.Rules.{implies, implies-not, finished-use, stuck-on, Waits, Quiet, DeliverRule, may-inside, may-use, deliver-on}
 use Rattle.model.proofs.Invariants.{Inv, Moves, moves, may-phase, newly-is, inv-bump}
@@ -253,7 +254,7 @@ module _ (S : Scenario) (C : Causal S) (c : Channel) (r : RaceRule) (U : Suited 
     module _ (W : Withheld φ) (consumable : (k : ℕ) → k < S .count → φ k ≡ 2 → allowed S c (view S φ) (consume k) ≡ true) where
       Leads : Option Step → Type 0
       Leads none = Unit {0}
-      Leads (some t) = Course (bump φ (messageIn t))
+      Leads (some t) = Course (bump φ (messageOfStep t))
 
       consumes : (m : ℕ) → allowed S c (view S φ) (consume m) ≡ true → Course (bump φ m)
       consumes m a =
@@ -325,14 +326,14 @@ module _ (S : Scenario) (C : Causal S) (c : Channel) (r : RaceRule) (U : Suited 
         moves-on k = not (eqb (φ k) 2) || allowed S c (view S φ) (consume k)
 
     course-next : Course φ → (t : Step) → choose S c (classesFor S e) (view S φ) ≡ some t → allowed S c (view S φ) t ≡ true
-        → Course (bump φ (messageIn t))
+        → Course (bump φ (messageOfStep t))
     unfolding Leads
     course-next K t i a = ⊎-elim (λ W. ⊎-elim (λ h. on W h) jam settle) jam K
       where
-        jam : (d : ℕ) × (y : Event) × Jammed S C c φ d y → Course (bump φ (messageIn t))
-        jam (d, y, J) = inr (d, y, jam-bump S C c φ I eager d y J (messageIn t) (moves S C c φ t (may-use S φ c C t a)))
+        jam : (d : ℕ) × (y : Event) × Jammed S C c φ d y → Course (bump φ (messageOfStep t))
+        jam (d, y, J) = inr (d, y, jam-bump S C c φ I eager d y J (messageOfStep t) (moves S C c φ t (may-use S φ c C t a)))
 
-        on : Withheld φ → ((k : ℕ) → k < S .count → φ k ≡ 2 → allowed S c (view S φ) (consume k) ≡ true) → Course (bump φ (messageIn t))
+        on : Withheld φ → ((k : ℕ) → k < S .count → φ k ≡ 2 → allowed S c (view S φ) (consume k) ≡ true) → Course (bump φ (messageOfStep t))
         on W h = subst (Leads W h) i (withheld-leads W h)
 
     -- where nothing is chosen, no step is allowed
@@ -384,5 +385,5 @@ module _ (S : Scenario) (C : Causal S) (c : Channel) (r : RaceRule) (U : Suited 
           let allow : allowed S c (view S φ) t ≡ true = subst (Lawful S c (view S φ)) i a in
           let M = may-use S φ c C t allow in
           subst⁻¹ (λ (s : State). stuck S c (after S s (scheduleFrom S c e fuel s)) ≡ true) (view-next S φ t (may-phase S C c φ t M))
-          (later (bump φ (messageIn t)) (inv-bump S C c φ I (messageIn t) (moves S C c φ t M)) (course-next φ I K t i allow)
-          (omega (arith, rank-bump (S .count) φ (messageIn t) (may-inside S φ c C t M))))
+          (later (bump φ (messageOfStep t)) (inv-bump S C c φ I (messageOfStep t) (moves S C c φ t M)) (course-next φ I K t i allow)
+          (omega (arith, rank-bump (S .count) φ (messageOfStep t) (may-inside S φ c C t M))))

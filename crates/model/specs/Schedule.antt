@@ -4,6 +4,7 @@ use mathlib.Core.Bool.{Bool, true, _&&_}
 use mathlib.Core.List.{List, [], _∷_}
 use mathlib.Core.Option.{Option, none, some}
 use lib.Dec.{eqb}
+use lib.ListN.{getD}
 use Rattle.model.specs.Bounded.{lowest}
 use Rattle.model.specs.Order.{sendOf, receiveOf, Scenario, atOrBefore}
 use Rattle.model.specs.Channel.{Channel}
@@ -57,9 +58,21 @@ module _ (S : Scenario) (c : Channel) where
   unfoldable pub schedule : ℕ → List Step
   schedule e = scheduleFrom e (3 * S .count) start
 
--- two bytes a step: 0 send, 1 deliver, 2 consume; then the message
+-- The trace holds two bytes a step: 0 send, 1 deliver, 2 consume; then the message.
+abbrev pub kindOf : Step → ℕ
+kindOf (send m) = 0
+kindOf (deliver m) = 1
+kindOf (consume m) = 2
+
+abbrev pub messageOfStep : Step → ℕ
+messageOfStep (send m) = m
+messageOfStep (deliver m) = m
+messageOfStep (consume m) = m
+
 unfoldable pub bytesOf : List Step → List ℕ
 bytesOf [] = []
-bytesOf (send m ∷ ts) = 0 ∷ m ∷ bytesOf ts
-bytesOf (deliver m ∷ ts) = 1 ∷ m ∷ bytesOf ts
-bytesOf (consume m ∷ ts) = 2 ∷ m ∷ bytesOf ts
+bytesOf (t ∷ ts) = kindOf t ∷ messageOfStep t ∷ bytesOf ts
+
+-- the step that two bytes tell; any other kind is no step
+abbrev pub stepTold : ℕ → ℕ → Option Step
+stepTold kind m = getD (some (send m) ∷ some (deliver m) ∷ some (consume m) ∷ []) kind none

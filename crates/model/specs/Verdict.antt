@@ -1,4 +1,5 @@
--- Point 3, as a statement: read from the text, the code and the lengths of the buffers lent. Assumes nothing.
+-- What the check promises: the paper's answer, the buffers at exit, "before" as the paper's relation, and point 3. All of it is read
+-- from the text, the code and the lengths of the buffers lent. Assumes nothing.
 use Prim.Native.Nat.{ℕ, _*_, _<_, _≤_}
 use mathlib.Core.Path.{_≡_}
 use mathlib.Core.Logic.{_↔_, _⊎_}
@@ -6,12 +7,22 @@ use mathlib.Core.Bool.{true, false}
 use mathlib.Core.List.{List}
 use lib.ListN.{length, take}
 use Rattle.model.specs.Refusal.{ok}
-use Rattle.model.specs.Order.{Event, event, Scenario}
+use Rattle.model.specs.Order.{Event, event, Exchange, Before, Scenario}
 use Rattle.model.specs.Channel.{channelOf}
 use Rattle.model.specs.Run.{Step, IsOrder, EndsStuck, EndsFinished, CanFinish}
 use Rattle.model.specs.Race.{raceRuleOf, isRace}
 use Rattle.model.specs.Schedule.{schedule, bytesOf}
-use Rattle.model.specs.Answer.{Numbers, freeWord, lockedWord, acceptedOf}
+use Rattle.model.specs.Answer.{Numbers, freeWord, lockedWord, exchangeMet, acceptedOf, answerOf, numbersOf, scratchBehind, traceAfter}
+
+-- The scenario is what the walk of the text meets: its messages, their boards, and "before" exactly the paper's least transitive
+-- relation over them.
+pub record Meets (text : List ℕ) (S : Scenario) : Type 0 where
+  pub exchange : Exchange
+  pub met : exchangeMet text ≡ ok exchange
+  pub messages : S .count ≡ exchange .count
+  pub sources : (m : ℕ) → S .source m ≡ exchange .source m
+  pub targets : (m : ℕ) → S .target m ≡ exchange .target m
+  pub before : (x y : Event) → (S .before x y ≡ true) ↔ Before exchange x y
 
 -- message e and the event with number x are a race of the code's kind, and no race has a lower e, or e and a lower x
 pub record LowestRace (S : Scenario) (code e x : ℕ) : Type 0 where
@@ -45,3 +56,16 @@ pub record Verdict (S : Scenario) (code : ℕ) (r : Numbers) (trace : List ℕ) 
 abbrev pub PointThree : List ℕ → ℕ → ℕ → ℕ → Numbers → List ℕ → Type 0
 PointThree text code scratchLength traceLength r trace =
     (S : Scenario) → acceptedOf text code scratchLength traceLength ≡ ok S → Verdict S code r trace
+
+-- What a call gives, from what it was lent: the text, the code, and the scratch and the trace at entry.
+pub record Checked (text : List ℕ) (code : ℕ) (scratch scratchExit trace traceExit : List ℕ) (r : Numbers) : Type 0 where
+  -- the answer is the paper's
+  pub answer : r ≡ numbersOf (answerOf text code (length scratch) (length trace))
+  -- refusals 1 and 2 touch neither buffer; behind every other call the first 2,048 scratch words are zero and the rest unchanged
+  pub scratchLeft : scratchExit ≡ scratchBehind (acceptedOf text code (length scratch) (length trace)) scratch
+  -- the trace changes only on locked, in the bytes of the steps counted
+  pub traceLeft : traceExit ≡ traceAfter (answerOf text code (length scratch) (length trace)) trace
+  -- an accepted sheet's scenario is what its walk meets, with "before" the paper's relation
+  pub causalOrder : (S : Scenario) → acceptedOf text code (length scratch) (length trace) ≡ ok S → Meets text S
+  -- point 3, of the numbers answered and the bytes that the trace holds at exit
+  pub pointThree : PointThree text code (length scratch) (length trace) r traceExit

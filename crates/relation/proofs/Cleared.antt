@@ -1,6 +1,6 @@
 -- What `cleared` means: the first words are zero, so the rows there hold nothing, and the rest is as it was.
 -- Assumes nothing.
-use mathlib.Core.Path.{_≡_, ap, _∙_}
+use mathlib.Core.Path.{_≡_, ap, sym, _∙_}
 use mathlib.Core.Bool.{_&&_}
 use mathlib.Core.List.{List, _++_}
 use Prim.Native.Nat.{ℕ, suc, _+_, _-_, _*_, _<_, _≤_}
@@ -8,24 +8,20 @@ use native.Mathlib.Nat.{mul-le-mul-right}
 use native.Mathlib.Decide.{decLe}
 use native.Mathlib.Omega.{arith}
 use lib.Dec.{leb}
-use lib.ListN.{length, getD, drop, replicate, length-append, length-replicate, length-drop, getD-replicate, List·getD-append}
-use lib.Seq.{getD-append-add, getD-drop}
+use lib.ListN.{length, getD, drop, replicate, length-replicate, getD-replicate, List·getD-append}
+use lib.Seq.{getD-append-add, getD-drop, drop-append-add, drop-drop}
 use borrow.Author.Tests.{le-leb, lt-leb}
 use Rattle.relation.specs.Width.{wordBits}
 use Rattle.relation.specs.Rows.{holds, cleared, wordOf, bitOf}
 use Rattle.relation.proofs.Bits.{has-zero}
 use Rattle.relation.proofs.Place.{column-lt}
 
-pub length-cleared : (n : ℕ) (l : List ℕ) → n ≤ length l → length (cleared n l) ≡ length l
-unfolding cleared
-length-cleared n l h = simp (length-append, length-replicate, length-drop) (omega arith)
-
-pub cleared-at : (n : ℕ) (l : List ℕ) (k : ℕ) → k < n → getD (cleared n l) k 0 ≡ 0
+cleared-at : (n : ℕ) (l : List ℕ) (k : ℕ) → k < n → getD (cleared n l) k 0 ≡ 0
 unfolding cleared
 cleared-at n l k h =
     List·getD-append (replicate n 0) (drop n l) 0 k (rw (length-replicate n) h) ∙ getD-replicate n k 0 0 h
 
-pub cleared-beyond : (n : ℕ) (l : List ℕ) (k : ℕ) → n ≤ k → getD (cleared n l) k 0 ≡ getD l k 0
+cleared-beyond : (n : ℕ) (l : List ℕ) (k : ℕ) → n ≤ k → getD (cleared n l) k 0 ≡ getD l k 0
 unfolding cleared
 cleared-beyond n l k h =
     ap (λ (i : ℕ). getD (replicate n 0 ++ drop n l) i 0) at ∙ getD-append-add (replicate n 0) (drop n l) (k - n) 0 ∙ getD-drop n l (k - n) 0
@@ -46,3 +42,14 @@ holds-cleared W l rows y x hx = go (decLe rows y)
         let h : suc y ≤ rows = omega arith in
         rw (cleared-at (rows * W) l (wordOf W y x) (omega (arith, column-lt W x hx, mul-le-mul-right W h)), lt-leb rows y h)
         (has-zero (bitOf x))
+
+-- the first n words were changed and the rest not: with the first k zero, k at least n, that is forgotten
+pub cleared-behind : (k : ℕ) (used l : List ℕ) (n : ℕ) → length used ≡ n → n ≤ k → cleared k (used ++ drop n l) ≡ cleared k l
+unfolding cleared
+cleared-behind k used l n e h =
+    let rest = k - n in
+    let at : length used + rest ≡ k = omega arith in
+    let back : n + rest ≡ k = omega arith in
+    let same : drop k (used ++ drop n l) ≡ drop k l =
+    ap (λ j. drop j (used ++ drop n l)) (sym at) ∙ drop-append-add used (drop n l) rest ∙ drop-drop rest n l ∙ ap (λ j. drop j l) back in
+    ap (λ t. replicate k 0 ++ t) same

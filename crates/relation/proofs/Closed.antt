@@ -1,7 +1,7 @@
 -- An order with one pair more stays transitive, and is the least such; and `inserted` is that order.
 -- Assumes nothing.
 use mathlib.Core.Path.{_≡_, refl, sym, ap, _∙_, subst}
-use mathlib.Core.Bool.{Bool, true, false, _&&_, _||_, and-eq-true-iff, and-comm, and-false, true≢false}
+use mathlib.Core.Bool.{Bool, true, false, not, _&&_, _||_, and-eq-true-iff, and-comm, and-false, or-false, true≢false}
 use mathlib.Core.Logic.{_⊎_, inl, inr, ⊎-elim}
 use mathlib.Core.List.{List}
 use Prim.Native.Nat.{ℕ, _*_, _<_, _≤_}
@@ -13,6 +13,7 @@ use Rattle.model.proofs.Bounded.{or-cases, or-left, or-right}
 use Rattle.relation.specs.Width.{wordBits}
 use Rattle.relation.specs.Rows.{holds, inserted}
 use Rattle.relation.specs.Order.{before, Transitive, Within, Covers, linked}
+use Rattle.relation.proofs.Tests.{both-ways}
 use Rattle.relation.proofs.Inserted.{holds-inserted}
 
 -- what holds of z, and of b by the test r, holds of b where b is z or r is true
@@ -35,7 +36,7 @@ module _ (n : ℕ) (R : ℕ → ℕ → Bool) (x y : ℕ) where
   linked-split a b t =
       ⊎-elim inl (λ both. inr (and-eq-true-iff (eqb a x || R a x) (eqb b y || R y b) .0 both)) (or-cases (R a b) _ t)
 
-  pub linked-transitive : Transitive n R → x < n → y < n → Transitive n (linked R x y)
+  linked-transitive : Transitive n R → x < n → y < n → Transitive n (linked R x y)
   linked-transitive closed hx hy a b c ha hb hc p q =
       ⊎-elim
       (λ ab. ⊎-elim (λ bc. linked-holds a c ha hc (closed a b c ha hb hc ab bc)) (λ w. crossing a c (sooner ab (w .0)) (w .1)) (linked-split b c q))
@@ -63,11 +64,17 @@ module _ (n : ℕ) (R : ℕ → ℕ → Bool) (x y : ℕ) where
       on q ay = same-or (λ (z : ℕ). S a z ≡ true) b y (R y b) q ay (λ yb. closed a y b ha hy hb ay (holdsR y b hy hb yb))
 
 module _ (W n : ℕ) (l : List ℕ) (x y from to : ℕ) (events : n ≤ wordBits * W) (hx : x < n) (hy : y < n) (room : to * W ≤ length l)
-    (covers : Covers W l n y from to) where
+    (covers : Covers W l n y from to) (closed : Transitive n (before W l)) where
+  -- a closed order that has the pair has all that the pair brings
+  linked-already : (a b : ℕ) → a < n → b < n → holds W l y x ≡ true → holds W l b a ≡ linked (before W l) x y a b
+  linked-already a b ha hb xy =
+      both-ways (holds W l b a) (linked (before W l) x y a b) (linked-holds n (before W l) x y a b ha hb)
+      (linked-least n (before W l) x y (before W l) closed (λ a b ha hb t. t) xy hx hy a b ha hb)
+
   pub inserted-linked : (a b : ℕ) → a < n → b < n → before W (inserted W l x y from to) a b ≡ linked (before W l) x y a b
   inserted-linked a b ha hb =
       holds-inserted W l x y from to b a room (omega arith) (omega arith) (omega arith)
-      ∙ ap (λ (t : Bool). holds W l b a || t) (go (leb from b && ltb b to) refl)
+      ∙ by-pair (holds W l y x) refl
     where
       go : (t : Bool) → (leb from b && ltb b to) ≡ t
           → (t && ((eqb b y || holds W l b y) && (eqb a x || holds W l x a))) ≡ ((eqb a x || holds W l x a) && (eqb b y || holds W l b y))
@@ -76,7 +83,13 @@ module _ (W n : ℕ) (l : List ℕ) (x y from to : ℕ) (events : n ≤ wordBits
           let out : (b ≡ y → ⊥) × (holds W l b y ≡ false) = covers b hb (λ p q. true≢false (rw (le-leb from b p, lt-ltb b to q) at e)) in
           rw (ne-eqb b y (out .0), out .1, and-false)
 
-  pub inserted-closed : Transitive n (before W l) → Transitive n (before W (inserted W l x y from to))
-  inserted-closed closed a b c ha hb hc p q =
+      by-pair : (t : Bool) → holds W l y x ≡ t
+          → (holds W l b a || not t && (leb from b && ltb b to && ((eqb b y || holds W l b y) && (eqb a x || holds W l x a))))
+          ≡ linked (before W l) x y a b
+      by-pair true e = or-false (holds W l b a) ∙ linked-already a b ha hb e
+      by-pair false e = ap (λ (t : Bool). holds W l b a || t) (go (leb from b && ltb b to) refl)
+
+  pub inserted-closed : Transitive n (before W (inserted W l x y from to))
+  inserted-closed a b c ha hb hc p q =
       inserted-linked a c ha hc
       ∙ linked-transitive n (before W l) x y closed hx hy a b c ha hb hc (sym (inserted-linked a b ha hb) ∙ p) (sym (inserted-linked b c hb hc) ∙ q)

@@ -1,21 +1,21 @@
--- What `inserted` means, row x among the rows changed or not: each row from .. to - 1 that is y's or holds y has x and row x besides.
+-- What `inserted` means, row x among the rows changed or not: unless x is before y already, each row from .. to - 1 that is y's or
+-- holds y has x and row x besides.
 -- Assumes nothing.
 use mathlib.Core.Path.{_≡_, refl, ap, _∙_}
-use mathlib.Core.Bool.{Bool, true, false, cond, _&&_, _||_, or-false}
+use mathlib.Core.Bool.{Bool, true, false, not, cond, _&&_, _||_, or-false}
 use mathlib.Core.List.{List}
-use Prim.Native.Nat.{ℕ, zero, suc, _+_, _-_, _*_, _/_, _<_, _≤_}
+use Prim.Native.Nat.{ℕ, zero, suc, _+_, _-_, _*_, _<_, _≤_}
 use native.Mathlib.Nat.{mul-le-mul-right}
 use native.Mathlib.Decide.{ℕ-discrete, decLe}
 use native.Mathlib.Omega.{arith}
 use lib.Dec.{eqb, leb, ltb}
-use lib.ListN.{length, getD}
+use lib.ListN.{length}
 use borrow.Author.Tests.{eq-eqb, ne-eqb, lt-ltb, le-ltb, le-leb, lt-leb}
 use Rattle.relation.specs.Width.{wordBits}
 use Rattle.relation.specs.Rows.{holds, marked, joined, behind, insertedAt, insertedIn, inserted}
 use Rattle.relation.proofs.Tests.{ltb-same}
-use Rattle.relation.proofs.Place.{column-lt}
-use Rattle.relation.proofs.Marked.{length-marked, marked-outside, holds-marked}
-use Rattle.relation.proofs.Joined.{length-joined, joined-outside, holds-joined}
+use Rattle.relation.proofs.Marked.{length-marked, holds-marked}
+use Rattle.relation.proofs.Joined.{length-joined, holds-joined}
 
 module _ (W : ℕ) (x y : ℕ) where
   pub length-inserted-at : (l : List ℕ) (r : ℕ) → length (insertedAt W l x y r) ≡ length l
@@ -32,25 +32,6 @@ module _ (W : ℕ) (x y : ℕ) where
   length-inserted-in l from (suc n) = length-inserted-at (insertedIn W l x y from n) (from + n) ∙ length-inserted-in l from n
 
   module _ (hx : x < wordBits * W) where
-    -- a word of no row that is looked at is as it was
-    inserted-at-outside : (l : List ℕ) (r k : ℕ) → ((i : ℕ) → i < W → k ≡ r * W + i → ⊥) → getD (insertedAt W l x y r) k 0 ≡ getD l k 0
-    unfolding insertedAt
-    inserted-at-outside l r k out = go (behind W l y r)
-      where
-        go : (t : Bool) → getD (cond t (marked W (joined W l r x) r x) l) k 0 ≡ getD l k 0
-        go true =
-            marked-outside W (joined W l r x) r x k (out (x / wordBits) (column-lt W x hx))
-            ∙ joined-outside W l r x k out
-        go false = refl
-
-    inserted-in-outside : (l : List ℕ) (from n k : ℕ) → ((r i : ℕ) → from ≤ r → r < from + n → i < W → k ≡ r * W + i → ⊥)
-        → getD (insertedIn W l x y from n) k 0 ≡ getD l k 0
-    unfolding insertedIn
-    inserted-in-outside l from zero k out = refl
-    inserted-in-outside l from (suc n) k out =
-        inserted-at-outside (insertedIn W l x y from n) (from + n) k (λ i. out (from + n) i (omega arith) (omega arith))
-        ∙ inserted-in-outside l from n k (λ r i p q. out r i p (omega arith))
-
     -- one row
     holds-inserted-at : (l : List ℕ) (r b a : ℕ) → r * W + W ≤ length l → a < wordBits * W
         → holds W (insertedAt W l x y r) b a ≡ (holds W l b a || eqb b r && behind W l y r && (eqb a x || holds W l x a))
@@ -156,22 +137,25 @@ module _ (W : ℕ) (x y : ℕ) where
 
 pub length-inserted : (W : ℕ) (l : List ℕ) (x y from to : ℕ) → length (inserted W l x y from to) ≡ length l
 unfolding inserted
-length-inserted W l x y from to = length-inserted-in W x y l from (to - from)
-
--- a word of none of the rows from .. to - 1 is as it was
-pub inserted-outside : (W : ℕ) (l : List ℕ) (x y from to k : ℕ) → x < wordBits * W
-    → ((r i : ℕ) → from ≤ r → r < to → i < W → k ≡ r * W + i → ⊥) → getD (inserted W l x y from to) k 0 ≡ getD l k 0
-unfolding inserted
-inserted-outside W l x y from to k hx out =
-    inserted-in-outside W x y hx l from (to - from) k (λ r i p q. out r i p (omega arith))
+length-inserted W l x y from to = go (holds W l y x)
+  where
+    go : (t : Bool) → length (cond t l (insertedIn W l x y from (to - from))) ≡ length l
+    go true = refl
+    go false = length-inserted-in W x y l from (to - from)
 
 pub holds-inserted : (W : ℕ) (l : List ℕ) (x y from to b a : ℕ) → to * W ≤ length l → x < wordBits * W → y < wordBits * W → a < wordBits * W
     → holds W (inserted W l x y from to) b a
-    ≡ (holds W l b a || leb from b && ltb b to && ((eqb b y || holds W l b y) && (eqb a x || holds W l x a)))
+    ≡ (holds W l b a
+    || not (holds W l y x) && (leb from b && ltb b to && ((eqb b y || holds W l b y) && (eqb a x || holds W l x a))))
 unfolding inserted
-holds-inserted W l x y from to b a room hx hy ha =
-    holds-inserted-in W x y hx hy l from (to - from) rooms b a ha
-    ∙ ap (λ (t : Bool). holds W l b a || t && gains W x y hx hy l from b a) (range W x y hx hy l from to b)
+holds-inserted W l x y from to b a room hx hy ha = go (holds W l y x)
   where
     rooms : (i : ℕ) → i < to - from → (from + i) * W + W ≤ length l
     rooms i h = let g : suc (from + i) ≤ to = omega arith in omega (arith, mul-le-mul-right W g)
+
+    go : (t : Bool) → holds W (cond t l (insertedIn W l x y from (to - from))) b a
+        ≡ (holds W l b a || not t && (leb from b && ltb b to && ((eqb b y || holds W l b y) && (eqb a x || holds W l x a))))
+    go true = rw or-false
+    go false =
+        holds-inserted-in W x y hx hy l from (to - from) rooms b a ha
+        ∙ ap (λ (t : Bool). holds W l b a || t && gains W x y hx hy l from b a) (range W x y hx hy l from to b)

@@ -9,3 +9,4 @@ pub mod Own
 pub mod Closed
 pub mod Scenario
 pub mod Loops
+pub mod Words

@@ -13,43 +13,42 @@ use lib.ListN.{length, getD, set, length-set}
 use borrow.Author.Fill.{fill-none, fill-more}
 use borrow.Author.Tests.{eq-eqb, ne-eqb}
 use Rattle.model.proofs.Bounded.{or-right}
-use Rattle.relation.specs.Rows.{holds, marked, gained, joined, joinedFrom, behind, insertedAt, insertedIn, inserted, cleared, anyOwn}
+use Rattle.relation.specs.Rows.{holds, marked, merged, joined, behind, insertedAt, insertedIn, inserted, cleared, anyOwn}
 use Rattle.relation.proofs.Place.{word-column}
-use Rattle.relation.proofs.Joined.{gained-outside, gained-more}
+use Rattle.relation.proofs.Joined.{merged-outside, merged-more}
 use Rattle.relation.proofs.Inserted.{length-inserted-at}
 use Rattle.relation.proofs.Own.{own-any}
 
--- What the loop of a join keeps: the first n words of the row have gained theirs.
-pub record Joining (W n : ℕ) (l : List ℕ) (a : ℕ) (other : List ℕ) (b : ℕ) (words : List ℕ) : Type 0 where
-  pub exact : words ≡ gained n l a other b
+-- What the loop of a join or a copy keeps: the first n words of the row are merged with theirs.
+pub record Merging (op : ℕ → ℕ → ℕ) (W n : ℕ) (l : List ℕ) (a : ℕ) (other : List ℕ) (b : ℕ) (words : List ℕ) : Type 0 where
+  pub exact : words ≡ merged op n l a other b
   pub long : length words ≡ length l
   pub most : n ≤ W
 
-pub joining-start : (W : ℕ) (l : List ℕ) (a : ℕ) (other : List ℕ) (b : ℕ) → Joining W 0 l a other b l
-unfolding gained
-joining-start W l a other b = record { exact = refl; long = refl; most = omega arith }
+pub merging-start : (op : ℕ → ℕ → ℕ) (W : ℕ) (l : List ℕ) (a : ℕ) (other : List ℕ) (b : ℕ) → Merging op W 0 l a other b l
+unfolding merged
+merging-start op W l a other b = record { exact = refl; long = refl; most = omega arith }
 
-module _ (W n : ℕ) (l : List ℕ) (a : ℕ) (other : List ℕ) (b : ℕ) (words : List ℕ) (j : Joining W n l a other b words) (h : n < W) where
-  pub joining-more : Joining W (n + 1) l a other b (set words (a + n) (bitOr (getD words (a + n) 0) (getD other (b + n) 0)))
-  joining-more = record { exact = rw (j .exact) (gained-more l a other b n); long = simp length-set (j .long); most = omega arith }
+module _ (op : ℕ → ℕ → ℕ) (W n : ℕ) (l : List ℕ) (a : ℕ) (other : List ℕ) (b : ℕ) (words : List ℕ) (j : Merging op W n l a other b words) (h : n < W)
+  where
+    pub merging-more : Merging op W (n + 1) l a other b (set words (a + n) (op (getD words (a + n) 0) (getD other (b + n) 0)))
+    merging-more = record { exact = rw (j .exact) (merged-more op l a other b n); long = simp length-set (j .long); most = omega arith }
+
+pub merging-end : (op : ℕ → ℕ → ℕ) (W n : ℕ) (l : List ℕ) (a : ℕ) (other : List ℕ) (b : ℕ) (words : List ℕ) → Merging op W n l a other b words → W ≤ n
+    → words ≡ merged op W l a other b
+merging-end op W n l a other b words j h = j .exact ∙ ap (λ (m : ℕ). merged op m l a other b) (le-antisymm (j .most) h)
 
 -- the word that a turn takes from row `from` of the same list is still as it was, `from` being `to` or not
-pub joining-own : (W n : ℕ) (l : List ℕ) (to from : ℕ) (words : List ℕ) → Joining W n l (to * W) l (from * W) words → n < W
-    → Joining W (n + 1) l (to * W) l (from * W)
+pub merging-own : (W n : ℕ) (l : List ℕ) (to from : ℕ) (words : List ℕ) → Merging bitOr W n l (to * W) l (from * W) words → n < W
+    → Merging bitOr W (n + 1) l (to * W) l (from * W)
     (set words (to * W + n) (bitOr (getD words (to * W + n) 0) (getD words (from * W + n) 0)))
-joining-own W n l to from words j h = rw (reads) (joining-more W n l (to * W) l (from * W) words j h)
+merging-own W n l to from words j h = rw (reads) (merging-more bitOr W n l (to * W) l (from * W) words j h)
   where
     reads : getD words (from * W + n) 0 ≡ getD l (from * W + n) 0
     reads =
         rw (j .exact)
-        (gained-outside l (to * W) l (from * W) n (from * W + n)
+        (merged-outside bitOr l (to * W) l (from * W) n (from * W + n)
         (λ i g e. let same : n ≡ i = word-column W from to h (omega arith) e in omega arith))
-
-pub joining-end : (W n : ℕ) (l : List ℕ) (to : ℕ) (other : List ℕ) (from : ℕ) (words : List ℕ)
-    → Joining W n l (to * W) other (from * W) words → W ≤ n → words ≡ joinedFrom W l to other from
-unfolding joinedFrom
-joining-end W n l to other from words j h =
-    j .exact ∙ ap (λ (m : ℕ). gained m l (to * W) other (from * W)) (le-antisymm (j .most) h)
 
 -- What the loop of an insert keeps: the rows from .. b - 1 have been looked at.
 pub record Inserting (W : ℕ) (l : List ℕ) (x y from to b : ℕ) (words : List ℕ) : Type 0 where
@@ -63,10 +62,17 @@ unfolding insertedIn
 inserting-start W l x y from to =
     record { exact = rw (sub-self from); long = refl; least = omega arith; most = omega arith }
 
-pub inserting-end : (W : ℕ) (l : List ℕ) (x y from to b : ℕ) (words : List ℕ) → Inserting W l x y from to b words → to ≤ b
+-- the first test finds that all is done, or not
+pub inserting-none : (W : ℕ) (l : List ℕ) (x y from to : ℕ) (r : Bool) → r ≡ holds W l y x → r ≡ true → l ≡ inserted W l x y from to
+unfolding inserted
+inserting-none W l x y from to r e t = rw (sym e ∙ t)
+
+pub inserting-end : (W : ℕ) (l : List ℕ) (x y from to b : ℕ) (words : List ℕ) (r : Bool) → r ≡ holds W l y x → r ≡ false
+    → Inserting W l x y from to b words → to ≤ b
     → words ≡ inserted W l x y from to
 unfolding inserted
-inserting-end W l x y from to b words j h = j .exact ∙ ap (λ (m : ℕ). insertedIn W l x y from m) (omega arith)
+inserting-end W l x y from to b words r e t j h =
+    rw (sym e ∙ t) (j .exact ∙ ap (λ (m : ℕ). insertedIn W l x y from m) (omega arith))
 
 module _ (W : ℕ) (l : List ℕ) (x y from to b : ℕ) (words : List ℕ) (j : Inserting W l x y from to b words) (h : b < to) where
   looked : Inserting W l x y from to (b + 1) (insertedAt W words x y b)

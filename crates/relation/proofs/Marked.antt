@@ -20,11 +20,6 @@ pub length-marked : (W : ℕ) (l : List ℕ) (y x : ℕ) → length (marked W l 
 unfolding marked
 length-marked W l y x = length-set l _ _
 
--- every other word is as it was
-pub marked-outside : (W : ℕ) (l : List ℕ) (y x k : ℕ) → (k ≡ wordOf W y x → ⊥) → getD (marked W l y x) k 0 ≡ getD l k 0
-unfolding marked
-marked-outside W l y x k n = getD-set-other l (wordOf W y x) k _ 0 n
-
 -- not both are equal
 apart : (b y a x : ℕ) → (b ≡ y → a ≡ x → ⊥) → (eqb b y && eqb a x) ≡ false
 apart b y a x n = go (ℕ-discrete b y)

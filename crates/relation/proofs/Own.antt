@@ -1,7 +1,7 @@
 -- What `anyOwn` means: it is true if and only if a row below n holds its own event.
 -- Assumes nothing.
-use mathlib.Core.Path.{_≡_, refl, sym, _∙_}
-use mathlib.Core.Bool.{Bool, true, false, _||_, or-true, false≢true}
+use mathlib.Core.Path.{_≡_}
+use mathlib.Core.Bool.{true, _||_, or-true, false≢true}
 use mathlib.Core.Logic.{⊎-elim}
 use mathlib.Core.List.{List}
 use Prim.Native.Nat.{ℕ, zero, suc, _<_}
@@ -26,10 +26,3 @@ module _ (W : ℕ) (l : List ℕ) where
   any-own (suc n) t =
       ⊎-elim (λ e. let w = any-own n e in (w .0, omega arith, w .2)) (λ h. (n, omega arith, h))
       (or-cases (anyOwn W l n) (holds W l n n) t)
-
-  pub none-own : (n y : ℕ) → anyOwn W l n ≡ false → y < n → holds W l y y ≡ false
-  none-own n y e h = go (holds W l y y) refl
-    where
-      go : (t : Bool) → holds W l y y ≡ t → t ≡ false
-      go true t = sym (own-any n y h t) ∙ e
-      go false t = refl

@@ -27,6 +27,3 @@ module _ (W y b x a : ℕ) (hx : x < wordBits * W) (ha : a < wordBits * W) (same
   place-event e =
       let k : x / wordBits ≡ a / wordBits = word-column W y b (column-lt W x hx) (column-lt W a ha) same in
       omega arith
-
-  pub place-unique : bitOf x ≡ bitOf a → (y ≡ b) × (x ≡ a)
-  place-unique e = (place-row, place-event e)

@@ -27,15 +27,22 @@ holds W words y x = has (getD words (wordOf W y x) 0) (bitOf x)
 unfoldable pub marked : ℕ → List ℕ → ℕ → ℕ → List ℕ
 marked W words y x = set words (wordOf W y x) (bitOr (getD words (wordOf W y x) 0) (2 ^ bitOf x))
 
--- The n words at a gain the bits of the n words of `other` at b.
-unfoldable pub gained : ℕ → List ℕ → ℕ → List ℕ → ℕ → List ℕ
-gained zero words a other b = words
-gained (suc n) words a other b =
-    set (gained n words a other b) (a + n) (bitOr (getD words (a + n) 0) (getD other (b + n) 0))
+-- Each of the n words at a becomes what `op` makes of it and of the word of `other`, from b on, that stands at its place.
+unfoldable pub merged : (ℕ → ℕ → ℕ) → ℕ → List ℕ → ℕ → List ℕ → ℕ → List ℕ
+merged op zero words a other b = words
+merged op (suc n) words a other b =
+    set (merged op n words a other b) (a + n) (op (getD words (a + n) 0) (getD other (b + n) 0))
 
 -- Row `to` gains row `from` of other words.
 unfoldable pub joinedFrom : ℕ → List ℕ → ℕ → List ℕ → ℕ → List ℕ
-joinedFrom W words to other from = gained W words (to * W) other (from * W)
+joinedFrom W words to other from = merged bitOr W words (to * W) other (from * W)
+
+-- Row `to` becomes row `from` of other words.
+abbrev pub theirs : ℕ → ℕ → ℕ
+theirs own other = other
+
+unfoldable pub copiedFrom : ℕ → List ℕ → ℕ → List ℕ → ℕ → List ℕ
+copiedFrom W words to other from = merged theirs W words (to * W) other (from * W)
 
 -- Row `to` gains row `from`.
 unfoldable pub joined : ℕ → List ℕ → ℕ → ℕ → List ℕ
@@ -54,9 +61,9 @@ unfoldable pub insertedIn : ℕ → List ℕ → ℕ → ℕ → ℕ → ℕ →
 insertedIn W words x y from zero = words
 insertedIn W words x y from (suc n) = insertedAt W (insertedIn W words x y from n) x y (from + n)
 
--- Event x is put before event y, among the rows from .. to - 1.
+-- Event x is put before event y, among the rows from .. to - 1. In a closed relation nothing is to be done where it is so already.
 unfoldable pub inserted : ℕ → List ℕ → ℕ → ℕ → ℕ → ℕ → List ℕ
-inserted W words x y from to = insertedIn W words x y from (to - from)
+inserted W words x y from to = cond (holds W words y x) words (insertedIn W words x y from (to - from))
 
 -- The first n words are zero, the rest as they were.
 unfoldable pub cleared : ℕ → List ℕ → List ℕ

@@ -3,7 +3,7 @@ ghost use mathlib.Core.Path.{_≡_};
 ghost use Prim.Native.Nat.{_+_, _*_, _<_, _≤_};
 ghost use lib.ListN.{length};
 ghost use Rattle.relation.specs.Width.{width, wordBits};
-ghost use Rattle.relation.specs.Rows.{holds, marked, joined, joinedFrom, inserted, cleared, anyOwn};
+ghost use Rattle.relation.specs.Rows.{holds, marked, joined, joinedFrom, copiedFrom, inserted, cleared, anyOwn};
 
 // The words of a row. The specs say it once more, as `width`; no other line depends on it.
 pub const WIDTH: usize = 4;
@@ -61,14 +61,34 @@ pub fn join_from(words: &mut [u64], to: usize, other: &[u64], from: usize)
     }
 }
 
-// Event x is put before event y, and so before every event behind y, among the rows from .. to - 1.
+// Row `to` becomes row `from` of other words.
+pub fn copy_from(words: &mut [u64], to: usize, other: &[u64], from: usize)
+    requires { ⌜ to * width + width ≤ length (now words) ⌝ }
+    requires { ⌜ from * width + width ≤ length (now other) ⌝ }
+    ensures { λ _. ⌜ now (words .exit) ≡ copiedFrom width (now (words .entry)) to (now (other .entry)) from ⌝ }
+{
+    let into = to * WIDTH;
+    let out = from * WIDTH;
+    for j in 0..WIDTH {
+        let at = into + j;
+        let seen = out + j;
+        words[at] = other[seen];
+    }
+}
+
+// Event x is put before event y, and so before every event behind y, among the rows from .. to - 1. The relation is kept closed:
+// where x is before y already, that is all done.
 pub fn insert(words: &mut [u64], x: usize, y: usize, from: usize, to: usize)
     requires { ⌜ x * width + width ≤ length (now words) ⌝ }
+    requires { ⌜ y * width + width ≤ length (now words) ⌝ }
     requires { ⌜ to * width ≤ length (now words) ⌝ }
     requires { ⌜ x < wordBits * width ⌝ }
     requires { ⌜ y < wordBits * width ⌝ }
     ensures { λ _. ⌜ now (words .exit) ≡ inserted width (now (words .entry)) x y from to ⌝ }
 {
+    if test(words, y, x) {
+        return;
+    }
     for b in from..to {
         if b == y || test(words, b, y) {
             join(words, b, x);

@@ -1,4 +1,4 @@
-// Printing an answer, for the programs over the check.
+// Printing answers and steps, for the programs over the check.
 use channel_check::ChannelCheckAnswer;
 use libc::STDOUT_FILENO;
 
@@ -34,6 +34,24 @@ pub fn print_answer(a: ChannelCheckAnswer) {
     print(b"\n");
 }
 
+// A line: the code, the word, three numbers.
+fn print_line(text: &[u8], code: u32) {
+    let mut scratch = [0u64; model::SCRATCH_LEAST];
+    let mut trace = [0u8; model::TRACE_LEAST];
+    let a = channel_check::channel_check(text, code, &mut scratch, &mut trace);
+    print_decimal(code);
+    print(b" ");
+    print_answer(a);
+}
+
+// The names line, and a sheet's answer on each channel.
+pub fn print_channels(text: &[u8]) {
+    print(b"channel answer one two three\n");
+    for code in 0..model::CHANNELS {
+        print_line(text, code as u32);
+    }
+}
+
 // A step of the trace, for a technician: 0 send, 1 deliver, 2 consume.
 pub fn print_step(kind: u8, message: u8) {
     if kind == 0 {
@@ -45,4 +63,13 @@ pub fn print_step(kind: u8, message: u8) {
     }
     print_decimal(message as u32);
     print(b"\n");
+}
+
+// The steps that the bytes of a trace tell, one a line.
+pub fn print_steps(trace: &[u8]) {
+    for i in 0..trace.len() / 2 {
+        let at = 2 * i;
+        let behind = at + 1;
+        print_step(trace[at], trace[behind]);
+    }
 }

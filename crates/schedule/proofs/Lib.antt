@@ -1,4 +1,1 @@
-pub mod Classes
-pub mod Held
 pub mod Running
-pub mod Skipped

@@ -1,1 +1,1 @@
-pub mod Bridge
+pub mod Schedule

@@ -1,18 +1,17 @@
 -- What later code uses of the bridge: the columns row by row, and the table sheet by sheet. Assumes nothing.
-use Prim.Native.Char.{code}
 use Prim.Native.Nat.{ℕ, zero, suc, _+_, _-_, _≤_, _<_}
 use native.Mathlib.Nat.{add-zero, sub-zero, suc-sub-suc}
 use native.Mathlib.Omega.{arith}
 use mathlib.Core.Path.{_≡_, refl, sym, _∙_, ap, subst}
 use mathlib.Core.List.{List}
 use lib.ListN.{length, getD, drop}
-use borrow.Author.Tests.{ne-eqb}
 use Rattle.model.specs.Limits.{sheets, rowsMost}
 use Rattle.model.specs.Refusal.{ok, refusal}
-use Rattle.model.specs.Rows.{Row, sheet, message, order, block, call}
+use Rattle.model.specs.Rows.{Row}
 use Rattle.model.specs.Place.{readOf}
 use Rattle.model.proofs.Closure.{cells-at}
-use Rattle.sheet.specs.Bridge.{rowFrom, rowsAt, rowsOf, startIn, startsOf, outcomeOf, storeOf, Sized, KeptOn, ReadAs}
+pub use Rattle.place.proofs.Letters.{row-sheet, row-message, row-order, row-call, row-block}
+use Rattle.sheet.specs.Bridge.{rowsAt, rowsOf, startIn, startsOf, outcomeOf, storeOf, Sized, KeptOn, ReadAs}
 use Rattle.sheet.specs.declared.Verdict.{Verdict}
 use Rattle.sheet.specs.declared.Verdict.the-variants.{Rows, Refused}
 
@@ -29,27 +28,6 @@ rows-drop kind one two (suc j) i zero = let e : 0 ≡ 0 - suc j = omega arith in
 rows-drop kind one two (suc j) i (suc n) =
     let e : suc i + j ≡ i + suc j = omega arith in
     rows-drop kind one two j (suc i) n ∙ rw (e, suc-sub-suc n j)
-
--- the rows by their letters
-pub row-sheet : (k a b : ℕ) → k ≡ code "S" → rowFrom k a b ≡ sheet a
-unfolding rowFrom
-row-sheet k a b e = rw e
-
-pub row-message : (k a b : ℕ) → k ≡ code "M" → rowFrom k a b ≡ message a b
-unfolding rowFrom
-row-message k a b e = rw e
-
-pub row-order : (k a b : ℕ) → k ≡ code "P" → rowFrom k a b ≡ order a b
-unfolding rowFrom
-row-order k a b e = rw e
-
-pub row-call : (k a b : ℕ) → k ≡ code "C" → rowFrom k a b ≡ call a
-unfolding rowFrom
-row-call k a b e = rw e
-
-pub row-block : (k a b : ℕ) → (k ≡ code "S" → ⊥) → (k ≡ code "M" → ⊥) → (k ≡ code "P" → ⊥) → (k ≡ code "C" → ⊥) → rowFrom k a b ≡ block
-unfolding rowFrom
-row-block k a b e f g h = rw (ne-eqb k (code "S") e, ne-eqb k (code "M") f, ne-eqb k (code "P") g, ne-eqb k (code "C") h)
 
 -- the table at a sheet
 pub start-at : (rs : List Row) (n : ℕ) → n < sheets → getD (startsOf rs) n 0 ≡ startIn rs n

@@ -1,10 +1,5 @@
 pub mod Bridge
-pub mod Scan
-pub mod Spans
-pub mod Lines
-pub mod Names
-pub mod Forms
-pub mod Standing
-pub mod Storing
 pub mod Simulation
+pub mod Body
+pub mod Storing
 pub mod Whole

@@ -12,17 +12,19 @@ use lib.ListN.{length, getD, set, replicate, length-set, length-replicate}
 use lib.Seq.{getD-set-same, getD-set-other, ext-getD}
 use Rattle.model.specs.Limits.{sheets, rowsMost}
 use Rattle.model.specs.Bounded.{among}
-use Rattle.model.specs.Refusal.{Out, ok, refusal, andThen, rowRefusal, placeRefusal}
+use Rattle.model.specs.Refusal.{Out, ok, refusal, rowRefusal, placeRefusal}
 use Rattle.model.specs.Text.{Line, Columns}
 use Rattle.model.specs.Rows.{Row, sheet, message, order, block, call, rowOf}
-use Rattle.model.specs.Place.{Place, outside, messageFits, orderFits, moved, isSheet, placed, lineOf, judged, rowsFrom, opens, strayCall, complete}
+use Rattle.model.specs.Place.{Place, outside, messageFits, orderFits, moved, isSheet, placed, lineOf, judged, rowsFrom, opens}
 use Rattle.model.specs.Expansion.{startOf}
 use Rattle.model.proofs.Bounded.{and-left, and-right, not-both}
 use Rattle.model.proofs.Lists.{replicate-at}
 use Rattle.model.proofs.Closure.{cells-length}
 use Rattle.sheet.specs.Bridge.{startIn, startsOf}
 use Rattle.sheet.proofs.Bridge.{start-at}
-use Rattle.sheet.specs.Stand.{Stand, isOpen, mayOpen, movedTo, stoodAt, judgedBy, Kept, aheadOf, readFrom, fresh, strayFrom, completed}
+use Rattle.row.specs.Judged.{judgedBy}
+use Rattle.place.specs.Stand.{Stand, isOpen, mayOpen, movedTo, stoodAt}
+use Rattle.sheet.specs.Reading.{Kept, aheadOf, readFrom, fresh}
 
 -- a sheet has a start exactly when it is among those opened
 abbrev Agree : List ℕ → List ℕ → Type 0
@@ -355,38 +357,29 @@ module _ (k : Kept) (f : Finals 0 (replicate sheets 0) (ok k)) where
       go true e = rw (ne-eqb (startOf n (k .rows)) 0 (some-start (k .rows) n e))
       go false e = refl
 
-stray-same : (starts present : List ℕ) → ((n : ℕ) → isOpen starts n ≡ among n present) → (rs : List Row) (i : ℕ)
-    → strayCall present i rs ≡ strayFrom starts i rs
-unfolding strayCall strayFrom
-stray-same starts present h [] i = refl
-stray-same starts present h (sheet n ∷ rs) i = stray-same starts present h rs (suc i)
-stray-same starts present h (message a b ∷ rs) i = stray-same starts present h rs (suc i)
-stray-same starts present h (order x y ∷ rs) i = stray-same starts present h rs (suc i)
-stray-same starts present h (block ∷ rs) i = stray-same starts present h rs (suc i)
-stray-same starts present h (call n ∷ rs) i = rw (h n, stray-same starts present h rs (suc i))
-
-complete-same : (k : Kept) → Finals 0 (replicate sheets 0) (ok k) → complete (k .rows) ≡ completed k
-unfolding complete completed
-complete-same k f =
-    rw (← open-is k f 0, stray-same (k .starts) (opens (k .rows)) (open-is k f) (k .rows) 0)
-
 empty : (n : ℕ) → false ≡ among n []
 unfolding among
 empty n = refl
 
--- the twin's reading is the model's
-pub read-same : (c : Columns) (ls : List Line) → andThen (rowsFrom c 0 outside ls) complete ≡ andThen (readFrom c 0 fresh ls) completed
-unfolding andThen rowsKept
-read-same c ls =
-    ap (λ (o : Out (List Row)). andThen o complete)
-    (rows-same c ls 0 [] (replicate sheets 0) [] (λ n. fresh-open n ∙ empty n) (length-replicate {A = ℕ} sheets 0) refl)
-    ∙ go (readFrom c 0 fresh ls) (finals c ls 0 (replicate sheets 0) [] (length-replicate {A = ℕ} sheets 0))
-  where
-    go : (o : Out Kept) → Finals 0 (replicate sheets 0) o → andThen (rowsKept o) complete ≡ andThen o completed
-    go (ok k) f = complete-same k f
-    go (refusal number line) f = refl
+-- what the twin reads is what the model reads, and its table has the starts of the sheets that the rows open
+module _ (c : Columns) (ls : List Line) where
+  same-rows : rowsFrom c 0 outside ls ≡ rowsKept (readFrom c 0 fresh ls)
+  same-rows = rows-same c ls 0 [] (replicate sheets 0) [] (λ n. fresh-open n ∙ empty n) (length-replicate {A = ℕ} sheets 0) refl
 
--- and where it has rows, its table has their starts
-pub starts-same : (c : Columns) (ls : List Line) (k : Kept) → readFrom c 0 fresh ls ≡ ok k → k .starts ≡ startsOf (k .rows)
-starts-same c ls k e =
-    starts-of k (subst (λ (o : Out Kept). Finals 0 (replicate sheets 0) o) e (finals c ls 0 (replicate sheets 0) [] (length-replicate {A = ℕ} sheets 0)))
+  pub rows-refused : (number line : ℕ) → readFrom c 0 fresh ls ≡ refusal number line → rowsFrom c 0 outside ls ≡ refusal number line
+  unfolding rowsKept
+  rows-refused number line e = same-rows ∙ ap rowsKept e
+
+  module _ (k : Kept) (e : readFrom c 0 fresh ls ≡ ok k) where
+    pub rows-read : rowsFrom c 0 outside ls ≡ ok (k .rows)
+    unfolding rowsKept
+    rows-read = same-rows ∙ ap rowsKept e
+
+    finals-of : Finals 0 (replicate sheets 0) (ok k)
+    finals-of = subst (λ (o : Out Kept). Finals 0 (replicate sheets 0) o) e (finals c ls 0 (replicate sheets 0) [] (length-replicate {A = ℕ} sheets 0))
+
+    pub starts-same : k .starts ≡ startsOf (k .rows)
+    starts-same = starts-of k finals-of
+
+    pub open-same : (n : ℕ) → isOpen (k .starts) n ≡ among n (opens (k .rows))
+    open-same = open-is k finals-of

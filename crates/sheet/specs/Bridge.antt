@@ -1,29 +1,20 @@
 -- From the reader's data to the model: three columns are rows, a table says where each sheet starts, a verdict is an outcome.
 -- Assumes nothing.
 use Prim.Native.Nat.{ℕ, zero, suc, _≤_}
-use Prim.Native.Char.{code}
 use mathlib.Core.Path.{_≡_}
 use mathlib.Core.Bool.{cond}
 use mathlib.Core.List.{List, [], _∷_}
-use lib.Dec.{eqb}
 use lib.ListN.{length, getD}
 use Rattle.model.specs.Limits.{sheets, rowsMost}
 use Rattle.model.specs.Bounded.{among}
 use Rattle.model.specs.Refusal.{Out, ok, refusal}
-use Rattle.model.specs.Rows.{Row, sheet, message, order, block, call}
+use Rattle.model.specs.Rows.{Row}
 use Rattle.model.specs.Place.{opens, readOf}
 use Rattle.model.specs.Expansion.{startOf}
 use Rattle.model.specs.Order.{cells}
+unfoldable pub use Rattle.place.specs.Letters.{rowFrom}
 use Rattle.sheet.specs.declared.Verdict.{Verdict}
 use Rattle.sheet.specs.declared.Verdict.the-variants.{Rows, Refused}
-
--- the row of a kind, given by its letter, and two numbers; with no other letter it is a B row
-unfoldable pub rowFrom : ℕ → ℕ → ℕ → Row
-rowFrom kind one two =
-    cond (eqb kind (code "S")) (sheet one)
-    (cond (eqb kind (code "M")) (message one two)
-    (cond (eqb kind (code "P")) (order one two)
-    (cond (eqb kind (code "C")) (call one) block)))
 
 -- so many rows of the three columns, from row i on
 unfoldable pub rowsAt : List ℕ → List ℕ → List ℕ → ℕ → ℕ → List Row

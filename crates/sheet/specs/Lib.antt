@@ -1,5 +1,3 @@
 pub mod Bridge
-pub mod Scan
-pub mod Fields
-pub mod Stand
+pub mod Reading
 pub mod Store

@@ -1,17 +1,18 @@
 // The reader of sheet files: any bytes in; the rows, or refusal 3 to 7 with its line, out.
-mod fields;
-mod heading;
-mod limits;
-mod place;
-mod rows;
-
-use crate::heading::Heading;
-use crate::limits::HEADING;
-use crate::limits::LENGTH;
-use crate::limits::ROWS_MOST;
-use crate::limits::SHEETS;
-use crate::limits::TEXT_MOST;
-ghost use Rattle.sheet.specs.Bridge.{ReadAs};
+use heading::Columns;
+use heading::Heading;
+use model::EVENTS_MOST;
+use model::ROWS_MOST;
+use model::SHEETS;
+use row::Step;
+ghost use mathlib.Core.Path.{_≡_};
+ghost use Prim.Native.Nat.{_≤_, _<_};
+ghost use lib.ListN.{length, getD};
+ghost use Rattle.model.specs.Limits.{sheets, rowsMost};
+ghost use Rattle.heading.specs.Names.{Below, columnsFrom};
+ghost use Rattle.place.specs.Stand.{isOpen};
+ghost use Rattle.sheet.specs.Bridge.{storeOf, Sized, ReadAs};
+ghost use Rattle.sheet.specs.Store.{isStray, completeIn, BodyAs};
 
 // So many rows; or the refusal's number and line.
 pub enum Verdict {
@@ -20,6 +21,7 @@ pub enum Verdict {
 }
 
 // Reads a text into three columns of `Rows(count)` rows, and notes at `start[n]` the number of the row behind `S n` (0: no sheet n).
+// Of the columns only these rows are written, so what they are lent with does not matter but for their lengths.
 pub fn read(
     text: &[u8],
     kind: &mut [u8; ROWS_MOST],
@@ -27,17 +29,98 @@ pub fn read(
     two: &mut [u8; ROWS_MOST],
     start: &mut [u16; SHEETS],
 ) -> Verdict
+    requires { ⌜ Sized (storeOf (now kind) (now one) (now two) (now start)) ⌝ }
     ensures { λ r. ⌜ ReadAs (now (text .entry)) (now (kind .exit)) (now (one .exit)) (now (two .exit)) (now (start .exit)) r ⌝ }
 {
     if text.len() == 0 {
-        return Verdict::Refused(LENGTH, 0);
+        return Verdict::Refused(model::LENGTH, 0);
     }
-    if TEXT_MOST < text.len() {
-        return Verdict::Refused(LENGTH, 0);
+    if model::TEXT_MOST < text.len() {
+        return Verdict::Refused(model::LENGTH, 0);
     }
-    let h = heading::heading_of(text);
-    match h {
-        Heading::Unnamed => Verdict::Refused(HEADING, 1),
-        Heading::Named(columns, first) => rows::body(text, first, columns, kind, one, two, start),
+    let Heading::Named(columns, first) = heading::heading_of(text) else {
+        return Verdict::Refused(model::HEADING, 1);
+    };
+    rows(text, first, columns, kind, one, two, start)
+}
+
+// All rows from `first` on, which is behind the heading.
+fn rows(
+    text: &[u8],
+    first: usize,
+    columns: Columns,
+    kind: &mut [u8; ROWS_MOST],
+    one: &mut [u8; ROWS_MOST],
+    two: &mut [u8; ROWS_MOST],
+    start: &mut [u16; SHEETS],
+) -> Verdict
+    requires { ⌜ (first ≤ length (now text)) × Below columns × Sized (storeOf (now kind) (now one) (now two) (now start)) ⌝ }
+    ensures { λ r. ⌜ BodyAs (columnsFrom columns) (now (text .entry)) first (storeOf (now (kind .exit)) (now (one .exit)) (now (two .exit)) (now (start .exit))) r ⌝ }
+{
+    *start = [0u16; SHEETS];
+    let mut boards = [0u8; EVENTS_MOST];
+    let mut at = first;
+    let mut row = 0;
+    let mut messages = 0;
+    while at < text.len() {
+        let s = row::take_row(text, at, row, messages, columns, start, &mut boards);
+        match s {
+            Step::Refused(number) => {
+                return Verdict::Refused(number, row + 2);
+            }
+            Step::Row(k, a, b, next, after) => {
+                kind[row] = k;
+                one[row] = a;
+                two[row] = b;
+                at = next;
+                row += 1;
+                messages = after;
+            }
+        }
     }
+    complete(row, kind, one, start)
+}
+
+// Row i calls a sheet that is not there.
+fn is_stray(kind: &[u8; ROWS_MOST], one: &[u8; ROWS_MOST], start: &[u16; SHEETS], i: usize) -> bool
+    requires { ⌜ (i < rowsMost) × (length (now start) ≡ sheets) ⌝ }
+    ensures { λ r. ⌜ r ≡ isStray (getD (now (kind .entry)) i 0) (getD (now (one .entry)) i 0) (now (start .entry)) ⌝ }
+{
+    if kind[i] == b'C' {
+        !is_open(start, one[i])
+    } else {
+        false
+    }
+}
+
+// Sheet 0 is there, and so is every sheet that is called.
+fn complete(
+    count: usize,
+    kind: &[u8; ROWS_MOST],
+    one: &[u8; ROWS_MOST],
+    start: &[u16; SHEETS],
+) -> Verdict
+    requires { ⌜ (count ≤ rowsMost) × (length (now start) ≡ sheets) ⌝ }
+    ensures { λ r. ⌜ r ≡ completeIn (now (kind .entry)) (now (one .entry)) (now (start .entry)) count ⌝ }
+{
+    if !is_open(start, 0) {
+        return Verdict::Refused(model::ABSENT, 0);
+    }
+    let mut i = 0;
+    while i < count {
+        if is_stray(kind, one, start, i) {
+            return Verdict::Refused(model::ABSENT, i + 2);
+        }
+        i += 1;
+    }
+    Verdict::Rows(count)
+}
+
+// Sheet n is there.
+fn is_open(start: &[u16; SHEETS], n: u8) -> bool
+    requires { ⌜ length (now start) ≡ sheets ⌝ }
+    ensures { λ r. ⌜ r ≡ isOpen (now (start .entry)) n ⌝ }
+{
+    let k = n as usize;
+    if k < SHEETS { start[k] != 0 } else { false }
 }

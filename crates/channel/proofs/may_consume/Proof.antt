@@ -1,7 +1,7 @@
 -- `channel::may_consume` meets its contract: in the buffer, and ready.
 -- Assumes nothing.
 use borrow.Author.Tests.{not-true, not-false}
-use Rattle.channel.proofs.Allowed.{consume-absent, consume-ready}
+use Rattle.channel.proofs.StepTests.{consume-absent, consume-ready}
 use borrow.Author.Needs.{needs}
 use Rattle.channel.proofs.may_consume.Statement.{statement}
 use Rattle.channel.proofs.may_consume.Tie as tie

@@ -3,7 +3,7 @@
 use borrow.Author.Tests.{not-true, not-false}
 use Prim.Native.Nat.{_+_, _*_}
 use native.Mathlib.Omega.{arith}
-use Rattle.channel.proofs.Allowed.{deliver-absent, deliver-unfree, deliver-ruled}
+use Rattle.channel.proofs.StepTests.{deliver-absent, deliver-unfree, deliver-ruled}
 use borrow.Author.Needs.{needs}
 use Rattle.channel.proofs.may_deliver.Statement.{statement}
 use Rattle.channel.proofs.may_deliver.Tie as tie
@@ -31,24 +31,21 @@ returns-2 c =
 add-receive : tie.Need-add-receive
 add-receive c = search needs
 
-shared-slice-read-wide : tie.Need-shared-slice-read-wide
-shared-slice-read-wide c = search needs
-
-wide-requires : tie.Need-wide-requires
-wide-requires c κs = search needs
+board-of-requires : tie.Need-board-of-requires
+board-of-requires c κs = search needs
 
 deliver-rule-requires : tie.Need-deliver-rule-requires
 deliver-rule-requires c κs =
-    let s = c .before .before .before .before .before .before .before .before .before .before in
+    let s = c .before .before .before .before .before .before .before .before .before in
     let target = s .pre .0 .boardsBelow (2 * s .args .m + 1) (omega arith) in
     search needs
 
 returns-3 : tie.Need-returns-3
 returns-3 c =
-    let s = c .before .before .before .before .before .before .before .before .before .before .before in
-    deliver-ruled _ _ _ _ (s .pre .0) _ (s .pre .1) (s .args .c) _ (s .args .receiver) _ _ _ _ (c .deliver-rule .ensures) (not-false _ (c .before .before .before .before .before .if1 .left))
-    (not-false _ (c .before .before .before .if2 .left)) (c .before .before .before .before .before .before .test .ensures)
-    (c .before .before .before .before .board-free .ensures) (c .before .wide .ensures)
+    let s = c .before .before .before .before .before .before .before .before .before .before in
+    deliver-ruled _ _ _ _ (s .pre .0) _ (s .pre .1) (s .args .c) _ (s .args .receiver) _ _ _ _ (c .deliver-rule .ensures) (not-false _ (c .before .before .before .before .if1 .left))
+    (not-false _ (c .before .before .if2 .left)) (c .before .before .before .before .before .test .ensures)
+    (c .before .before .before .board-free .ensures) (c .before .board-of .ensures)
 
 pub may-deliver-spec : {M : Type 1} → statement M
 may-deliver-spec =
@@ -60,7 +57,6 @@ may-deliver-spec =
     board-free-requires
     returns-2
     add-receive
-    shared-slice-read-wide
-    wide-requires
+    board-of-requires
     deliver-rule-requires
     returns-3)

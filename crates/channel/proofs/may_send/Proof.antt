@@ -1,7 +1,7 @@
 -- `channel::may_send` meets its contract: ready, free, and the further condition, in this order.
 -- Assumes nothing.
 use borrow.Author.Tests.{not-true, not-false}
-use Rattle.channel.proofs.Allowed.{send-unready, send-unfree, send-ruled}
+use Rattle.channel.proofs.StepTests.{send-unready, send-unfree, send-ruled}
 use borrow.Author.Needs.{needs}
 use Rattle.channel.proofs.may_send.Statement.{statement}
 use Rattle.channel.proofs.may_send.Tie as tie

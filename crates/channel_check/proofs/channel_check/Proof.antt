@@ -1,6 +1,6 @@
 -- `channel_check::channel_check` meets its contract: the numbers are those of the answer. Assumes nothing.
 use borrow.Author.Needs.{needs}
-use Rattle.channel_check.proofs.Whole.{small-checked, same-numbers}
+use Rattle.channel_check.proofs.Told.{small-checked, same-numbers}
 use Rattle.channel_check.proofs.channel_check.Statement.{statement}
 use Rattle.channel_check.proofs.channel_check.Tie as tie
 

@@ -1,7 +1,7 @@
 -- `channel_check::numbers` meets its contract, answer by answer. Assumes nothing.
 use borrow.Author.Needs.{needs}
 use native.Mathlib.Omega.{arith}
-use Rattle.channel_check.proofs.Parts.{small-locked, small-line, free-numbers, locked-numbers, refused-numbers}
+use Rattle.channel_check.proofs.Told.{small-locked, small-line, free-numbers, locked-numbers, refused-numbers}
 use Rattle.channel_check.proofs.numbers.Statement.{statement}
 use Rattle.channel_check.proofs.numbers.Tie as tie
 

@@ -5,7 +5,7 @@ use native.Mathlib.Omega.{arith}
 use borrow.Author.Needs.{needs}
 use Rattle.model.specs.Limits.{messagesMost}
 use Rattle.relation.proofs.Loops.{Clearing, clearing-start, clearing-more}
-use Rattle.expansion.proofs.Turns.{boards-zero}
+use Rattle.expansion.proofs.Whole.{boards-zero}
 use Rattle.expansion.proofs.clear_boards.Statement.{statement}
 use Rattle.expansion.proofs.clear_boards.Tie as tie
 

@@ -1,103 +1,142 @@
--- `expansion::expand` meets its contract: the walk begins with nothing met, and what it leaves comes to the paper's answer.
--- Assumes nothing.
+-- `expansion::expand` meets its contract: its loop keeps `Walking`. Assumes nothing.
 use native.Mathlib.Omega.{arith}
-use mathlib.Core.Path.{_∙_, ap}
 use borrow.Author.Needs.{needs}
-use Rattle.model.specs.Answer.{expandedOf}
-use Rattle.expansion.proofs.Reading.{start-long}
-use Rattle.expansion.proofs.Cut.{cut-length, cut-rows, cut-read}
-use Rattle.expansion.proofs.Walking.{leaves-as}
-use Rattle.expansion.proofs.Whole.{cleared-all, fresh-ready, answer-stopped, answer-going}
+use Rattle.blocks.specs.Store.{storeOf}
+use Rattle.walk.proofs.Meeting.{leaves-as}
+use Rattle.levels.specs.Levels.{rank}
+use Rattle.levels.proofs.Seeking.{reaches-as}
+use Rattle.expansion.proofs.Reading.{start-long, sheets-lent}
+use Rattle.expansion.proofs.Whole.{Walking, walking-start, walking-stopped, walking-end, block-ready, walking-refused, walking-less, walking-on}
 use Rattle.expansion.proofs.expand.Statement.{statement}
 use Rattle.expansion.proofs.expand.Tie as tie
 
-clear-boards-requires : tie.Need-clear-boards-requires
+abbrev Inv-loop : tie.InvT-loop
+Inv-loop kind one two count start boards₀ words₀ past₀ from₀ level₀ at₀ here₀ boards words past from level at here =
+    Walking kind one two count from level at here (storeOf boards words past)
+
+abbrev μ-loop : tie.MeasureT-loop
+μ-loop kind one two count start boards₀ words₀ past₀ from₀ level₀ at₀ here₀ boards words past from level at here =
+    rank count level at (here .calls)
+
+clear-boards-requires : tie.Need-clear-boards-requires Inv-loop μ-loop
 clear-boards-requires c κs = search needs
 
-mul-clear : tie.Need-mul-clear
-mul-clear c = search needs
+shared-slice-read-at : tie.Need-shared-slice-read-at Inv-loop μ-loop
+shared-slice-read-at c =
+    omega (arith, start-long _ _ _ _ _ (c .before .before .before .before .before .before .before .before .before .before .before .pre .0))
 
-clear-requires : tie.Need-clear-requires
-clear-requires c κs = search needs
-
-shared-slice-read-row : tie.Need-shared-slice-read-row
-shared-slice-read-row c =
-    omega (arith, start-long _ _ _ _ _ (c .before .before .before .before .before .before .before .before .before .before .before .before .before .before .before .pre .0))
-
-cast-row : tie.Need-cast-row
-cast-row c =
+cast-at : tie.Need-cast-at Inv-loop μ-loop
+cast-at c =
     omega (arith, c .shared-slice-known5 .given 0)
 
-slice-aggregate-walk-levels : tie.Need-slice-aggregate-walk-levels
-slice-aggregate-walk-levels c =
-    cut-length _ _ _ _ _ (c .before .before .before .before .before .before .before .before .before .before .before .before .before .before .before .before .pre .0)
+fresh-requires : tie.Need-fresh-requires Inv-loop μ-loop
+fresh-requires c κs = search needs
 
-slice-aggregate-walk-levels-2 : tie.Need-slice-aggregate-walk-levels-2
-slice-aggregate-walk-levels-2 c = search needs
+loop-holds : tie.Need-loop-holds Inv-loop μ-loop
+loop-holds c = search walking-start
 
-walk-levels-requires : tie.Need-walk-levels-requires
-walk-levels-requires c κs =
-    let s = c .before .before .before .before .before .before .before .before .before .before .before .before .before .before .before .before .before .before .before in
-    let z = cleared-all _ _ _ (c .before .before .before .before .before .before .before .before .before .before .before .clear-boards .ensures) (c .before .before .before .before .before .before .before .clear .ensures) (s .pre .1 .1) in
-    let l = cut-read _ _ _ _ _ (s .pre .0) in
-    (l, fresh-ready _ _ _ _ _ l _ _ _ z)
+slice-aggregate-next-block : tie.Need-slice-aggregate-next-block Inv-loop μ-loop
+slice-aggregate-next-block c = search needs
 
-enum-known-number : tie.Need-enum-known-number
+next-block-requires : tie.Need-next-block-requires Inv-loop μ-loop
+next-block-requires c κs =
+    (sheets-lent _ _ _ _ _ (c .before .before .before .before .before .before .before .before .before .before .before .before .before .before .pre .0), c .before .loop .inv .between)
+
+enum-known-number : tie.Need-enum-known-number Inv-loop μ-loop
 enum-known-number c = search needs
 
-enum-known-walk : tie.Need-enum-known-walk
-enum-known-walk c = search needs
-
-without-circle-requires : tie.Need-without-circle-requires
-without-circle-requires c κs =
-    let r = leaves-as (c .before .before .walk .given .1) (c .before .before .before .before .before .before .before .before .before .walk-levels .ensures) .room in
-    (r .wordsLong, r .countMost)
-
-same-length : tie.Need-same-length
+same-length : tie.Need-same-length Inv-loop μ-loop
 same-length c = search needs
 
-same-length-2 : tie.Need-same-length-2
+same-length-2 : tie.Need-same-length-2 Inv-loop μ-loop
 same-length-2 c = search needs
 
-returns : tie.Need-returns
+returns : tie.Need-returns Inv-loop μ-loop
 returns c =
-    let s = c .before .before .before .before .before .before .before .before .before .before .before .before .before .before .before .before .before .before .before .before .before .before .before .before .before .before .before .before in
-    let z = cleared-all _ _ _ (c .before .before .before .before .before .before .before .before .before .before .before .before .before .before .before .before .before .before .before .before .clear-boards .ensures) (c .before .before .before .before .before .before .before .before .before .before .before .before .before .before .before .before .clear .ensures) (s .pre .1 .1) in
-    answer-stopped _ _ _ _ _ (cut-read _ _ _ _ _ (s .pre .0)) _ _ _ z _ _ _ (leaves-as (c .before .number .given .1) (c .before .before .before .before .before .before .before .before .walk-levels .ensures))
-    ∙ ap expandedOf (cut-rows _ _ _ _ _ (s .pre .0))
+    walking-stopped _ _ _ _ _ _ _ _ _ (c .before .before .before .before .before .before .loop .inv) _ _ _ (reaches-as (c .before .number .given .1) (c .before .before .before .before .next-block .ensures))
 
-same-length-3 : tie.Need-same-length-3
+enum-told : tie.Need-enum-told Inv-loop μ-loop
+enum-told c = search needs
+
+without-circle-requires : tie.Need-without-circle-requires Inv-loop μ-loop
+without-circle-requires c κs =
+    let j = c .before .before .before .before .before .before .loop .inv in (j .room .wordsLong, j .room .countMost)
+
+same-length-3 : tie.Need-same-length-3 Inv-loop μ-loop
 same-length-3 c = search needs
 
-same-length-4 : tie.Need-same-length-4
+same-length-4 : tie.Need-same-length-4 Inv-loop μ-loop
 same-length-4 c = search needs
 
-returns-2 : tie.Need-returns-2
+returns-2 : tie.Need-returns-2 Inv-loop μ-loop
 returns-2 c =
-    let s = c .before .before .before .before .before .before .before .before .before .before .before .before .before .before .before .before .before .before .before .before .before .before .before .before .before .before .before .before .before .before in
-    let z = cleared-all _ _ _ (c .before .before .before .before .before .before .before .before .before .before .before .before .before .before .before .before .before .before .before .before .before .before .clear-boards .ensures) (c .before .before .before .before .before .before .before .before .before .before .before .before .before .before .before .before .before .before .clear .ensures) (s .pre .1 .1) in
-    answer-going _ _ _ _ _ (cut-read _ _ _ _ _ (s .pre .0)) _ _ _ z _ _ _ _ (leaves-as (c .before .before .before .walk .given .1) (c .before .before .before .before .before .before .before .before .before .before .walk-levels .ensures)) _
-    (c .without-circle .ensures)
-    ∙ ap expandedOf (cut-rows _ _ _ _ _ (s .pre .0))
+    walking-end _ _ _ _ _ _ _ _ _ (c .before .before .before .before .before .before .before .loop .inv) _ (reaches-as (c .before .before .enum-told .given .1) (c .before .before .before .before .before .next-block .ensures)) _ (c .without-circle .ensures)
+
+enum-known-deep : tie.Need-enum-known-deep Inv-loop μ-loop
+enum-known-deep c = search needs
+
+slice-aggregate-walk-block : tie.Need-slice-aggregate-walk-block Inv-loop μ-loop
+slice-aggregate-walk-block c = search needs
+
+walk-block-requires : tie.Need-walk-block-requires Inv-loop μ-loop
+walk-block-requires c κs =
+    (sheets-lent _ _ _ _ _ (c .before .before .before .before .before .before .before .before .before .before .before .before .before .before .before .before .before .before .before .before .before .before .pre .0) .rows, block-ready _ _ _ _ _ _ _ _ _ (c .before .before .before .before .before .before .before .before .before .loop .inv) _ _ _ _ (reaches-as (c .before .before .before .before .deep .given .1) (c .before .before .before .before .before .before .before .next-block .ensures)))
+
+enum-known-number-2 : tie.Need-enum-known-number-2 Inv-loop μ-loop
+enum-known-number-2 c = search needs
+
+same-length-5 : tie.Need-same-length-5 Inv-loop μ-loop
+same-length-5 c =
+    omega (arith, c .before .before .before .before .before .before .before .before .before .before .before .before .before .before .before .before .before .before .before .before .before .before .before .before .before .before .before .before .before .before .before .pre .1 .0)
+
+same-length-6 : tie.Need-same-length-6 Inv-loop μ-loop
+same-length-6 c =
+    omega (arith, c .before .before .before .before .before .before .before .before .before .before .before .before .before .before .before .before .before .before .before .before .before .before .before .before .before .before .before .before .before .before .before .pre .1 .1)
+
+returns-3 : tie.Need-returns-3 Inv-loop μ-loop
+returns-3 c =
+    walking-refused _ _ _ _ _ _ _ _ _ (c .before .before .before .before .before .before .before .before .before .before .before .before .before .before .before .before .before .before .loop .inv) _ _ _ _ (reaches-as (c .before .before .before .before .before .before .before .before .before .before .before .before .before .deep .given .1) (c .before .before .before .before .before .before .before .before .before .before .before .before .before .before .before .before .next-block .ensures)) _ _ _ (leaves-as (c .before .number2 .given .1) (c .before .before .before .before .before .before .before .before .walk-block .ensures))
+
+enum-known-behind : tie.Need-enum-known-behind Inv-loop μ-loop
+enum-known-behind c = search needs
+
+loop-less : tie.Need-loop-less Inv-loop μ-loop
+loop-less c =
+    walking-less _ _ _ _ _ _ _ _ _ (c .before .before .before .before .before .before .before .before .before .before .before .before .before .before .before .before .before .before .loop .inv) _ _ _ _ (reaches-as (c .before .before .before .before .before .before .before .before .before .before .before .before .before .deep .given .1) (c .before .before .before .before .before .before .before .before .before .before .before .before .before .before .before .before .next-block .ensures)) _ _ _ (leaves-as (c .before .behind .given .1) (c .before .before .before .before .before .before .before .before .walk-block .ensures))
+
+loop-again : tie.Need-loop-again Inv-loop μ-loop
+loop-again c =
+    walking-on _ _ _ _ _ _ _ _ _ (c .before .before .before .before .before .before .before .before .before .before .before .before .before .before .before .before .before .before .loop .inv) _ _ _ _ (reaches-as (c .before .before .before .before .before .before .before .before .before .before .before .before .before .deep .given .1) (c .before .before .before .before .before .before .before .before .before .before .before .before .before .before .before .before .next-block .ensures)) _ _ _ (leaves-as (c .before .behind .given .1) (c .before .before .before .before .before .before .before .before .walk-block .ensures))
 
 pub expand-spec : {M : Type 1} → statement M
 expand-spec =
     tie.close
     (tie.spec
+    Inv-loop
+    μ-loop
     clear-boards-requires
-    mul-clear
-    clear-requires
-    shared-slice-read-row
-    cast-row
-    slice-aggregate-walk-levels
-    slice-aggregate-walk-levels-2
-    walk-levels-requires
+    shared-slice-read-at
+    cast-at
+    fresh-requires
+    loop-holds
+    slice-aggregate-next-block
+    next-block-requires
     enum-known-number
-    enum-known-walk
-    without-circle-requires
     same-length
     same-length-2
     returns
+    enum-told
+    without-circle-requires
     same-length-3
     same-length-4
-    returns-2)
+    returns-2
+    enum-known-deep
+    slice-aggregate-walk-block
+    walk-block-requires
+    enum-known-number-2
+    same-length-5
+    same-length-6
+    returns-3
+    enum-known-behind
+    loop-less
+    loop-again)

@@ -1,15 +1,16 @@
--- `relation::join` meets its contract. The loop keeps `Joining`: the words passed have gained theirs.
+-- `relation::join` meets its contract. The loop keeps `Merging`: the words passed have gained theirs.
 -- Assumes nothing.
 use Prim.Native.Nat.{_-_}
+use lib.Bits.{bitOr}
 use borrow.Author.Needs.{needs}
 use Rattle.relation.specs.Width.{width}
-use Rattle.relation.specs.Rows.{joined}
-use Rattle.relation.proofs.Loops.{Joining, joining-start, joining-end, joining-own}
+use Rattle.relation.specs.Rows.{joined, joinedFrom}
+use Rattle.relation.proofs.Loops.{Merging, merging-start, merging-end, merging-own}
 use Rattle.relation.proofs.join.Statement.{statement}
 use Rattle.relation.proofs.join.Tie as tie
 
 abbrev Inv-loop : tie.InvT-loop
-Inv-loop words₀ to from into out i₀ words i = Joining width i words₀ into words₀ out words
+Inv-loop words₀ to from into out i₀ words i = Merging bitOr width i words₀ into words₀ out words
 
 abbrev μ-loop : tie.MeasureT-loop
 μ-loop words₀ to from into out i₀ words i = width - i
@@ -21,7 +22,7 @@ mul-out : tie.Need-mul-out Inv-loop μ-loop
 mul-out c = search needs
 
 loop-holds : tie.Need-loop-holds Inv-loop μ-loop
-loop-holds c = search joining-start
+loop-holds c = search merging-start
 
 add-at : tie.Need-add-at Inv-loop μ-loop
 add-at c = search needs
@@ -54,14 +55,14 @@ loop-less : tie.Need-loop-less Inv-loop μ-loop
 loop-less c = search needs
 
 loop-again : tie.Need-loop-again Inv-loop μ-loop
-loop-again c = search (joining-own, needs)
+loop-again c = search (merging-own, needs)
 
 same-length : tie.Need-same-length Inv-loop μ-loop
 same-length c = search needs
 
 returns : tie.Need-returns Inv-loop μ-loop
-unfolding joined
-returns c = search joining-end
+unfolding joined joinedFrom
+returns c = search merging-end
 
 pub join-spec : {M : Type 1} → statement M
 join-spec =

@@ -1,14 +1,16 @@
--- `relation::join_from` meets its contract. The loop keeps `Joining`, as that of `join`, over the other words.
+-- `relation::join_from` meets its contract. The loop keeps `Merging`, as that of `join`, over the other words.
 -- Assumes nothing.
 use Prim.Native.Nat.{_-_}
+use lib.Bits.{bitOr}
 use borrow.Author.Needs.{needs}
 use Rattle.relation.specs.Width.{width}
-use Rattle.relation.proofs.Loops.{Joining, joining-start, joining-end, joining-more}
+use Rattle.relation.specs.Rows.{joinedFrom}
+use Rattle.relation.proofs.Loops.{Merging, merging-start, merging-end, merging-more}
 use Rattle.relation.proofs.join_from.Statement.{statement}
 use Rattle.relation.proofs.join_from.Tie as tie
 
 abbrev Inv-loop : tie.InvT-loop
-Inv-loop words₀ to other from into out k₀ words k = Joining width k words₀ into other out words
+Inv-loop words₀ to other from into out k₀ words k = Merging bitOr width k words₀ into other out words
 
 abbrev μ-loop : tie.MeasureT-loop
 μ-loop words₀ to other from into out k₀ words k = width - k
@@ -20,7 +22,7 @@ mul-out : tie.Need-mul-out Inv-loop μ-loop
 mul-out c = search needs
 
 loop-holds : tie.Need-loop-holds Inv-loop μ-loop
-loop-holds c = search joining-start
+loop-holds c = search merging-start
 
 add-at : tie.Need-add-at Inv-loop μ-loop
 add-at c = search needs
@@ -53,13 +55,14 @@ loop-less : tie.Need-loop-less Inv-loop μ-loop
 loop-less c = search needs
 
 loop-again : tie.Need-loop-again Inv-loop μ-loop
-loop-again c = search (joining-more, needs)
+loop-again c = search (merging-more bitOr, needs)
 
 same-length : tie.Need-same-length Inv-loop μ-loop
 same-length c = search needs
 
 returns : tie.Need-returns Inv-loop μ-loop
-returns c = search joining-end
+unfolding joinedFrom
+returns c = search merging-end
 
 pub join-from-spec : {M : Type 1} → statement M
 join-from-spec =

@@ -1,7 +1,7 @@
--- `schedule::schedule` meets its contract: i steps were taken and written. It ends by their number. Assumes nothing.
+-- `schedule::schedule` meets its contract. Assumes nothing.
 use borrow.Author.Needs.{needs}
 use Prim.Native.Nat.{_-_}
-use Rattle.schedule.proofs.Running.{Goes, goes-start, goes-on, goes-stops, goes-ends}
+use Rattle.schedule.proofs.Running.{Goes, goes-start, step-few, step-reaches, goes-on, goes-stops, goes-ends}
 use Rattle.schedule.proofs.schedule.Statement.{statement}
 use Rattle.schedule.proofs.schedule.Tie as tie
 
@@ -23,8 +23,11 @@ loop-holds c = search goes-start
 choose-requires : tie.Need-choose-requires Inv-loop μ-loop
 choose-requires c κs = search needs
 
-is-nothing-requires : tie.Need-is-nothing-requires Inv-loop μ-loop
-is-nothing-requires c κs = search needs
+enum-known-chosen : tie.Need-enum-known-chosen Inv-loop μ-loop
+enum-known-chosen c = search needs
+
+enum-told : tie.Need-enum-told Inv-loop μ-loop
+enum-told c = search needs
 
 same-length : tie.Need-same-length Inv-loop μ-loop
 same-length c = search needs
@@ -33,10 +36,10 @@ returns : tie.Need-returns Inv-loop μ-loop
 returns c = search goes-stops
 
 write-step-requires : tie.Need-write-step-requires Inv-loop μ-loop
-write-step-requires c κs = search needs
+write-step-requires c κs = (search needs, search step-few)
 
-advanced-requires : tie.Need-advanced-requires Inv-loop μ-loop
-advanced-requires c κs = search needs
+next-requires : tie.Need-next-requires Inv-loop μ-loop
+next-requires c κs = search step-reaches
 
 add-i : tie.Need-add-i Inv-loop μ-loop
 add-i c = search needs
@@ -66,11 +69,12 @@ schedule-spec =
     mul-i-end
     loop-holds
     choose-requires
-    is-nothing-requires
+    enum-known-chosen
+    enum-told
     same-length
     returns
     write-step-requires
-    advanced-requires
+    next-requires
     add-i
     loop-less
     loop-again

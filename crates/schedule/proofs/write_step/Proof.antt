@@ -1,6 +1,6 @@
 -- `schedule::write_step` meets its contract. Assumes nothing.
 use borrow.Author.Needs.{needs}
-use Rattle.schedule.proofs.Classes.{two-bytes}
+use Rattle.schedule.proofs.Running.{two-bytes}
 use Rattle.schedule.proofs.write_step.Statement.{statement}
 use Rattle.schedule.proofs.write_step.Tie as tie
 
@@ -10,14 +10,17 @@ mul-at c = search needs
 add-behind : tie.Need-add-behind
 add-behind c = search needs
 
-kind-of-requires : tie.Need-kind-of-requires
-kind-of-requires c κs = search needs
+message-requires : tie.Need-message-requires
+message-requires c κs = search needs
+
+kind-requires : tie.Need-kind-requires
+kind-requires c κs = search needs
 
 slice-write-trace : tie.Need-slice-write-trace
 slice-write-trace c = search needs
 
-message-of-requires : tie.Need-message-of-requires
-message-of-requires c κs = search needs
+cast-trace : tie.Need-cast-trace
+cast-trace c = search needs
 
 slice-write-trace-2 : tie.Need-slice-write-trace-2
 slice-write-trace-2 c = search needs
@@ -34,9 +37,10 @@ write-step-spec =
     (tie.spec
     mul-at
     add-behind
-    kind-of-requires
+    message-requires
+    kind-requires
     slice-write-trace
-    message-of-requires
+    cast-trace
     slice-write-trace-2
     same-length
     returns)

@@ -13,17 +13,17 @@ returns-2 c = search read-long
 heading-of-requires : tie.Need-heading-of-requires
 heading-of-requires c κs = search needs
 
+enum-known-columns : tie.Need-enum-known-columns
+enum-known-columns c = search needs
+
 enum-told : tie.Need-enum-told
 enum-told c = search needs
 
-enum-known-h : tie.Need-enum-known-h
-enum-known-h c = search needs
-
-body-requires : tie.Need-body-requires
-body-requires c κs = search (first-inside, first-below)
-
 returns-3 : tie.Need-returns-3
 returns-3 c = search read-unnamed
+
+rows-requires : tie.Need-rows-requires
+rows-requires c κs = (search first-inside, search first-below, search needs)
 
 returns-4 : tie.Need-returns-4
 returns-4 c = search read-named
@@ -35,8 +35,8 @@ read-spec =
     returns
     returns-2
     heading-of-requires
+    enum-known-columns
     enum-told
-    enum-known-h
-    body-requires
     returns-3
+    rows-requires
     returns-4)

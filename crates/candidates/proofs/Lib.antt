@@ -1,0 +1,2 @@
+pub mod EachClass
+pub mod Skipped

@@ -1,0 +1,256 @@
+-- The messages that the search of a class passes over: rows built word by word, and that a message which is not in the row of
+-- candidates has no allowed step. Assumes nothing.
+use mathlib.Core.Path.{_≡_, refl, sym, ap, _∙_, subst, subst⁻¹}
+use mathlib.Core.Bool.{Bool, true, false, not, _&&_, _||_, and-false}
+use mathlib.Core.List.{List}
+use Prim.Native.Nat.{ℕ, _+_, _-_, _*_, _/_, _%_, _^_, _<_, _≤_}
+use native.Mathlib.Nat.{div-lt-iff-lt-mul, not-suc-le-zero}
+use native.Mathlib.Decide.{ℕ-discrete, decLt}
+use native.Mathlib.Omega.{arith}
+use lib.Bits.{bitAnd}
+use lib.Count.{trailingZeros, trailing-le}
+use lib.Dec.{eqb}
+use lib.ListN.{length, getD, set, length-set}
+use lib.Pow.{pow-add, pow-pos}
+use lib.Seq.{getD-set-same, getD-set-other}
+use borrow.Author.Tests.{eq-eqb, ne-eqb}
+use Rattle.model.specs.Limits.{messagesMost}
+use Rattle.model.specs.Order.{sendOf, number, atOrBefore, Scenario}
+use Rattle.model.specs.Run.{ready, allowed, send, deliver, consume}
+use Rattle.model.specs.Channel as model
+use Rattle.model.proofs.Bounded.{not-both}
+use Rattle.relation.specs.Width.{width, wordBits}
+use Rattle.relation.specs.Rows.{has, holds, marked}
+use Rattle.relation.specs.Scenario.{scenarioIn}
+use Rattle.relation.proofs.Bits.{has-zero}
+use Rattle.relation.proofs.Marked.{holds-marked}
+use Rattle.relation.proofs.Words.{or-left-false, or-right-false, has-and, some-bit, shifted, trailing-clear, alone-row, flipped, has-flipped}
+use Rattle.channel_table.specs.declared.Channel.{Channel}
+use Rattle.channel_table.specs.Table.{channelIn}
+use Rattle.run.specs.declared.Run.{Run}
+use Rattle.run.specs.State.{inRow, bufferOf, stateOf}
+use Rattle.buffers.specs.Held.{HeldAnywhere}
+use Rattle.buffers.proofs.Rows.{in-no-buffer}
+use Rattle.candidates.specs.declared.classes.Class.{Class}
+use Rattle.candidates.specs.declared.classes.Class.the-variants.{AnyConsume, NeededSend, AnySend}
+use Rattle.candidates.specs.Candidates.{fits, Undone, Needed, Candidates, NextIn}
+use Rattle.candidates.proofs.EachClass.{Delivers, if-delivers}
+
+-- a word below 2 ^ n that is not zero has fewer than n of them
+trailing-below : (n w : ℕ) → w < 2 ^ n → (w ≡ 0 → ⊥) → trailingZeros wordBits w < n
+trailing-below n w small z = go (some-bit n w small z)
+  where
+    go : (k : ℕ) × (k < n) × (has w k ≡ true) → trailingZeros wordBits w < n
+    go (k, h, t) = near (decLt k (trailingZeros wordBits w))
+      where
+        near : Dec (k < trailingZeros wordBits w) → trailingZeros wordBits w < n
+        near (yes l) = not-both (has w k) t (trailing-clear wordBits w k l)
+        near (no l) = omega arith
+
+-- The next message in a row: what is left of m's word, and then the words behind it.
+module _ (row : List ℕ) (m : ℕ) where
+  abbrev pub left : ℕ
+  left = getD row (2 * m / wordBits) 0 / 2 ^ (2 * m % wordBits)
+
+  -- a message of m's word is a bit of what is left of it
+  in-rest : (j : ℕ) → m ≤ j → 2 * j / wordBits ≡ 2 * m / wordBits → inRow row (2 * j) ≡ has left (2 * (j - m))
+  in-rest j h word =
+      let bit : 2 * j % wordBits ≡ 2 * m % wordBits + 2 * (j - m) = omega arith in
+      alone-row width row (2 * j) ∙ rw (word, bit) (shifted (getD row (2 * m / wordBits) 0) (2 * m % wordBits) (2 * (j - m)))
+
+  pub next-in-word : getD row (2 * m / wordBits) 0 < 2 ^ wordBits → (left ≡ 0 → ⊥) → NextIn row m (m + trailingZeros wordBits left / 2)
+  next-in-word small z =
+      record {
+        from = omega arith;
+        absent = λ j h l. in-rest j h (omega (arith, few)) ∙ trailing-clear wordBits left (2 * (j - m)) (omega arith);
+      }
+    where
+      split : 2 ^ wordBits ≡ 2 ^ (wordBits - 2 * m % wordBits) * 2 ^ (2 * m % wordBits)
+      split =
+          let all : wordBits ≡ wordBits - 2 * m % wordBits + 2 * m % wordBits = omega arith in
+          ap (λ (n : ℕ). 2 ^ n) all ∙ pow-add 2 (wordBits - 2 * m % wordBits) (2 * m % wordBits)
+
+      few : trailingZeros wordBits left < wordBits - 2 * m % wordBits
+      few =
+          trailing-below (wordBits - 2 * m % wordBits) left
+          (div-lt-iff-lt-mul (pow-pos (2 * m % wordBits)) .1 (subst (λ (n : ℕ). getD row (2 * m / wordBits) 0 < n) split small)) z
+
+  -- what the loop keeps: no message from m on is in the words passed
+  pub record NoneBefore (i : ℕ) : Type 0 where
+    pub clear : (j : ℕ) → m ≤ j → 2 * j < wordBits * i → inRow row (2 * j) ≡ false
+    pub behind : 2 * m ≤ wordBits * i
+    pub most : i ≤ width
+
+  pub none-before : m < messagesMost → left ≡ 0 → NoneBefore (2 * m / wordBits + 1)
+  none-before few z =
+      record {
+        clear = λ j h l. in-rest j h (omega arith) ∙ rw z (has-zero (2 * (j - m)));
+        behind = omega arith;
+        most = omega arith;
+      }
+
+  -- a message of word i, or of one before it
+  in-word : (i j n : ℕ) → NoneBefore i → m ≤ j → 2 * j < wordBits * i + n → n ≤ wordBits
+      → ((k : ℕ) → k < n → has (getD row i 0) k ≡ false) → inRow row (2 * j) ≡ false
+  in-word i j n p h l few clear = go (decLt (2 * j) (wordBits * i))
+    where
+      go : Dec (2 * j < wordBits * i) → inRow row (2 * j) ≡ false
+      go (yes b) = p .clear j h b
+      go (no b) =
+          let word : 2 * j / wordBits ≡ i = omega arith in
+          alone-row width row (2 * j) ∙ rw word (clear (2 * j % wordBits) (omega arith))
+
+  pub none-before-more : (i : ℕ) → NoneBefore i → getD row i 0 ≡ 0 → i < width → NoneBefore (i + 1)
+  none-before-more i p z l =
+      record {
+        clear = λ j h g. in-word i j wordBits p h (omega arith) (omega arith) (λ k b. rw z (has-zero k));
+        behind = omega (arith, p .behind);
+        most = omega arith;
+      }
+
+  pub next-in-row : (i : ℕ) → NoneBefore i → NextIn row m ((wordBits * i + trailingZeros wordBits (getD row i 0)) / 2)
+  next-in-row i p =
+      record {
+        from = omega (arith, p .behind);
+        absent =
+            λ j h l. in-word i j (trailingZeros wordBits (getD row i 0)) p h (omega arith) (trailing-le wordBits (getD row i 0)) (trailing-clear wordBits (getD row i 0));
+      }
+
+  pub next-in-none : (i : ℕ) → NoneBefore i → width ≤ i → NextIn row m messagesMost
+  next-in-none i p l =
+      record { from = omega (arith, p .behind, p .most); absent = λ j h g. p .clear j h (omega arith) }
+
+-- a row whose first i words are those of f, and the rest as they were
+pub record Filled (f : ℕ → ℕ) (row now : List ℕ) (i : ℕ) : Type 0 where
+  pub exact : (j : ℕ) → j < i → getD now j 0 ≡ f j
+  pub kept : (j : ℕ) → i ≤ j → getD now j 0 ≡ getD row j 0
+  pub long : length now ≡ width
+  pub most : i ≤ width
+
+pub filled-start : (f : ℕ → ℕ) (row : List ℕ) → length row ≡ width → Filled f row row 0
+filled-start f row l =
+    record { exact = λ j h. absurd (not-suc-le-zero h); kept = λ j h. refl; long = l; most = omega arith }
+
+pub filled-more : (f : ℕ → ℕ) (row now : List ℕ) (i v : ℕ) → Filled f row now i → v ≡ f i → i < width → Filled f row (set now i v) (i + 1)
+filled-more f row now i v p e h =
+    record {
+      exact = λ j l. go j l (ℕ-discrete j i);
+      kept = λ j l. getD-set-other now i j v 0 (λ s. omega arith) ∙ p .kept j (omega arith);
+      long = simp length-set (p .long);
+      most = omega arith;
+    }
+  where
+    go : (j : ℕ) → j < i + 1 → Dec (j ≡ i) → getD (set now i v) j 0 ≡ f j
+    go j l (yes s) = rw s (getD-set-same now i v 0 (omega (arith, p .long)) ∙ e)
+    go j l (no n) = getD-set-other now i j v 0 n ∙ p .exact j (omega arith)
+
+-- the words of a row in common with one of the relation's
+abbrev pub common : List ℕ → ℕ → List ℕ → ℕ → ℕ
+common words from row j = bitAnd (getD row j 0) (getD words (from + j) 0)
+
+-- a bit of a filled row is that of f's word
+filled-bit : (f : ℕ → ℕ) (row now : List ℕ) (i k : ℕ) → Filled f row now i → width ≤ i → k < wordBits * width
+    → inRow now k ≡ has (f (k / wordBits)) (k % wordBits)
+filled-bit f row now i k p h l =
+    alone-row width now k ∙ ap (λ (w : ℕ). has w (k % wordBits)) (p .exact (k / wordBits) (omega arith))
+
+pub flipped-all : (row now : List ℕ) (i : ℕ) → Filled (flipped row) row now i → width ≤ i → ((j : ℕ) → getD row j 0 < 2 ^ wordBits) → Undone row now
+flipped-all row now i p h small k l clear =
+    alone-row width row k ∙ go (has (getD row (k / wordBits) 0) (k % wordBits)) refl
+  where
+    off : not (has (getD row (k / wordBits) 0) (k % wordBits)) ≡ false
+    off =
+        sym (has-flipped row small k) ∙ sym (filled-bit (flipped row) row now i k p h l) ∙ clear
+
+    go : (b : Bool) → has (getD row (k / wordBits) 0) (k % wordBits) ≡ b → b ≡ true
+    go true e = refl
+    go false e = sym (rw e at off)
+
+pub common-all : (words row kept now : List ℕ) (e i : ℕ) → Filled (common words (2 * e * width) row) row kept i → width ≤ i → e < messagesMost
+    → now ≡ marked width kept 0 (2 * e) → Needed words e row now
+unfolding holds
+common-all words row kept now e i p h few m k l clear = (both, other)
+  where
+    mark-bit : inRow now k ≡ (inRow kept k || eqb k (2 * e))
+    mark-bit = rw m (holds-marked width kept 0 (2 * e) 0 k (omega (arith, p .long)) (omega arith) l)
+
+    neither : (inRow kept k || eqb k (2 * e)) ≡ false
+    neither = sym mark-bit ∙ clear
+
+    both : (inRow row k && holds width words (2 * e) k) ≡ false
+    both =
+        rw (alone-row width row k, ← has-and (getD row (k / wordBits) 0) (getD words (2 * e * width + k / wordBits) 0) (k % wordBits))
+        (sym (filled-bit (common words (2 * e * width) row) row kept i k p h l) ∙ or-left-false (inRow kept k) (eqb k (2 * e)) neither)
+
+    other : k ≡ 2 * e → ⊥
+    other s =
+        let z : true ≡ false = sym (eq-eqb k (2 * e) s) ∙ or-right-false (inRow kept k) (eqb k (2 * e)) neither in
+        absurd (let n : _≡_ {A = ℕ} 0 1 = cc in omega arith)
+
+-- What each return of `candidates` is to show: the step of a message that is not in the row is not allowed.
+module _ (words done way rows : List ℕ) (e : ℕ) (q : Class) (row : List ℕ) where
+  abbrev Left-out : Class → Type 0
+  Left-out k = Candidates words done way rows e k row
+
+  -- the message is not under way
+  module _ (S : Scenario) (c : model.Channel) (run : Run) (m : ℕ) (clear : inRow (run .way) (2 * m) ≡ false) where
+    not-under-way : allowed S c (stateOf run) (deliver m) ≡ false
+    unfolding allowed
+    not-under-way = rw (clear, and-false)
+
+  -- its send is done
+  module _ (S : Scenario) (c : model.Channel) (run : Run) (m : ℕ) (sent : inRow (run .done) (2 * m) ≡ true) where
+    sent-before : allowed S c (stateOf run) (send m) ≡ false
+    unfolding allowed ready number
+    sent-before = rw (sent, and-false)
+
+  -- it is not in its target's buffer
+  module _ (S : Scenario) (c : model.Channel) (run : Run) (m : ℕ) (absent : inRow (bufferOf run (S .target m) .held) (2 * m) ≡ false) where
+    not-held : allowed S c (stateOf run) (consume m) ≡ false
+    unfolding allowed
+    not-held = rw (absent, and-false)
+
+  pub candidates-held : q ≡ AnyConsume → HeldAnywhere rows row → Candidates words done way rows e q row
+  candidates-held i h =
+      subst⁻¹ Left-out i (λ m l clear run d w s count on c. not-held (scenarioIn count on words) (channelIn c) run m (in-no-buffer run rows (2 * m) s (omega arith) (h (2 * m) (omega arith) clear) (getD on (2 * m + 1) 0)))
+
+  pub candidates-delivery : Delivers q → row ≡ way → Candidates words done way rows e q row
+  candidates-delivery t r =
+      if-delivers Left-out q
+      (λ m l clear run d w s count on c. rw (none (scenarioIn count on words) (channelIn c) run m w clear, and-false))
+      (λ m l clear run d w s count on c. rw (none (scenarioIn count on words) (channelIn c) run m w clear, and-false))
+      (λ m l clear run d w s count on c. none (scenarioIn count on words) (channelIn c) run m w clear)
+      t
+    where
+      none : (S : Scenario) (c : model.Channel) (run : Run) (m : ℕ) → run .way ≡ way → inRow row (2 * m) ≡ false → allowed S c (stateOf run) (deliver m) ≡ false
+      none S c run m w clear = not-under-way S c run m (ap (λ (l : List ℕ). inRow l (2 * m)) (w ∙ sym r) ∙ clear)
+
+  -- the send of a message that is not among those left is done
+  sent : (left : List ℕ) → Undone done left → (S : Scenario) (c : model.Channel) (run : Run) (m : ℕ) → run .done ≡ done → m < messagesMost
+      → inRow left (2 * m) ≡ false → allowed S c (stateOf run) (send m) ≡ false
+  sent left u S c run m d l clear =
+      sent-before S c run m (ap (λ (k : List ℕ). inRow k (2 * m)) d ∙ u (2 * m) (omega arith) clear)
+
+  pub candidates-send : q ≡ AnySend → Undone done row → Candidates words done way rows e q row
+  candidates-send i u =
+      subst⁻¹ Left-out i (λ m l clear run d w s count on c. sent row u (scenarioIn count on words) (channelIn c) run m d l clear)
+
+  -- a send that is neither e's nor before it
+  not-needed : (S : Scenario) (m : ℕ) → (2 * m ≡ 2 * e → ⊥) → S .before (sendOf m) (sendOf e) ≡ false → atOrBefore S (sendOf m) (sendOf e) ≡ false
+  unfolding atOrBefore number
+  not-needed S m n b = rw (ne-eqb (2 * m) (2 * e) n, b)
+
+  not-before : (count : ℕ) (on : List ℕ) (m : ℕ) → holds width words (2 * e) (2 * m) ≡ false → scenarioIn count on words .before (sendOf m) (sendOf e) ≡ false
+  unfolding number
+  not-before count on m h = rw (h, and-false)
+
+  pub candidates-needed-send : (left : List ℕ) → q ≡ NeededSend → Undone done left → Needed words e left row → Candidates words done way rows e q row
+  candidates-needed-send left i u n =
+      subst⁻¹ Left-out i (λ m l clear run d w s. go m l (n (2 * m) (omega arith) clear .1) (inRow left (2 * m)) refl (n (2 * m) (omega arith) clear .0) run d)
+    where
+      go : (m : ℕ) → m < messagesMost → (2 * m ≡ 2 * e → ⊥) → (b : Bool) → inRow left (2 * m) ≡ b → (inRow left (2 * m) && holds width words (2 * e) (2 * m)) ≡ false
+          → (run : Run) → run .done ≡ done → (count : ℕ) (on : List ℕ) (c : Channel) → fits count on words c run e NeededSend m ≡ false
+      go m l other true k both run d count on c =
+          rw (not-needed (scenarioIn count on words) m other (not-before count on m (rw k at both)))
+      go m l other false k both run d count on c =
+          rw (sent left u (scenarioIn count on words) (channelIn c) run m d l k, and-false)

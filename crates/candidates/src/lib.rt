@@ -1,0 +1,81 @@
+// The messages that the search of a class looks at: those whose step can be allowed at all.
+mod classes;
+
+ghost use Prim.Native.Nat.{_+_, _*_, _<_, _≤_};
+ghost use lib.ListN.{length};
+ghost use Rattle.model.specs.Limits.{messagesMost};
+ghost use Rattle.relation.specs.Width.{width};
+ghost use Rattle.candidates.specs.Candidates.{Undone, Needed, Candidates, NextIn};
+pub use crate::classes::Class;
+pub use crate::classes::step_of;
+pub use crate::classes::takes;
+use buffers::HELD_WORDS;
+use relation::WIDTH;
+use relation::WORD_BITS;
+
+// The events that are not done.
+fn undone(done: [u64; WIDTH]) -> [u64; WIDTH]
+    ensures { λ r. ⌜ Undone done r ⌝ }
+{
+    let mut rest = done;
+    for i in 0..WIDTH {
+        rest[i] = !rest[i];
+    }
+    rest
+}
+
+// The events of a row that are before e's send, and e's send.
+fn needed(words: &[u64], e: usize, row: [u64; WIDTH]) -> [u64; WIDTH]
+    requires { ⌜ (e < messagesMost) × (2 * e * width + width ≤ length (now words)) ⌝ }
+    ensures { λ r. ⌜ Needed (now (words .entry)) e row r ⌝ }
+{
+    let send = 2 * e;
+    let from = send * WIDTH;
+    let mut kept = row;
+    for i in 0..WIDTH {
+        let at = from + i;
+        kept[i] = kept[i] & words[at];
+    }
+    relation::mark(&mut kept, 0, send);
+    kept
+}
+
+// The messages whose step of the class can be allowed at all, as bits of their sends: in a buffer, under way, or not yet sent.
+pub fn candidates<'a>(
+    words: &[u64],
+    done: &'a [u64; WIDTH],
+    way: &'a [u64; WIDTH],
+    rows: &'a [u64; HELD_WORDS],
+    e: usize,
+    class: Class,
+) -> [u64; WIDTH]
+    requires { ⌜ (e < messagesMost) × (2 * e * width + width ≤ length (now words)) ⌝ }
+    ensures { λ r. ⌜ Candidates (now (words .entry)) (now (done .entry)) (now (way .entry)) (now (rows .entry)) e class r ⌝ }
+{
+    match class {
+        Class::AnyConsume => buffers::held_anywhere(rows),
+        Class::DeliveryOf | Class::NeededDelivery | Class::AnyDelivery => *way,
+        Class::NeededSend => needed(words, e, undone(*done)),
+        Class::AnySend => undone(*done),
+    }
+}
+
+// The next message from m on with a bit in the row, its send's or its receive's; where there is none, the most messages.
+pub fn next_in(row: &[u64], m: usize) -> usize
+    requires { ⌜ (m < messagesMost) × (width ≤ length (now row)) ⌝ }
+    ensures { λ r. ⌜ NextIn (now (row .entry)) m r ⌝ }
+{
+    let send = 2 * m;
+    let at = send / WORD_BITS;
+    let rest = row[at] >> (send % WORD_BITS);
+    if rest != 0 {
+        return m + u64::trailing_zeros(rest) as usize / 2;
+    }
+    for i in at + 1..WIDTH {
+        let word = row[i];
+        if word != 0 {
+            return (WORD_BITS * i + u64::trailing_zeros(word) as usize) / 2;
+        }
+    }
+    model::MESSAGES_MOST
+}

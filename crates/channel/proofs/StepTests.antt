@@ -1,0 +1,112 @@
+-- A step is allowed: the tests of the code, one behind the other, are the model's. Assumes nothing.
+use mathlib.Core.Path.{_≡_, refl, ap, subst⁻¹}
+use mathlib.Core.Bool.{Bool, true, false}
+use mathlib.Core.List.{List}
+use Prim.Native.Nat.{ℕ, _+_, _*_, _<_, _≤_}
+use native.Mathlib.Omega.{arith}
+use lib.ListN.{getD}
+use borrow.Author.Tests.{lt-ltb, le-ltb}
+use Rattle.model.specs.Order.{Scenario}
+use Rattle.model.specs.Channel as model
+use Rattle.model.specs.Run as model-run
+use Rattle.model.specs.Run.{State, send, deliver, consume, allowed}
+use Rattle.model.specs.Schedule.{messageOfStep}
+use Rattle.model.proofs.Events.{send-event, receive-event}
+use Rattle.relation.specs.Width.{width}
+use Rattle.relation.specs.Rows.{holds}
+use Rattle.relation.specs.Scenario.{scenarioIn}
+use Rattle.channel_table.specs.declared.Channel.{Channel}
+use Rattle.channel_table.specs.Table.{channelIn}
+use Rattle.board.specs.Masks.{Standing}
+use Rattle.run.specs.declared.Buffer.{Buffer}
+use Rattle.run.specs.declared.Run.{Run}
+use Rattle.step.specs.declared.Step.{Step}
+use Rattle.step.specs.declared.Step.the-variants.{Send, Deliver, Consume}
+use Rattle.step.specs.Steps.{stepIn, messageIn}
+use Rattle.run.specs.State.{inRow, stateOf}
+use Rattle.rules.specs.Tests.{freeIn}
+use Rattle.rules.specs.Rules.{SaysReady, SaysSendRule, SaysDeliverRule}
+use Rattle.rules.proofs.Conditions.{free-says}
+use Rattle.channel.specs.Steps.{Says, SaysStep}
+
+module _ (count : ℕ) (on words masks : List ℕ) (standing : Standing count on words masks) (m : ℕ) (inside : m < count) where
+  module _ (c : Channel) (way : List ℕ) (buffer : Buffer) where
+    module _ (done : List ℕ) where
+      pub send-unready : (r : Bool) → r ≡ false → SaysReady count on words done (2 * m) r → SaysStep count on words c done way buffer (Send m) false
+      unfolding allowed
+      send-unready r f h run d w b = rw (lt-ltb m count inside, ← send-event m, ← h run d, f)
+
+      pub send-unfree : (r t : Bool) → r ≡ true → t ≡ false → SaysReady count on words done (2 * m) r → t ≡ freeIn (c .eager) masks (buffer .held)
+          → SaysStep count on words c done way buffer (Send m) false
+      unfolding allowed
+      send-unfree r t p f h g run d w b =
+          rw (lt-ltb m count inside, ← send-event m, ← h run d, p, ← free-says count on words masks standing (channelIn c) run (getD on (2 * m) 0) buffer b, ← g, f)
+
+      pub send-ruled : (r t u : Bool) → SaysSendRule words masks (c .«to_send») way m u → r ≡ true → t ≡ true
+          → SaysReady count on words done (2 * m) r → t ≡ freeIn (c .eager) masks (buffer .held) → SaysStep count on words c done way buffer (Send m) u
+      unfolding allowed
+      send-ruled r t u k p q h g run d w b =
+          rw (lt-ltb m count inside, ← send-event m, ← h run d, p, ← free-says count on words masks standing (channelIn c) run (getD on (2 * m) 0) buffer b, ← g, q)
+          (k count on standing inside (channelIn c) run refl w)
+
+    under : (run : Run) → run .way ≡ way → inRow (run .way) (2 * m) ≡ holds width way 0 (2 * m)
+    under run w = ap (λ (l : List ℕ). inRow l (2 * m)) w
+
+    pub deliver-absent : (r : Bool) → r ≡ false → r ≡ holds width way 0 (2 * m) → (done : List ℕ) → SaysStep count on words c done way buffer (Deliver m) false
+    unfolding allowed
+    deliver-absent r f e done run d w b = rw (lt-ltb m count inside, under run w, ← e, f)
+
+    pub deliver-unfree : (r t : Bool) → r ≡ true → t ≡ false → r ≡ holds width way 0 (2 * m) → t ≡ freeIn (c .eager) masks (buffer .held)
+        → (done : List ℕ) → SaysStep count on words c done way buffer (Deliver m) false
+    unfolding allowed
+    deliver-unfree r t p f e g done run d w b =
+        rw (lt-ltb m count inside, under run w, ← e, p, ← free-says count on words masks standing (channelIn c) run (getD on (2 * m + 1) 0) buffer b, ← g, f)
+
+    pub deliver-ruled : (r t u : Bool) (target : ℕ) → SaysDeliverRule words masks (c .«to_deliver») way target m u → r ≡ true → t ≡ true
+        → r ≡ holds width way 0 (2 * m) → t ≡ freeIn (c .eager) masks (buffer .held) → target ≡ getD on (2 * m + 1) 0
+        → (done : List ℕ) → SaysStep count on words c done way buffer (Deliver m) u
+    unfolding allowed
+    deliver-ruled r t u target k p q e g i done run d w b =
+        rw (lt-ltb m count inside, under run w, ← e, p, ← free-says count on words masks standing (channelIn c) run (getD on (2 * m + 1) 0) buffer b, ← g, q)
+        (k count on standing inside i (channelIn c) run refl w)
+
+  module _ (done : List ℕ) (buffer : Buffer) where
+    pub consume-absent : (r : Bool) → r ≡ false → r ≡ holds width (buffer .held) 0 (2 * m) → (c : Channel) (way : List ℕ) → SaysStep count on words c done way buffer (Consume m) false
+    unfolding allowed
+    consume-absent r f e c way run d w b = rw (lt-ltb m count inside, b, ← e, f)
+
+    pub consume-ready : (r u : Bool) → SaysReady count on words done (2 * m + 1) u → r ≡ true → r ≡ holds width (buffer .held) 0 (2 * m)
+        → (c : Channel) (way : List ℕ) → SaysStep count on words c done way buffer (Consume m) u
+    unfolding allowed
+    consume-ready r u h p e c way run d w b = rw (lt-ltb m count inside, b, ← e, p, ← receive-event m) (h run d)
+
+-- The step at hand is one of the three: so is its message.
+pub inside : (at : ℕ → Step) (step : Step) (m count : ℕ) → step ≡ at m → messageIn step < count → messageIn (at m) < count
+inside at step m count i h = rw i at h
+
+module _ (count : ℕ) (on words : List ℕ) (c : Channel) (step : Step) (m : ℕ) (done way : List ℕ) (buffer : Buffer) (r : Bool) where
+  pub step-sends : step ≡ Send m → SaysStep count on words c done way buffer (Send m) r → SaysStep count on words c done way buffer step r
+  step-sends i = subst⁻¹ (λ (s : Step). SaysStep count on words c done way buffer s r) i
+
+  pub step-delivers : step ≡ Deliver m → ((d : List ℕ) → SaysStep count on words c d way buffer (Deliver m) r)
+      → SaysStep count on words c done way buffer step r
+  step-delivers i h = subst⁻¹ (λ (s : Step). SaysStep count on words c done way buffer s r) i (h done)
+
+  pub step-consumes : step ≡ Consume m → ((k : Channel) (w : List ℕ) → SaysStep count on words k done w buffer (Consume m) r)
+      → SaysStep count on words c done way buffer step r
+  step-consumes i h = subst⁻¹ (λ (s : Step). SaysStep count on words c done way buffer s r) i (h c way)
+
+-- its message, as it is read
+pub known : (step : Step) (m count : ℕ) → m ≡ messageIn step → m < count → messageIn step < count
+known step m count e h = omega arith
+
+-- no step on a message that the scenario has not is allowed
+pub unknown-step : (S : Scenario) (c : model.Channel) (s : State) (t : model-run.Step) → S .count ≤ messageOfStep t → false ≡ allowed S c s t
+unfolding allowed
+unknown-step S c s (send m) h = rw (le-ltb m (S .count) h)
+unknown-step S c s (deliver m) h = rw (le-ltb m (S .count) h)
+unknown-step S c s (consume m) h = rw (le-ltb m (S .count) h)
+
+pub unknown : (count : ℕ) (on words : List ℕ) (c : Channel) (run : Run) (step : Step) (m : ℕ) → m ≡ messageIn step → count ≤ m
+    → Says count on words c run step false
+unknown count on words c run step m e h = unknown-step (scenarioIn count on words) (channelIn c) (stateOf run) (stepIn step) (omega arith)

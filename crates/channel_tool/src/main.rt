@@ -1,0 +1,31 @@
+// For a technician: the check at the command line, a word a call. The sheet comes from standard input.
+mod arguments;
+mod steps;
+
+use libc::STDERR_FILENO;
+use libc::STDIN_FILENO;
+
+// One byte more than a text may have: a longer input is then seen to be too long.
+const MOST: usize = model::TEXT_MOST + 1;
+
+// What the program expects, to standard error. A program has no exit status to give.
+fn print_usage() {
+    io::write_all(STDERR_FILENO, b"usage: channel_tool check < SHEET\n");
+    io::write_all(STDERR_FILENO, b"       channel_tool steps CODE < SHEET\n");
+}
+
+fn main() {
+    let mut space = [0u8; arguments::WORD_MOST];
+    let length = os::arg(1, &mut space);
+    let mut text = [0u8; MOST];
+    let word = &space[..length];
+    if check::same(word, b"check") {
+        let n = io::read_full(STDIN_FILENO, &mut text);
+        report::print_channels(&text[..n]);
+    } else if check::same(word, b"steps") {
+        let n = io::read_full(STDIN_FILENO, &mut text);
+        steps::print(&text[..n], arguments::code(2));
+    } else {
+        print_usage();
+    }
+}

@@ -1,0 +1,3 @@
+mod Steps
+pub mod Seeking
+pub mod Closing

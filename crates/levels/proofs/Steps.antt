@@ -1,0 +1,228 @@
+-- What each row between two blocks does to what is left to walk. Assumes nothing.
+use Prim.Native.Nat.{ℕ, zero, suc, _+_, _-_, _*_, _<_, _≤_}
+use native.Mathlib.Decide.{decLt}
+use native.Mathlib.Numerals.{add-one}
+use native.Mathlib.Omega.{arith}
+use mathlib.Core.Path.{_≡_, refl, sym, _∙_, ap, ap₂}
+use mathlib.Core.Bool.{Bool, true, false}
+use mathlib.Core.List.{List, _∷_}
+use lib.Dec.{ltb}
+use lib.ListN.{length, getD, set}
+use lib.Seq.{getD-set-same, getD-set-other}
+use borrow.Author.Tests.{lt-ltb, le-ltb}
+use Rattle.model.specs.Limits.{levels, callsMost}
+use Rattle.model.specs.Refusal.{Out, ok, refusal, andThen, depthRefusal, callsRefusal}
+use Rattle.model.specs.Rows.{Row, sheet, block, call}
+use Rattle.model.specs.Place.{lineOf}
+use Rattle.model.specs.Expansion.{Progress, startOf, blockOpened, callMade, walkRows, callAt}
+use Rattle.model.specs.Order.{Scenario}
+use Rattle.relation.specs.Width.{width}
+use Rattle.sheet.specs.Bridge.{rowFrom, rowsOf}
+use Rattle.sheet.proofs.Bridge.{row-sheet, row-call, row-block}
+use Rattle.blocks.specs.Store.{Store, storeOps, passed, passedIn, concluded}
+use Rattle.walk.specs.Block.{rowsFrom}
+use Rattle.walk.proofs.Meeting.{rows-next, rows-end, rows-drop}
+use Rattle.levels.specs.Levels.{letterAt, rowsWalked, after, idle, rest}
+
+-- three parts, one after another
+then-then : {C : Type 0} (o : Out (Progress Store)) (f : Progress Store → Out (Progress Store)) (g : Progress Store → Out C)
+    → andThen (andThen o f) g ≡ andThen o (λ s. andThen (f s) g)
+unfolding andThen
+then-then (ok s) f g = refl
+then-then (refusal number line) f g = refl
+
+then-alike : {A C : Type 0} (o : Out A) (f g : A → Out C) → ((s : A) → f s ≡ g s) → andThen o f ≡ andThen o g
+unfolding andThen
+then-alike (ok s) f g h = h s
+then-alike (refusal number line) f g h = refl
+
+-- no event is past where there is none
+pub passed-none : (W : ℕ) (past events words : List ℕ) (n : ℕ) → passed W past events words n n ≡ past
+unfolding passed passedIn
+passed-none W past events words n = let e : n - n ≡ 0 = omega arith in rw e
+
+-- an empty block that is closed changes nothing
+empty-opened : (calls met : ℕ) (t : Store) → blockOpened storeOps (idle calls met t) ≡ idle calls met t
+unfolding blockOpened storeOps
+empty-opened calls met t =
+    ap (λ (p : List ℕ). record {
+      walk = record { calls = calls; first = met; count = met };
+      kept = record { events = t .events; words = t .words; past = p };
+    }) (passed-none width (t .past) (t .events) (t .words) (2 * met))
+
+-- what the letter says of the row
+module _ (kind : List ℕ) (count i letter : ℕ) (read : letter ≡ letterAt kind count i) where
+  pub row-there : (letter ≡ 83 → ⊥) → i < count
+  unfolding letterAt
+  row-there n = go (decLt i count)
+    where
+      go : Dec (i < count) → i < count
+      go (yes h) = h
+      go (no m) = absurd (n (rw (le-ltb i count (omega arith)) at read))
+
+  pub row-letter : i < count → getD kind i 0 ≡ letter
+  unfolding letterAt
+  row-letter h = sym (rw (lt-ltb i count h) at read)
+
+pub letter-inside : (kind : List ℕ) (count i : ℕ) → i < count → getD kind i 0 ≡ letterAt kind count i
+unfolding letterAt
+letter-inside kind count i h = rw (lt-ltb i count h)
+
+pub letter-behind : (kind : List ℕ) (count i : ℕ) → count ≤ i → 83 ≡ letterAt kind count i
+unfolding letterAt
+letter-behind kind count i h = rw (le-ltb i count h)
+
+module _ (kind one two : List ℕ) (count : ℕ) where
+  abbrev file : List Row
+  file = rowsOf kind one two count
+
+  abbrev rowAt : ℕ → Row
+  rowAt i = rowFrom (getD kind i 0) (getD one i 0) (getD two i 0)
+
+  pub next-line : (i : ℕ) → suc (lineOf i) ≡ lineOf (i + 1)
+  next-line i = omega arith
+
+  -- the rows from a row of the file on, by what it is
+  walked-as : (left i : ℕ) (s : Progress Store) (r : Row) → i < count → rowAt i ≡ r
+      → rowsWalked kind one two count left i s
+      ≡ walkRows storeOps (callAt storeOps left file) (r ∷ rowsFrom kind one two count (i + 1)) (lineOf i) s
+  walked-as left i s r h e =
+      ap (λ (rs : List Row). walkRows storeOps (callAt storeOps left file) rs (lineOf i) s)
+      (rows-next kind one two count i h ∙ ap (λ (r : Row). r ∷ rowsFrom kind one two count (i + 1)) e)
+
+  module _ (i letter : ℕ) (read : letter ≡ letterAt kind count i) where
+    -- at an S, and behind the last row, the rows at a level end
+    sheet-over : letter ≡ 83 → (left : ℕ) (s : Progress Store) → rowsWalked kind one two count left i s ≡ ok s
+    unfolding walkRows
+    sheet-over e left s = go (decLt i count)
+      where
+        go : Dec (i < count) → rowsWalked kind one two count left i s ≡ ok s
+        go (yes h) =
+            walked-as left i s (sheet (getD one i 0)) h
+            (row-sheet (getD kind i 0) (getD one i 0) (getD two i 0) (row-letter kind count i letter read h ∙ e))
+        go (no n) = rw (rows-end kind one two count i (omega arith))
+
+    module _ (from : List ℕ) (level calls met : ℕ) (t : Store) where
+      abbrev s : Progress Store
+      s = idle calls met t
+
+      pub rest-end : letter ≡ 83 → level ≡ 0 → rest kind one two count from level i s ≡ concluded s
+      unfolding after andThen
+      rest-end e z =
+          ap (λ (o : Out (Progress Store)). andThen o (after kind one two count from level)) (sheet-over e (levels - level) s)
+          ∙ ap (λ (k : ℕ). after kind one two count from k s) z
+
+      pub rest-back : letter ≡ 83 → (level ≡ 0 → ⊥)
+          → rest kind one two count from level i s ≡ rest kind one two count from (level - 1) (getD from (level - 1) 0 + 1) s
+      unfolding after andThen
+      rest-back e n =
+          let up : level ≡ suc (level - 1) = omega arith in
+          ap (λ (o : Out (Progress Store)). andThen o (after kind one two count from level)) (sheet-over e (levels - level) s)
+          ∙ ap (λ (k : ℕ). after kind one two count from k s) up
+          ∙ ap (λ (u : Progress Store). rest kind one two count from (level - 1) (getD from (level - 1) 0 + 1) u) (empty-opened calls met t)
+
+      -- a B row
+      pub rest-block : (letter ≡ 83 → ⊥) → (letter ≡ 77 → ⊥) → (letter ≡ 80 → ⊥) → (letter ≡ 67 → ⊥)
+          → rest kind one two count from level i s ≡ rest kind one two count from level (i + 1) s
+      unfolding walkRows
+      rest-block a b c d =
+          let h = row-there kind count i letter read a in
+          let l : getD kind i 0 ≡ letter = row-letter kind count i letter read h in
+          ap (λ (o : Out (Progress Store)). andThen o (after kind one two count from level))
+          (walked-as (levels - level) i s block h
+          (row-block (getD kind i 0) (getD one i 0) (getD two i 0) (λ e. a (sym l ∙ e)) (λ e. b (sym l ∙ e)) (λ e. c (sym l ∙ e)) (λ e. d (sym l ∙ e)))
+          ∙ ap₂ (λ (n : ℕ) (u : Progress Store). walkRows storeOps (callAt storeOps (levels - level) file) (rowsFrom kind one two count (i + 1)) n u)
+          (next-line i) (empty-opened calls met t))
+
+      -- a call
+      module _ (e : letter ≡ 67) where
+        abbrev n : ℕ
+        n = getD one i 0
+
+        here : i < count
+        here = row-there kind count i letter read (λ z. omega arith)
+
+        abbrev behind : Progress Store → Out (Progress Store)
+        behind s′ = rowsWalked kind one two count (levels - level) (i + 1) (blockOpened storeOps s′)
+
+        call-walked : rowsWalked kind one two count (levels - level) i s ≡ andThen (callAt storeOps (levels - level) file n (lineOf i) s) behind
+        unfolding walkRows
+        call-walked =
+            walked-as (levels - level) i s (call n) here
+            (row-call (getD kind i 0) n (getD two i 0) (row-letter kind count i letter read here ∙ e))
+            ∙ ap (λ (l : ℕ). andThen (callAt storeOps (levels - level) file n (lineOf i) s)
+            (λ s′. walkRows storeOps (callAt storeOps (levels - level) file) (rowsFrom kind one two count (i + 1)) l (blockOpened storeOps s′))) (next-line i)
+
+        abbrev onward : Out (Progress Store) → Out Scenario
+        onward o = andThen (andThen o behind) (after kind one two count from level)
+
+        pub rest-deep : level ≡ levels → rest kind one two count from level i s ≡ refusal depthRefusal (lineOf i)
+        unfolding andThen callAt
+        rest-deep z =
+            let none : levels - level ≡ 0 = omega arith in
+            ap (λ (o : Out (Progress Store)). andThen o (after kind one two count from level)) call-walked
+            ∙ ap (λ (k : ℕ). onward (callAt storeOps k file n (lineOf i) s)) none
+
+        module _ (d : level < levels) where
+          abbrev left : ℕ
+          left = levels - (level + 1)
+
+          entered : Bool → Out (Progress Store)
+          entered b =
+              elim b [
+                | true ↦ rowsWalked kind one two count left (startOf n file) (blockOpened storeOps (callMade storeOps s))
+                | false ↦ refusal callsRefusal (lineOf i)
+              ]
+
+          call-entered : callAt storeOps (levels - level) file n (lineOf i) s ≡ entered (ltb (calls) callsMost)
+          unfolding callAt entered
+          call-entered =
+              let one-less : levels - level ≡ suc left = omega arith in
+              ap (λ (k : ℕ). callAt storeOps k file n (lineOf i) s) one-less
+              ∙ ap (λ (rs : List Row). elim (ltb (calls) callsMost) [
+                | true ↦ walkRows storeOps (callAt storeOps left file) rs (lineOf (startOf n file)) (blockOpened storeOps (callMade storeOps s))
+                | false ↦ refusal callsRefusal (lineOf i)
+              ]) (rows-drop kind one two count (startOf n file))
+
+          rest-entered : (b : Bool) → ltb (calls) callsMost ≡ b → rest kind one two count from level i s ≡ onward (entered b)
+          rest-entered b f =
+              ap (λ (o : Out (Progress Store)). andThen o (after kind one two count from level)) call-walked
+              ∙ ap onward (call-entered ∙ ap entered f)
+
+          pub rest-calls : callsMost ≤ calls → rest kind one two count from level i s ≡ refusal callsRefusal (lineOf i)
+          unfolding andThen entered
+          rest-calls m = rest-entered false (le-ltb (calls) callsMost m)
+
+          -- a row noted for a deeper level changes nothing
+          after-set : (k : ℕ) → k ≤ level → (u : Progress Store) → after kind one two count from k u ≡ after kind one two count (set from level i) k u
+          unfolding after
+          after-set zero h u = refl
+          after-set (suc k) h u =
+              let d : k ≡ level → ⊥ = λ e. omega arith in
+              ap (λ (r : ℕ). andThen (rowsWalked kind one two count (levels - k) (r + 1) (blockOpened storeOps u)) (after kind one two count from k))
+              (sym (getD-set-other from level k i 0 d))
+              ∙ then-alike (rowsWalked kind one two count (levels - k) (getD (set from level i) k 0 + 1) (blockOpened storeOps u))
+              (after kind one two count from k) (after kind one two count (set from level i) k) (after-set k (omega arith))
+
+          module _ (long : length from ≡ levels) (first : ℕ) (starts : first ≡ startOf n file) (m : calls < callsMost) where
+            made-empty : blockOpened storeOps (callMade storeOps s) ≡ idle (calls + 1) met t
+            unfolding callMade
+            made-empty = ap (λ (k : ℕ). blockOpened storeOps (idle k met t)) (sym (add-one calls)) ∙ empty-opened (calls + 1) met t
+
+            noted-here : getD (set from level i) level 0 ≡ i
+            noted-here = getD-set-same from level i 0 (omega arith)
+
+            pub rest-called : rest kind one two count from level i s ≡ rest kind one two count (set from level i) (level + 1) first (idle (calls + 1) met t)
+            unfolding after entered
+            rest-called =
+                let start = startOf n file in
+                rest-entered true (lt-ltb (calls) callsMost m)
+                ∙ then-then (rowsWalked kind one two count left start (blockOpened storeOps (callMade storeOps s))) behind (after kind one two count from level)
+                ∙ ap (λ (u : Progress Store). andThen (rowsWalked kind one two count left start u) (λ s′. andThen (behind s′) (after kind one two count from level))) made-empty
+                ∙ then-alike (rowsWalked kind one two count left start (idle (calls + 1) met t)) (λ s′. andThen (behind s′) (after kind one two count from level))
+                (after kind one two count (set from level i) (suc level))
+                (λ u. then-alike (behind u) (after kind one two count from level) (after kind one two count (set from level i) level) (after-set level (omega arith))
+                ∙ ap (λ (k : ℕ). andThen (rowsWalked kind one two count (levels - level) (k + 1) (blockOpened storeOps u)) (after kind one two count (set from level i) level))
+                (sym noted-here))
+                ∙ ap₂ (λ (k r : ℕ). andThen (rowsWalked kind one two count left r (idle (calls + 1) met t)) (after kind one two count (set from level i) k))
+                (sym (add-one level)) (sym starts)

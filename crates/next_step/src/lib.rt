@@ -1,0 +1,116 @@
+// The search for the next step of the schedule: class by class, the lowest message first.
+ghost use mathlib.Core.Path.{_≡_};
+ghost use Prim.Native.Nat.{_<_};
+ghost use Rattle.board.specs.Masks.{Standing};
+ghost use Rattle.next_step.specs.Search.{classAt, Fits, Lowest, Chosen};
+use board::board_of;
+use buffers::HELD_WORDS;
+use candidates::Class;
+use channel_table::Channel;
+use relation::WIDTH;
+use run::Run;
+use step::StepOrNone;
+
+// Message m is of the class and its step is allowed, in every run with these parts: what is done, what is under way, and the
+// rows of the buffers.
+fn fits_class<'a>(
+    words: &[u64],
+    masks: &[u64],
+    boards: &[u8],
+    count: usize,
+    c: Channel,
+    done: &'a [u64; WIDTH],
+    way: &'a [u64; WIDTH],
+    rows: &'a [u64; HELD_WORDS],
+    e: usize,
+    class: Class,
+    m: usize,
+) -> bool
+    requires { ⌜ Standing count (now boards) (now words) (now masks) ⌝ }
+    requires { ⌜ (e < count) × (m < count) ⌝ }
+    ensures { λ r. ⌜ Fits count (now (boards .entry)) (now (words .entry)) c (now (done .entry)) (now (way .entry)) (now (rows .entry)) e class m r ⌝ }
+{
+    if !candidates::takes(words, boards, count, e, class, m) {
+        return false;
+    }
+    let step = candidates::step_of(class, m);
+    let x = step.event();
+    let board = board_of(boards, x);
+    let buffer = buffers::buffer_at(rows, board);
+    channel::allowed(words, masks, boards, count, c, done, way, buffer, step)
+}
+
+// The step of the class on the lowest message that fits, by the same parts of a run.
+fn lowest<'a>(
+    words: &[u64],
+    masks: &[u64],
+    boards: &[u8],
+    count: usize,
+    c: Channel,
+    done: &'a [u64; WIDTH],
+    way: &'a [u64; WIDTH],
+    rows: &'a [u64; HELD_WORDS],
+    e: usize,
+    class: Class,
+) -> StepOrNone
+    requires { ⌜ Standing count (now boards) (now words) (now masks) ⌝ }
+    requires { ⌜ e < count ⌝ }
+    ensures { λ r. ⌜ Lowest count (now (boards .entry)) (now (words .entry)) c (now (done .entry)) (now (way .entry)) (now (rows .entry)) e class r ⌝ }
+{
+    let among = candidates::candidates(words, done, way, rows, e, class);
+    let mut m = candidates::next_in(&among, 0);
+    while m < count {
+        if fits_class(words, masks, boards, count, c, done, way, rows, e, class, m) {
+            return StepOrNone::Step(candidates::step_of(class, m));
+        }
+        if m + 1 == count {
+            return StepOrNone::Nothing;
+        }
+        m = candidates::next_in(&among, m + 1);
+    }
+    StepOrNone::Nothing
+}
+
+const CLASS_COUNT: usize = 6;
+
+// The classes in the order in which they are tried.
+fn class_at(k: usize) -> Class
+    ensures { λ r. ⌜ r ≡ classAt k ⌝ }
+{
+    match k {
+        0 => Class::AnyConsume,
+        1 => Class::DeliveryOf,
+        2 => Class::NeededDelivery,
+        3 => Class::NeededSend,
+        4 => Class::AnyDelivery,
+        _ => Class::AnySend,
+    }
+}
+
+// The step that the schedule for e takes next in the run: of the first class with an allowed step, on the lowest message.
+pub fn choose(
+    words: &[u64],
+    masks: &[u64],
+    boards: &[u8],
+    count: usize,
+    c: Channel,
+    run: Run,
+    e: usize,
+) -> StepOrNone
+    requires { ⌜ Standing count (now boards) (now words) (now masks) ⌝ }
+    requires { ⌜ e < count ⌝ }
+    ensures { λ r. ⌜ Chosen count (now (boards .entry)) (now (words .entry)) c run e r ⌝ }
+{
+    let done = run.done;
+    let way = run.way;
+    let rows = buffers::held_rows(run);
+    for k in 0..CLASS_COUNT {
+        let class = class_at(k);
+        let found = lowest(words, masks, boards, count, c, &done, &way, &rows, e, class);
+        match found {
+            StepOrNone::Step(_) => return found,
+            StepOrNone::Nothing => {}
+        }
+    }
+    StepOrNone::Nothing
+}

@@ -1,0 +1,107 @@
+-- The bits of a word: of an and, of a complement, behind a shift; that a word is zero where none of its bits is set, and that none
+-- is set below its trailing zeros; and the bits of a row that stands by itself. Assumes nothing.
+use mathlib.Core.Path.{_≡_, refl, _∙_}
+use mathlib.Core.Bool.{Bool, true, false, not, _&&_, _||_}
+use mathlib.Core.List.{List}
+use Prim.Native.Nat.{ℕ, zero, suc, _+_, _-_, _*_, _/_, _%_, _^_, _<_}
+use native.Mathlib.Nat.{lt-suc-self, le-step, pow-suc, div-one, div-lt-iff-lt-mul, zero-mul, zero-add, not-suc-le-zero, le-of-suc-le-suc}
+use native.Mathlib.Omega.{arith}
+use lib.Arith.{lt-one}
+use lib.Bits.{bitAnd, and-shr, and-mod}
+use lib.Count.{trailingZeros, under}
+use lib.Dec.{eqb}
+use lib.ListN.{getD}
+use lib.Pow.{pow-pos, shr-shr}
+use borrow.Author.Tests.{eqb-false}
+use Rattle.relation.specs.Width.{wordBits}
+use Rattle.relation.specs.Rows.{has, holds}
+use Rattle.relation.proofs.Bits.{by-digits}
+
+-- of two tests of which neither holds, each fails
+pub or-left-false : (a b : Bool) → (a || b) ≡ false → a ≡ false
+or-left-false true b t = t
+or-left-false false b t = refl
+
+pub or-right-false : (a b : Bool) → (a || b) ≡ false → b ≡ false
+or-right-false true true t = t
+or-right-false true false t = refl
+or-right-false false b t = t
+
+pub has-and : (u v k : ℕ) → has (bitAnd u v) k ≡ (has u k && has v k)
+has-and u v k = by-digits bitAnd _&&_ (refl, refl, refl, refl) u v k (and-shr u v k) (and-mod (u / 2 ^ k) (v / 2 ^ k) 1)
+
+-- of two digits that make one, one is set
+other : (p q : ℕ) → p + q ≡ 1 → eqb p 1 ≡ not (eqb q 1)
+other zero zero e = absurd (omega arith)
+other zero (suc zero) e = refl
+other zero (suc (suc q)) e = absurd (omega arith)
+other (suc zero) zero e = refl
+other (suc zero) (suc q) e = absurd (omega arith)
+other (suc (suc p)) q e = absurd (omega arith)
+
+pub has-not : (k n x : ℕ) → k < n → x < 2 ^ n → has (2 ^ n - 1 - x) k ≡ not (has x k)
+unfolding has
+has-not k zero x h g = absurd (omega arith)
+has-not zero (suc n) x h g =
+    let e : 2 ^ suc n ≡ 2 ^ n * 2 = pow-suc 2 n in
+    rw (div-one, div-one) (other ((2 ^ suc n - 1 - x) % 2) (x % 2) (omega arith))
+has-not (suc k) (suc n) x h g =
+    let e : 2 ^ suc n ≡ 2 ^ n * 2 = pow-suc 2 n in
+    let half : (2 ^ suc n - 1 - x) / 2 ≡ 2 ^ n - 1 - x / 2 = omega arith in
+    let one : suc k ≡ 1 + k = omega arith in
+    rw (one, ← shr-shr (2 ^ suc n - 1 - x) 1 k, ← shr-shr x 1 k, half) (has-not k n (x / 2) (omega arith) (omega arith))
+
+-- a word that is not zero has a bit
+pub some-bit : (n w : ℕ) → w < 2 ^ n → (w ≡ 0 → ⊥) → (k : ℕ) × (k < n) × (has w k ≡ true)
+unfolding has
+some-bit zero w h z = absurd (z (lt-one h))
+some-bit (suc n) w h z = go (eqb (w / 2 ^ n % 2) 1) refl (λ g. some-bit n w g z)
+  where
+    go : (b : Bool) → eqb (w / 2 ^ n % 2) 1 ≡ b → (w < 2 ^ n → (k : ℕ) × (k < n) × (eqb (w / 2 ^ k % 2) 1 ≡ true))
+        → (k : ℕ) × (k < suc n) × (eqb (w / 2 ^ k % 2) 1 ≡ true)
+    go true e below = (n, lt-suc-self n, e)
+    go false e below =
+        let p : 2 ^ suc n ≡ 2 ^ n * 2 = pow-suc 2 n in
+        let top : w / 2 ^ n < 2 = div-lt-iff-lt-mul (pow-pos n) .1 (omega arith) in
+        let clear : w / 2 ^ n % 2 ≡ 1 → ⊥ = eqb-false (w / 2 ^ n % 2) 1 e in
+        let g : w < 1 * 2 ^ n = div-lt-iff-lt-mul (pow-pos n) .0 (omega arith) in
+        let r = below (omega arith) in (r .0, le-step (r .1), r .2)
+
+-- the bits of a word behind a shift
+pub shifted : (w b i : ℕ) → has w (b + i) ≡ has (w / 2 ^ b) i
+unfolding has
+shifted w b i = rw (shr-shr w b i)
+
+half : (n j : ℕ) → has n (suc j) ≡ has (n / 2) j
+half n j =
+    let one : suc j ≡ 1 + j = omega arith in
+    rw one (shifted n 1 j)
+
+-- no bit below a word's trailing zeros is set
+lowest-digit : (n : ℕ) → n % 2 ≡ 0 → has n 0 ≡ false
+unfolding has
+lowest-digit n e = rw (div-one, e)
+
+pub trailing-clear : (k n i : ℕ) → i < trailingZeros k n → has n i ≡ false
+unfolding trailingZeros
+trailing-clear zero n i h = absurd (not-suc-le-zero h)
+trailing-clear (suc k) n i h = go (n % 2) refl i h (λ j g. trailing-clear k (n / 2) j g)
+  where
+    go : (d : ℕ) → n % 2 ≡ d → (i : ℕ) → i < under d (trailingZeros k (n / 2)) → ((j : ℕ) → j < trailingZeros k (n / 2) → has (n / 2) j ≡ false)
+        → has n i ≡ false
+    go zero e zero h rest = lowest-digit n e
+    go zero e (suc j) h rest = half n j ∙ rest j (le-of-suc-le-suc h)
+    go (suc d) e i h rest = absurd (not-suc-le-zero h)
+
+-- a row by itself begins at word 0
+pub alone-row : (W : ℕ) (row : List ℕ) (k : ℕ) → holds W row 0 k ≡ has (getD row (k / wordBits) 0) (k % wordBits)
+unfolding holds
+alone-row W row k = rw (zero-mul, zero-add)
+
+-- the words of the events that are not in a row
+abbrev pub flipped : List ℕ → ℕ → ℕ
+flipped row j = 2 ^ wordBits - 1 - getD row j 0
+
+pub has-flipped : (row : List ℕ) → ((j : ℕ) → getD row j 0 < 2 ^ wordBits)
+    → (k : ℕ) → has (flipped row (k / wordBits)) (k % wordBits) ≡ not (has (getD row (k / wordBits) 0) (k % wordBits))
+has-flipped row small k = has-not (k % wordBits) wordBits (getD row (k / wordBits) 0) (omega arith) (small (k / wordBits))

@@ -1,0 +1,102 @@
+// A row: its form (refusal 5), a letter and two numbers in the heading's order, ahead of its place (refusal 6).
+use fields::Number;
+use heading::Columns;
+use line::Split;
+use model::EVENTS_MOST;
+use model::SHEETS;
+use place::Placed;
+ghost use mathlib.Core.Path.{_≡_};
+ghost use mathlib.Core.Bool.{cond};
+ghost use mathlib.Core.Option.{none, some};
+ghost use Prim.Native.Nat.{_*_, _≤_};
+ghost use lib.ListN.{length};
+ghost use Rattle.model.specs.Limits.{sheets, messagesMost};
+ghost use Rattle.model.specs.Rows.{formed};
+ghost use Rattle.heading.specs.Names.{Below, columnsFrom};
+ghost use Rattle.place.specs.Letters.{rowFrom};
+ghost use Rattle.place.specs.Stand.{standOf};
+ghost use Rattle.row.specs.Form.{RowAs};
+ghost use Rattle.row.specs.Judged.{StepAs};
+
+// A row's kind and numbers, and where the next one begins.
+enum Reading {
+    Row(u8, u8, u8, usize),
+    Malformed,
+}
+
+// A row's kind and numbers, where the next one begins, and the messages of the open block behind it; or the refusal's number.
+pub enum Step {
+    Row(u8, u8, u8, usize, usize),
+    Refused(u8),
+}
+
+// The row with the number `row`, from 0, which begins at `at`, in a block of so many messages.
+pub fn take_row(
+    text: &[u8],
+    at: usize,
+    row: usize,
+    messages: usize,
+    columns: Columns,
+    start: &mut [u16; SHEETS],
+    boards: &mut [u8; EVENTS_MOST],
+) -> Step
+    requires { ⌜ (at ≤ length (now text)) × Below columns × (messages ≤ messagesMost) × (length (now start) ≡ sheets) × (length (now boards) ≡ 2 * messagesMost) ⌝ }
+    ensures { λ r. ⌜ StepAs (columnsFrom columns) (now (text .entry)) at row (standOf (now (start .entry)) (now (boards .entry)) messages) (now (start .exit)) (now (boards .exit)) r ⌝ }
+{
+    if model::ROWS_MOST <= row {
+        return Step::Refused(model::ROW);
+    }
+    let Reading::Row(kind, one, two, next) = row_at(text, at, columns) else {
+        return Step::Refused(model::ROW);
+    };
+    let Placed::Messages(after) = place::place(row, kind, one, two, messages, start, boards) else {
+        return Step::Refused(model::PLACE);
+    };
+    Step::Row(kind, one, two, next, after)
+}
+
+// The row at `at`.
+fn row_at(text: &[u8], at: usize, columns: Columns) -> Reading
+    requires { ⌜ (at ≤ length (now text)) × Below columns ⌝ }
+    ensures { λ r. ⌜ RowAs (columnsFrom columns) (now (text .entry)) at r ⌝ }
+{
+    let Split::Three(cuts) = line::cut(text, at) else {
+        return Reading::Malformed;
+    };
+    let kind = fields::letter_in(text, cuts, columns.kind);
+    let Number::Is(one) = fields::number_in(text, cuts, columns.one) else {
+        return Reading::Malformed;
+    };
+    let Number::Is(two) = fields::number_in(text, cuts, columns.two) else {
+        return Reading::Malformed;
+    };
+    if !is_formed(kind, one, two) {
+        return Reading::Malformed;
+    }
+    Reading::Row(kind, one, two, cuts.end + 1)
+}
+
+// The letter is one of the five, and an unused field is 0.
+fn is_formed(kind: u8, one: u8, two: u8) -> bool
+    ensures { λ r. ⌜ cond r (some (rowFrom kind one two)) none ≡ formed kind one two ⌝ }
+{
+    if kind == b'M' {
+        return true;
+    }
+    if kind == b'P' {
+        return true;
+    }
+    if two != 0 {
+        return false;
+    }
+    if kind == b'S' {
+        return true;
+    }
+    if kind == b'C' {
+        return true;
+    }
+    if kind == b'B' {
+        return one == 0;
+    }
+    false
+}

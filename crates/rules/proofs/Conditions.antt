@@ -1,0 +1,284 @@
+-- The tests of whole words are the model's tests of events and messages. Assumes nothing.
+use mathlib.Core.Path.{_≡_, refl, sym, ap, ap₂, _∙_}
+use mathlib.Core.Bool.{Bool, true, false, not, _&&_, _||_, and-false}
+use mathlib.Core.List.{List}
+use Prim.Native.Nat.{ℕ, _+_, _*_, _/_, _%_, _<_, _≤_}
+use native.Mathlib.Decide.{decLt}
+use native.Mathlib.Omega.{arith}
+use mathlib.Core.Logic.{⊎-elim}
+use lib.Dec.{eqb, ltb}
+use lib.ListN.{getD}
+use borrow.Author.Tests.{eq-eqb, lt-ltb, le-ltb, eqb-true, ltb-true}
+use Rattle.model.specs.Limits.{boards, messagesMost}
+use Rattle.model.specs.Bounded.{every}
+use Rattle.model.specs.Channel as model
+use Rattle.model.specs.Order.{Event, sendOf, receiveOf, number, event, messageOf, boardOf, board, Scenario}
+use Rattle.model.specs.Run.{everyEvent, isAhead, ready, bufferEmpty, boardFree, maySend, mayDeliver}
+use Rattle.model.proofs.Bounded.{and-left, and-right, every-at, every-from, which, not-is-true}
+use Rattle.model.proofs.Events.{event-number, number-event, below-number, below-event}
+use Rattle.model.proofs.Rules.{everyEvent-at, everyEvent-from}
+use Rattle.relation.specs.Width.{width, wordBits}
+use Rattle.relation.specs.Rows.{holds}
+use Rattle.relation.specs.Scenario.{scenarioIn}
+use Rattle.relation.proofs.Tests.{both-ways, eqb-same}
+use Rattle.channel_table.specs.declared.ToSend.{ToSend}
+use Rattle.channel_table.specs.declared.ToSend.the-variants as to-send
+use Rattle.channel_table.specs.declared.ToDeliver.{ToDeliver}
+use Rattle.channel_table.specs.declared.ToDeliver.the-variants as to-deliver
+use Rattle.channel_table.specs.Table.{toSendIn, toDeliverIn}
+use Rattle.board.specs.Masks.{isSend, Standing}
+use Rattle.run.specs.declared.Buffer.{Buffer}
+use Rattle.run.specs.declared.Run.{Run}
+use Rattle.run.specs.State.{inRow, Without, bufferOf, stateOf}
+use Rattle.rules.specs.Tests.{undone, noneOfRow, noneIn}
+use Rattle.rules.specs.Rules.{SaysReady, SaysSendRule, SaysDeliverRule}
+
+-- tests that agree below the bound
+every-ext : (n : ℕ) (p q : ℕ → Bool) → ((k : ℕ) → k < n → p k ≡ q k) → every n p ≡ every n q
+every-ext n p q h =
+    both-ways (every n p) (every n q)
+    (λ t. every-from n q (λ k l. sym (h k l) ∙ every-at n p t k l))
+    (λ t. every-from n p (λ k l. h k l ∙ every-at n q t k l))
+
+-- every event of the scenario, by its number
+module _ (S : Scenario) (p : Event → Bool) where
+  -- a test over n numbers that the events are among, and that no other number fails
+  events-all : (n : ℕ) (q : ℕ → Bool) → 2 * S .count ≤ n → ((k : ℕ) → k < 2 * S .count → p (event k) ≡ q k)
+      → ((k : ℕ) → 2 * S .count ≤ k → k < n → q k ≡ true) → everyEvent S p ≡ every n q
+  events-all n q room agree rest =
+      both-ways (everyEvent S p) (every n q)
+      (λ t. every-from n q (λ k l. go t k l (decLt k (2 * S .count))))
+      (λ t. everyEvent-from S p (λ x l.
+      let b : number x < 2 * S .count = below-number x (S .count) .0 l in
+      ap p (sym (event-number x)) ∙ agree (number x) b ∙ every-at n q t (number x) (omega arith)))
+    where
+      go : everyEvent S p ≡ true → (k : ℕ) → k < n → Dec (k < 2 * S .count) → q k ≡ true
+      go t k l (yes b) = sym (agree k b) ∙ everyEvent-at S p t (event k) (below-event k (S .count) b)
+      go t k l (no b) = rest k (omega arith) l
+
+-- a test over n numbers that only sends can fail, by messages
+sends-all : (n count : ℕ) (q p : ℕ → Bool) → 2 * count ≤ n → ((k : ℕ) → k < n → q k ≡ true → isSend count k ≡ true)
+    → ((f : ℕ) → f < count → not (q (2 * f)) ≡ p f) → every n (λ k. not (q k)) ≡ every count p
+sends-all n count q p room only agree =
+    both-ways (every n (λ k. not (q k))) (every count p)
+    (λ t. every-from count p (λ f l. sym (agree f l) ∙ every-at n (λ k. not (q k)) t (2 * f) (omega arith)))
+    (λ t. every-from n (λ k. not (q k)) (λ k l. ⊎-elim (λ (s : q k ≡ true). found t k (only k l s)) (λ f. not-is-true (q k) f) (which (q k))))
+  where
+    found : every count p ≡ true → (k : ℕ) → isSend count k ≡ true → not (q k) ≡ true
+    found t k s =
+        let b : k < 2 * count = ltb-true k (2 * count) (and-left (ltb k (2 * count)) (eqb (k % 2) 0) s) in
+        let even : k % 2 ≡ 0 = eqb-true (k % 2) 0 (and-right (ltb k (2 * count)) (eqb (k % 2) 0) s) in
+        let half : 2 * (k / 2) ≡ k = omega arith in
+        let f : k / 2 < count = omega arith in
+        rw half at (agree (k / 2) f ∙ every-at count p t (k / 2) f)
+
+-- the send of a message is a send
+send-is : (count f : ℕ) → f < count → isSend count (2 * f) ≡ true
+send-is count f h = rw (lt-ltb (2 * f) (2 * count) (omega arith), eq-eqb (2 * f % 2) 0 (omega arith))
+
+-- the board of an event, by its number
+board-number : (count : ℕ) (on words : List ℕ) (x : Event) → board (scenarioIn count on words) x ≡ getD on (number x) 0
+unfolding boardOf number
+board-number count on words (sendOf m) = refl
+board-number count on words (receiveOf m) = refl
+
+ahead : (h e d : Bool) → (not (h && e) || d) ≡ not (h && e && not d)
+ahead false e d = refl
+ahead true false d = refl
+ahead true true true = refl
+ahead true true false = refl
+
+other : (a d : Bool) → not (a && not d) ≡ (d || not a)
+other false true = refl
+other false false = refl
+other true true = refl
+other true false = refl
+
+overtakes : (h e w d : Bool) → not (h && e && (w && not d)) ≡ (d || not (w && e && h))
+overtakes h e w true = ap not (ap (λ (a : Bool). h && e && a) (and-false w) ∙ and-false (h && e))
+overtakes false e false false = refl
+overtakes false false true false = refl
+overtakes false true true false = refl
+overtakes true false false false = refl
+overtakes true false true false = refl
+overtakes true true false false = refl
+overtakes true true true false = refl
+
+swapped : (a w : Bool) → not (a && true && w) ≡ not (w && a)
+swapped false false = refl
+swapped false true = refl
+swapped true false = refl
+swapped true true = refl
+
+module _ (count : ℕ) (on words masks : List ℕ) (standing : Standing count on words masks) where
+  abbrev S : Scenario
+  S = scenarioIn count on words
+
+  room : 2 * count ≤ wordBits * width
+  room = let few : count ≤ messagesMost = standing .few in omega arith
+
+  before-is : (x y : Event) → messageOf x < count → messageOf y < count → S .before x y ≡ holds width words (number y) (number x)
+  before-is x y h g = rw (lt-ltb (messageOf x) count h, lt-ltb (messageOf y) count g)
+
+  ahead-is : (k x : ℕ) → k < 2 * count → x < 2 * count
+      → isAhead S (event k) (event x) ≡ (holds width words x k && eqb (getD on k 0) (getD on x 0))
+  unfolding isAhead
+  ahead-is k x hk hx =
+      ap₂ (λ (a b : Bool). a && b)
+      (before-is (event k) (event x) (below-event k count hk) (below-event x count hx) ∙ ap₂ (holds width words) (number-event x) (number-event k))
+      (ap₂ eqb
+      (board-number count on words (event k) ∙ ap (λ (n : ℕ). getD on n 0) (number-event k))
+      (board-number count on words (event x) ∙ ap (λ (n : ℕ). getD on n 0) (number-event x)))
+
+  settled-says : (done : List ℕ) (x : ℕ) → x < 2 * count
+      → noneOfRow (wordBits * width) width words x masks (getD on x 0) (undone done)
+      ≡ everyEvent S (λ y. not (isAhead S y (event x)) || inRow done (number y))
+  unfolding noneOfRow
+  settled-says done x hx =
+      sym (events-all S (λ y. not (isAhead S y (event x)) || inRow done (number y)) (wordBits * width) _ room agree rest)
+    where
+      mask : (k : ℕ) → k < 2 * count → holds width masks (getD on x 0) k ≡ eqb (getD on k 0) (getD on x 0)
+      mask k hk =
+          standing .masksOf .onBoard (getD on x 0) k (standing .boardsBelow x hx) (omega (arith, room)) ∙ rw (lt-ltb k (2 * count) hk)
+
+      agree : (k : ℕ) → k < 2 * count
+          → (not (isAhead S (event k) (event x)) || inRow done (number (event k)))
+          ≡ not (holds width words x k && holds width masks (getD on x 0) k && not (inRow done k))
+      agree k hk =
+          ap₂ (λ (a b : Bool). not a || b) (ahead-is k x hk hx) (ap (inRow done) (number-event k))
+          ∙ ahead (holds width words x k) (eqb (getD on k 0) (getD on x 0)) (inRow done k)
+          ∙ ap (λ (b : Bool). not (holds width words x k && b && not (inRow done k))) (sym (mask k hk))
+
+      rest : (k : ℕ) → 2 * count ≤ k → k < wordBits * width
+          → not (holds width words x k && holds width masks (getD on x 0) k && not (inRow done k)) ≡ true
+      rest k hk h =
+          rw (standing .masksOf .onBoard (getD on x 0) k (standing .boardsBelow x hx) h, le-ltb k (2 * count) hk, and-false)
+
+  -- an event is ready: not done, and all events before it on its board are done
+  pub ready-done : (done : List ℕ) (x : ℕ) (t : Bool) → t ≡ holds width done 0 x → t ≡ true → SaysReady count on words done x false
+  unfolding ready
+  ready-done done x t e h run d = rw (d, number-event x, ← e, h)
+
+  pub ready-rest : (done : List ℕ) (x b : ℕ) (t u : Bool) → u ≡ noneOfRow (wordBits * width) width words x masks b (undone done) → t ≡ holds width done 0 x
+      → t ≡ false → b ≡ getD on x 0 → x < 2 * count → SaysReady count on words done x u
+  unfolding ready
+  ready-rest done x b t u s e h i hx run d =
+      rw (d, number-event x, ← e, h) (s ∙ rw i (settled-says done x hx))
+
+  -- no message of the mask of all sends is among those given
+  none-says : (given : List ℕ) → noneIn (wordBits * width) width masks (2 * boards) given ≡ every count (λ f. not (inRow given (2 * f)))
+  unfolding noneIn
+  none-says given =
+      sends-all (wordBits * width) count _ _ room
+      (λ k h t. sym (standing .masksOf .sends k h) ∙ and-left (holds width masks (2 * boards) k) (inRow given k) t)
+      (λ f h. rw (standing .masksOf .sends (2 * f) (omega (arith, room)) ∙ send-is count f h))
+
+  -- none but m
+  others-say : (way others : List ℕ) (m : ℕ) → Without way (2 * m) others
+      → noneIn (wordBits * width) width masks (2 * boards) others ≡ every count (λ f. eqb f m || not (inRow way (2 * f)))
+  others-say way others m w =
+      none-says others
+      ∙ every-ext count _ _ (λ f h.
+      ap not (w (2 * f) ∙ ap (λ (b : Bool). inRow way (2 * f) && not b) (eqb-same (2 * f) (2 * m) f m (λ e. omega arith) (λ e. omega arith)))
+      ∙ other (inRow way (2 * f)) (eqb f m))
+
+  -- no message under way has its send before m's receive
+  earlier-says : (way : List ℕ) (m : ℕ) → m < count
+      → noneOfRow (wordBits * width) width words (2 * m + 1) masks (2 * boards) (inRow way)
+      ≡ every count (λ f. not (inRow way (2 * f) && S .before (sendOf f) (receiveOf m)))
+  unfolding noneOfRow number messageOf
+  earlier-says way m hm =
+      sends-all (wordBits * width) count _ _ room
+      (λ k h t. sym (standing .masksOf .sends k h)
+      ∙ and-right (holds width words (2 * m + 1) k) (holds width masks (2 * boards) k) (and-left (holds width words (2 * m + 1) k && holds width masks (2 * boards) k) (inRow way k) t))
+      (λ f h.
+      rw (standing .masksOf .sends (2 * f) (omega (arith, room)) ∙ send-is count f h, lt-ltb f count h, lt-ltb m count hm)
+      (swapped (holds width words (2 * m + 1) (2 * f)) (inRow way (2 * f))))
+
+  -- no other message under way to m's board has its send before m's
+  order-says : (way others : List ℕ) (m : ℕ) → m < count → Without way (2 * m) others
+      → noneOfRow (wordBits * width) width words (2 * m) masks (boards + S .target m) (inRow others)
+      ≡ every count (λ f. eqb f m || not (inRow way (2 * f) && eqb (S .target f) (S .target m) && S .before (sendOf f) (sendOf m)))
+  unfolding noneOfRow number messageOf
+  order-says way others m hm w =
+      sends-all (wordBits * width) count _ _ room
+      (λ k h t.
+      and-left (isSend count k) (eqb (getD on (k + 1) 0) (S .target m))
+      (sym (standing .masksOf .toBoard (S .target m) k there h)
+      ∙ and-right (holds width words (2 * m) k) (holds width masks (boards + S .target m) k) (and-left (holds width words (2 * m) k && holds width masks (boards + S .target m) k) (inRow others k) t)))
+      (λ f h.
+      rw (
+        standing .masksOf .toBoard (S .target m) (2 * f) there (omega (arith, room)),
+        send-is count f h,
+        w (2 * f),
+        eqb-same (2 * f) (2 * m) f m (λ e. omega arith) (λ e. omega arith),
+        lt-ltb f count h,
+        lt-ltb m count hm,
+      )
+      (overtakes (holds width words (2 * m) (2 * f)) (eqb (S .target f) (S .target m)) (inRow way (2 * f)) (eqb f m)))
+    where
+      there : S .target m < boards
+      there = standing .boardsBelow (2 * m + 1) (omega arith)
+
+  module _ (c : model.Channel) (run : Run) where
+    -- an eager board sends, or takes a delivery, only while its buffer is empty
+    pub free-says : (b : ℕ) (buffer : Buffer) → bufferOf run b ≡ buffer
+        → (not (c .eager) || noneIn (wordBits * width) width masks (2 * boards) (buffer .held)) ≡ boardFree S c (stateOf run) b
+    unfolding boardFree bufferEmpty
+    free-says b buffer e = rw (← e) (ap (λ (t : Bool). not (c .eager) || t) (none-says (bufferOf run b .held)))
+
+    -- the further conditions, one by one
+    pub send-earlier : (m : ℕ) → m < count → c .toSend ≡ model.noEarlierUnderWay
+        → noneOfRow (wordBits * width) width words (2 * m + 1) masks (2 * boards) (inRow (run .way)) ≡ maySend S c (c .toSend) (stateOf run) m
+    unfolding maySend
+    send-earlier m hm e = rw (e, maySend) (earlier-says (run .way) m hm)
+
+    pub send-empty : (m : ℕ) → c .toSend ≡ model.channelEmpty
+        → noneIn (wordBits * width) width masks (2 * boards) (run .way) ≡ maySend S c (c .toSend) (stateOf run) m
+    unfolding maySend
+    send-empty m e = rw (e, maySend) (none-says (run .way))
+
+    pub send-always : (m : ℕ) → c .toSend ≡ model.ToSend.always → true ≡ maySend S c (c .toSend) (stateOf run) m
+    unfolding maySend
+    send-always m e = rw (e, maySend)
+
+    pub deliver-ordered : (m : ℕ) (others : List ℕ) → m < count → Without (run .way) (2 * m) others → c .toDeliver ≡ model.inOrder
+        → noneOfRow (wordBits * width) width words (2 * m) masks (boards + S .target m) (inRow others) ≡ mayDeliver S c (c .toDeliver) (stateOf run) m
+    unfolding mayDeliver
+    deliver-ordered m others hm w e = rw (e, mayDeliver) (order-says (run .way) others m hm w)
+
+    pub deliver-alone : (m : ℕ) (others : List ℕ) → Without (run .way) (2 * m) others → c .toDeliver ≡ model.alone
+        → noneIn (wordBits * width) width masks (2 * boards) others ≡ mayDeliver S c (c .toDeliver) (stateOf run) m
+    unfolding mayDeliver
+    deliver-alone m others w e = rw (e, mayDeliver) (others-say (run .way) others m w)
+
+    pub deliver-always : (m : ℕ) → c .toDeliver ≡ model.ToDeliver.always → true ≡ mayDeliver S c (c .toDeliver) (stateOf run) m
+    unfolding mayDeliver
+    deliver-always m e = rw (e, mayDeliver)
+
+-- what the code's tests say of the rule at hand
+module _ (words masks : List ℕ) (rule : ToSend) (way : List ℕ) (m : ℕ) where
+  pub send-rule-always : rule ≡ to-send.Always → SaysSendRule words masks rule way m true
+  send-rule-always r count on standing h c run e d = send-always count on words masks standing c run m (e ∙ ap toSendIn r)
+
+  pub send-rule-earlier : (t : Bool) → t ≡ noneOfRow (wordBits * width) width words (2 * m + 1) masks (2 * boards) (inRow way) → rule ≡ to-send.NoEarlierUnderWay
+      → SaysSendRule words masks rule way m t
+  send-rule-earlier t s r count on standing h c run e d = s ∙ rw (← d) (send-earlier count on words masks standing c run m h (e ∙ ap toSendIn r))
+
+  pub send-rule-empty : (t : Bool) → t ≡ noneIn (wordBits * width) width masks (2 * boards) way → rule ≡ to-send.ChannelEmpty
+      → SaysSendRule words masks rule way m t
+  send-rule-empty t s r count on standing h c run e d = s ∙ rw (← d) (send-empty count on words masks standing c run m (e ∙ ap toSendIn r))
+
+module _ (words masks : List ℕ) (rule : ToDeliver) (way : List ℕ) (target m : ℕ) where
+  pub deliver-rule-always : rule ≡ to-deliver.Always → SaysDeliverRule words masks rule way target m true
+  deliver-rule-always r count on standing h i c run e d = deliver-always count on words masks standing c run m (e ∙ ap toDeliverIn r)
+
+  pub deliver-rule-ordered : (t : Bool) (others : List ℕ) → t ≡ noneOfRow (wordBits * width) width words (2 * m) masks (boards + target) (inRow others)
+      → Without way (2 * m) others → rule ≡ to-deliver.InOrder → SaysDeliverRule words masks rule way target m t
+  deliver-rule-ordered t others s w r count on standing h i c run e d =
+      s ∙ rw i (deliver-ordered count on words masks standing c run m others h (rw d w) (e ∙ ap toDeliverIn r))
+
+  pub deliver-rule-alone : (t : Bool) (others : List ℕ) → t ≡ noneIn (wordBits * width) width masks (2 * boards) others
+      → Without way (2 * m) others → rule ≡ to-deliver.Alone → SaysDeliverRule words masks rule way target m t
+  deliver-rule-alone t others s w r count on standing h i c run e d =
+      s ∙ deliver-alone count on words masks standing c run m others (rw d w) (e ∙ ap toDeliverIn r)

@@ -1,0 +1,102 @@
+-- `rules::rows::settled` meets its contract. The loop keeps that no event of the words passed is left undone.
+-- Assumes nothing.
+use mathlib.Core.Path.{_≡_, refl}
+use mathlib.Core.Bool.{true}
+use Prim.Native.Nat.{_+_, _*_, _-_, _≤_}
+use borrow.Author.Needs.{needs}
+use Rattle.model.specs.Bounded.{every}
+use Rattle.relation.specs.Width.{width, wordBits}
+use Rattle.relation.proofs.Words.{flipped}
+use Rattle.rules.specs.Tests.{undone, noneOfRow}
+use Rattle.rules.proofs.Words.{undone-words, row-more, row-found, row-end}
+use Rattle.rules.proofs.rows.settled.Statement.{statement}
+use Rattle.rules.proofs.rows.settled.Tie as tie
+
+abbrev Inv-loop : tie.InvT-loop
+Inv-loop words y masks mask done row board i₀ i = (noneOfRow (wordBits * i) width words y masks mask (undone done) ≡ true) × (i ≤ width)
+
+abbrev μ-loop : tie.MeasureT-loop
+μ-loop words y masks mask done row board i₀ i = width - i
+
+mul-row : tie.Need-mul-row Inv-loop μ-loop
+mul-row c = search needs
+
+mul-board : tie.Need-mul-board Inv-loop μ-loop
+mul-board c = search needs
+
+loop-holds : tie.Need-loop-holds Inv-loop μ-loop
+unfolding noneOfRow every
+loop-holds c = (refl, search needs)
+
+add-at : tie.Need-add-at Inv-loop μ-loop
+add-at c = search needs
+
+add-by : tie.Need-add-by Inv-loop μ-loop
+add-by c = search needs
+
+mul-if1 : tie.Need-mul-if1 Inv-loop μ-loop
+mul-if1 c = search needs
+
+shared-slice-read-if1 : tie.Need-shared-slice-read-if1 Inv-loop μ-loop
+shared-slice-read-if1 c = search needs
+
+mul-if1-2 : tie.Need-mul-if1-2 Inv-loop μ-loop
+mul-if1-2 c = search needs
+
+shared-slice-read-if1-2 : tie.Need-shared-slice-read-if1-2 Inv-loop μ-loop
+shared-slice-read-if1-2 c = search needs
+
+mul-if1-3 : tie.Need-mul-if1-3 Inv-loop μ-loop
+mul-if1-3 c = search needs
+
+shared-slice-read-if1-3 : tie.Need-shared-slice-read-if1-3 Inv-loop μ-loop
+shared-slice-read-if1-3 c = search needs
+
+returns : tie.Need-returns Inv-loop μ-loop
+returns c =
+    let s = c .before .before .before .before .before in
+    let a = s .before .args in
+    row-found width (a .words .now) (a .y) (a .masks .now) (a .mask) (undone (a .done .now)) (flipped (a .done .now))
+    (undone-words (a .done .now) (λ j. c .before .shared-slice-known3 .given j .fits)) (s .loop .i) (c .if1 .taken)
+    (c .before .before .shared-slice-known2 .given (a .mask * width + s .loop .i) .fits) (c .before .before .before .before .loop-test .taken)
+
+add-i : tie.Need-add-i Inv-loop μ-loop
+add-i c = search needs
+
+loop-less : tie.Need-loop-less Inv-loop μ-loop
+loop-less c = search needs
+
+loop-again : tie.Need-loop-again Inv-loop μ-loop
+loop-again c =
+    let s = c .before .before .before .before .before in
+    let a = s .before .args in (
+      row-more width (a .words .now) (a .y) (a .masks .now) (a .mask) (undone (a .done .now)) (flipped (a .done .now))
+          (undone-words (a .done .now) (λ j. c .before .shared-slice-known3 .given j .fits)) (s .loop .i) (c .if1 .left) (s .loop .inv .0) (c .before .before .before .before .loop-test .taken),
+      search needs,
+    )
+
+returns-2 : tie.Need-returns-2 Inv-loop μ-loop
+returns-2 c = search row-end
+
+pub settled-spec : {M : Type 1} → statement M
+settled-spec =
+    tie.close
+    (tie.spec
+    Inv-loop
+    μ-loop
+    mul-row
+    mul-board
+    loop-holds
+    add-at
+    add-by
+    mul-if1
+    shared-slice-read-if1
+    mul-if1-2
+    shared-slice-read-if1-2
+    mul-if1-3
+    shared-slice-read-if1-3
+    returns
+    add-i
+    loop-less
+    loop-again
+    returns-2)

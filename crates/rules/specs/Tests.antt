@@ -1,0 +1,26 @@
+-- What the tests of whole words look for, among the first n events: every definition is over any width W.
+-- Assumes nothing.
+use mathlib.Core.Bool.{Bool, not, _&&_, _||_}
+use mathlib.Core.List.{List}
+use Prim.Native.Nat.{ℕ, _*_}
+use Rattle.model.specs.Limits.{boards}
+use Rattle.model.specs.Bounded.{every}
+use Rattle.relation.specs.Width.{width, wordBits}
+use Rattle.relation.specs.Rows.{holds}
+use Rattle.run.specs.State.{inRow}
+
+-- an event that is not done
+abbrev pub undone : List ℕ → ℕ → Bool
+undone done k = not (inRow done k)
+
+-- no event of row y that is in mask b passes the test
+unfoldable pub noneOfRow : ℕ → ℕ → List ℕ → ℕ → List ℕ → ℕ → (ℕ → Bool) → Bool
+noneOfRow n W words y masks b test = every n (λ k. not (holds W words y k && holds W masks b k && test k))
+
+-- no event of mask b is among those given
+unfoldable pub noneIn : ℕ → ℕ → List ℕ → ℕ → List ℕ → Bool
+noneIn n W masks b given = every n (λ k. not (holds W masks b k && holds W given 0 k))
+
+-- the channel is lazy, or the buffer holds no message
+abbrev pub freeIn : Bool → List ℕ → List ℕ → Bool
+freeIn eager masks held = not eager || noneIn (wordBits * width) width masks (2 * boards) held

@@ -1,0 +1,101 @@
+// What the step rules ask: that an event is ready, that a board is free, and the further conditions of the channel.
+mod rows;
+
+ghost use mathlib.Core.Path.{_≡_};
+ghost use Prim.Native.Nat.{_+_, _*_, _<_, _≤_};
+ghost use lib.ListN.{length};
+ghost use Rattle.model.specs.Limits.{messagesMost};
+ghost use Rattle.relation.specs.Width.{width};
+ghost use Rattle.board.specs.Boards.{boardsMost};
+ghost use Rattle.board.specs.Masks.{maskRows, Standing};
+ghost use Rattle.rules.specs.Tests.{freeIn};
+ghost use Rattle.rules.specs.Rules.{SaysReady, SaysSendRule, SaysDeliverRule};
+use crate::rows::apart;
+use crate::rows::none_of;
+use crate::rows::settled;
+use board::SENDS;
+use board::board_of;
+use channel_table::ToDeliver;
+use channel_table::ToSend;
+use relation::WIDTH;
+use run::Buffer;
+use run::without;
+
+// Event x is ready: not done, and all events before it on its board are done.
+pub fn ready(
+    words: &[u64],
+    masks: &[u64],
+    boards: &[u8],
+    count: usize,
+    done: &[u64; WIDTH],
+    x: usize,
+) -> bool
+    requires { ⌜ Standing count (now boards) (now words) (now masks) ⌝ }
+    requires { ⌜ x < 2 * count ⌝ }
+    ensures { λ r. ⌜ SaysReady count (now (boards .entry)) (now (words .entry)) (now (done .entry)) x r ⌝ }
+{
+    if relation::test(done, 0, x) {
+        return false;
+    }
+    let board = board_of(boards, x);
+    settled(words, x, masks, board, done)
+}
+
+// An eager board sends, or takes a delivery, only while its buffer is empty.
+pub fn board_free(masks: &[u64], eager: bool, buffer: Buffer) -> bool
+    requires { ⌜ maskRows * width ≤ length (now masks) ⌝ }
+    ensures { λ r. ⌜ r ≡ freeIn eager (now (masks .entry)) (buffer .held) ⌝ }
+{
+    if eager {
+        none_of(masks, SENDS, &buffer.held)
+    } else {
+        true
+    }
+}
+
+// The further condition to send m.
+pub fn send_rule(words: &[u64], masks: &[u64], rule: ToSend, way: &[u64; WIDTH], m: usize) -> bool
+    requires { ⌜ m < messagesMost ⌝ }
+    requires { ⌜ (2 * m + 1) * width + width ≤ length (now words) ⌝ }
+    requires { ⌜ maskRows * width ≤ length (now masks) ⌝ }
+    ensures { λ r. ⌜ SaysSendRule (now (words .entry)) (now (masks .entry)) rule (now (way .entry)) m r ⌝ }
+{
+    match rule {
+        ToSend::Always => true,
+        ToSend::NoEarlierUnderWay => {
+            let receive = 2 * m + 1;
+            apart(words, receive, masks, SENDS, way)
+        }
+        ToSend::ChannelEmpty => none_of(masks, SENDS, way),
+    }
+}
+
+// The further condition to deliver m to its board.
+pub fn deliver_rule(
+    words: &[u64],
+    masks: &[u64],
+    rule: ToDeliver,
+    way: &[u64; WIDTH],
+    target: usize,
+    m: usize,
+) -> bool
+    requires { ⌜ m < messagesMost ⌝ }
+    requires { ⌜ target < boardsMost ⌝ }
+    requires { ⌜ 2 * m * width + width ≤ length (now words) ⌝ }
+    requires { ⌜ maskRows * width ≤ length (now masks) ⌝ }
+    ensures { λ r. ⌜ SaysDeliverRule (now (words .entry)) (now (masks .entry)) rule (now (way .entry)) target m r ⌝ }
+{
+    let send = 2 * m;
+    match rule {
+        ToDeliver::Always => true,
+        ToDeliver::InOrder => {
+            let others = without(*way, send);
+            let toward = model::BOARDS + target;
+            apart(words, send, masks, toward, &others)
+        }
+        ToDeliver::Alone => {
+            let others = without(*way, send);
+            none_of(masks, SENDS, &others)
+        }
+    }
+}

@@ -1,0 +1,62 @@
+// Tests of rows, word by word.
+ghost use mathlib.Core.Path.{_≡_};
+ghost use Prim.Native.Nat.{_+_, _*_, _≤_};
+ghost use lib.ListN.{length};
+ghost use Rattle.relation.specs.Width.{width, wordBits};
+ghost use Rattle.run.specs.State.{inRow};
+ghost use Rattle.rules.specs.Tests.{undone, noneOfRow, noneIn};
+use relation::WIDTH;
+
+// Every event of row y that is in the mask is done.
+pub fn settled(words: &[u64], y: usize, masks: &[u64], mask: usize, done: &[u64]) -> bool
+    requires { ⌜ y * width + width ≤ length (now words) ⌝ }
+    requires { ⌜ mask * width + width ≤ length (now masks) ⌝ }
+    requires { ⌜ width ≤ length (now done) ⌝ }
+    ensures { λ r. ⌜ r ≡ noneOfRow (wordBits * width) width (now (words .entry)) y (now (masks .entry)) mask (undone (now (done .entry))) ⌝ }
+{
+    let row = y * WIDTH;
+    let board = mask * WIDTH;
+    for i in 0..WIDTH {
+        let at = row + i;
+        let by = board + i;
+        if words[at] & masks[by] & !done[i] != 0 {
+            return false;
+        }
+    }
+    true
+}
+
+// No event of row y is both in the mask and among those given.
+pub fn apart(words: &[u64], y: usize, masks: &[u64], mask: usize, given: &[u64]) -> bool
+    requires { ⌜ y * width + width ≤ length (now words) ⌝ }
+    requires { ⌜ mask * width + width ≤ length (now masks) ⌝ }
+    requires { ⌜ width ≤ length (now given) ⌝ }
+    ensures { λ r. ⌜ r ≡ noneOfRow (wordBits * width) width (now (words .entry)) y (now (masks .entry)) mask (inRow (now (given .entry))) ⌝ }
+{
+    let row = y * WIDTH;
+    let board = mask * WIDTH;
+    for i in 0..WIDTH {
+        let at = row + i;
+        let by = board + i;
+        if words[at] & masks[by] & given[i] != 0 {
+            return false;
+        }
+    }
+    true
+}
+
+// No event of the mask is among those given.
+pub fn none_of(masks: &[u64], mask: usize, given: &[u64]) -> bool
+    requires { ⌜ mask * width + width ≤ length (now masks) ⌝ }
+    requires { ⌜ width ≤ length (now given) ⌝ }
+    ensures { λ r. ⌜ r ≡ noneIn (wordBits * width) width (now (masks .entry)) mask (now (given .entry)) ⌝ }
+{
+    let board = mask * WIDTH;
+    for i in 0..WIDTH {
+        let by = board + i;
+        if masks[by] & given[i] != 0 {
+            return false;
+        }
+    }
+    true
+}

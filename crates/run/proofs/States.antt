@@ -1,0 +1,201 @@
+-- The run state behind each step is the model's. Assumes nothing.
+use mathlib.Core.Path.{_≡_, refl, ap, _∙_, fun-ext, subst, subst⁻¹}
+use mathlib.Core.Bool.{Bool, true, false, not, cond, _&&_, _||_, or-comm, or-false, or-true, and-true, and-false}
+use mathlib.Core.List.{List, [], _∷_}
+use Prim.Native.Nat.{ℕ, zero, suc, _+_, _*_, _/_, _%_, _<_}
+use native.Mathlib.Nat.{not-suc-le-zero, le-of-suc-le-suc}
+use native.Mathlib.Decide.{ℕ-discrete}
+use native.Mathlib.Omega.{arith}
+use lib.Dec.{eqb}
+use lib.ListN.{length, length-map, getD, set, replicate}
+use lib.Seq.{getD-set-same, getD-set-other}
+use mir.Val.{Val}
+use denote.Laws.{Is}
+use borrow.Author.Tests.{eq-eqb, ne-eqb}
+use Rattle.model.specs.Limits.{boards}
+use Rattle.model.specs.Order.{Event, sendOf, receiveOf, number}
+use Rattle.model.specs.Run.{start, with, withDone, withHeld, next}
+use Rattle.model.proofs.Lists.{replicate-at}
+use Rattle.relation.specs.Width.{width, wordBits}
+use Rattle.relation.proofs.Bits.{has-zero}
+use Rattle.relation.proofs.Tests.{eqb-same}
+use Rattle.relation.proofs.Words.{alone-row}
+use Rattle.board.specs.Masks.{Standing}
+use Rattle.run.specs.declared.Buffer.{Buffer}
+use Rattle.run.specs.declared.Run.{Run}
+use Rattle.step.specs.declared.Step.{Step}
+use Rattle.step.specs.declared.Step.the-variants.{Send, Deliver, Consume}
+use Rattle.step.specs.Steps.{stepIn, messageIn, eventIn}
+use Rattle.step.proofs.Steps.{event-inside}
+use Rattle.run.specs.State.{inRow, With, Without, DoneBehind, WayBehind, HeldBehind, bufferOf, stateOf, Reaches, Follows}
+use Rattle.run.proofs.Run.{the-row}
+
+-- a message is the bit of its send
+same-message : (k m : ℕ) → eqb (2 * k) (2 * m) ≡ eqb k m
+same-message k m = eqb-same (2 * k) (2 * m) k m (λ e. omega arith) (λ e. omega arith)
+
+gained : (a b : Bool) → (a || b) ≡ cond b true a
+gained a true = or-true a
+gained a false = or-false a
+
+lost : (a b : Bool) → (a && not b) ≡ cond b false a
+lost a true = and-false a
+lost a false = and-true a
+
+-- what a row with an event besides, or without one, says of events and of messages
+module _ (row behind : List ℕ) where
+  done-more : (x : Event) → With row (number x) behind → (λ (y : Event). inRow behind (number y)) ≡ withDone (λ y. inRow row (number y)) x
+  unfolding withDone
+  done-more x h = fun-ext (λ y. h (number y) ∙ or-comm (inRow row (number y)) (eqb (number y) (number x)))
+
+  message-more : (m : ℕ) → With row (2 * m) behind → (k : ℕ) → inRow behind (2 * k) ≡ with (λ j. inRow row (2 * j)) m true k
+  unfolding with
+  message-more m h k = h (2 * k) ∙ rw (same-message k m) (gained (inRow row (2 * k)) (eqb k m))
+
+  message-less : (m : ℕ) → Without row (2 * m) behind → (k : ℕ) → inRow behind (2 * k) ≡ with (λ j. inRow row (2 * j)) m false k
+  unfolding with
+  message-less m h k = h (2 * k) ∙ rw (same-message k m) (lost (inRow row (2 * k)) (eqb k m))
+
+-- one buffer of the row of buffers set, on a board that there is
+module _ (run : Run) (b : ℕ) (inside : b < length (run .buffers)) (held : List ℕ) where
+  abbrev set-held : ℕ → ℕ → Bool
+  set-held c k = inRow (getD (set (run .buffers) b (record { held = held })) c (record { held = [] }) .held) (2 * k)
+
+  set-here : (k : ℕ) → set-held b k ≡ inRow held (2 * k)
+  set-here k = rw (getD-set-same (run .buffers) b (record { held = held }) (record { held = [] }) inside)
+
+  set-there : (c k : ℕ) → (c ≡ b → ⊥) → set-held c k ≡ inRow (bufferOf run c .held) (2 * k)
+  set-there c k n = rw (getD-set-other (run .buffers) b c (record { held = held }) (record { held = [] }) n)
+
+  -- set to what it held, and to what it held with m changed
+  buffer-same : ((k : ℕ) → inRow held (2 * k) ≡ inRow (bufferOf run b .held) (2 * k)) → set-held ≡ (λ c k. inRow (bufferOf run c .held) (2 * k))
+  buffer-same says = fun-ext (λ c. fun-ext (λ k. go c k (ℕ-discrete c b)))
+    where
+      go : (c k : ℕ) → Dec (c ≡ b) → set-held c k ≡ inRow (bufferOf run c .held) (2 * k)
+      go c k (yes e) = rw e (set-here k ∙ says k)
+      go c k (no n) = set-there c k n
+
+  buffer-changed : (m : ℕ) (v : Bool) → ((k : ℕ) → inRow held (2 * k) ≡ with (λ j. inRow (bufferOf run b .held) (2 * j)) m v k)
+      → set-held ≡ withHeld (λ c k. inRow (bufferOf run c .held) (2 * k)) b m v
+  unfolding withHeld with
+  buffer-changed m v says = fun-ext (λ c. fun-ext (λ k. go c k (ℕ-discrete c b)))
+    where
+      go : (c k : ℕ) → Dec (c ≡ b) → set-held c k ≡ withHeld (λ c k. inRow (bufferOf run c .held) (2 * k)) b m v c k
+      go c k (yes e) = rw e (set-here k ∙ rw (eq-eqb b b refl) (says k))
+      go c k (no n) = set-there c k n ∙ rw (ne-eqb c b n)
+
+-- an element that there is, whatever stands for one that there is not
+getD-inside : {A : Type 0} (l : List A) (i : ℕ) (d e : A) → i < length l → getD l i d ≡ getD l i e
+getD-inside [] i d e h = absurd (not-suc-le-zero h)
+getD-inside (a ∷ l) zero d e h = refl
+getD-inside (a ∷ l) (suc i) d e h = getD-inside l i d e (le-of-suc-le-suc h)
+
+-- a run has a buffer for each board: its type says so
+pub buffers-long : (run : Run) (vs : List Val) → Is the-row run vs → length (run .buffers) ≡ boards
+buffers-long run vs good = simp length-map at (good .1 .1 .1 .1 .0 .1 .0 .1)
+
+-- a buffer as the code reads it is that of the board
+pub buffer-read : (run : Run) (b at : ℕ) (other : Buffer) → b ≡ at → b < length (run .buffers) → bufferOf run at ≡ getD (run .buffers) b other
+buffer-read run b at other e h = rw (← e) (getD-inside (run .buffers) b (record { held = [] }) other h)
+
+-- the buffer of a board that there is, whatever stands for one that there is not
+there : (run : Run) (b : ℕ) (other : Buffer) → b < length (run .buffers) → getD (run .buffers) b other .held ≡ bufferOf run b .held
+there run b other inside = ap (λ (u : Buffer). u .held) (getD-inside (run .buffers) b other (record { held = [] }) inside)
+
+-- A step on a message of the scenario reaches a board; its event is one of the scenario's, and the board of that has a buffer.
+module _ (count : ℕ) (on words masks : List ℕ) (s : Step) where
+  pub reaches : Standing count on words masks → messageIn s < count → Reaches on s
+  reaches t h =
+      record {
+        few = omega (arith, t .few);
+        long = omega (arith, t .boardsLong);
+        below = t .boardsBelow (2 * messageIn s + 1) (omega arith);
+      }
+
+  pub event-below : (x : ℕ) → x ≡ eventIn s → Standing count on words masks → messageIn s < count → x < length on
+  event-below x i t h = omega (arith, t .boardsLong, event-inside s count h)
+
+  pub board-below : (x b : ℕ) → b ≡ getD on x 0 → x ≡ eventIn s → Standing count on words masks → messageIn s < count → b < boards
+  board-below x b e i t h = rw (e, i) (t .boardsBelow (eventIn s) (event-inside s count h))
+
+-- the receiver's board, as it is read, has a buffer
+pub target-inside : (on : List ℕ) (s : Step) (m b : ℕ) → b ≡ getD on (2 * m + 1) 0 → m ≡ messageIn s → Reaches on s → b < boards
+target-inside on s m b e i r = rw (e, i) (r .below)
+
+-- What each return of `done_behind`, `way_behind` and `held_behind` is to show: P is the promise, made of the row with an event
+-- besides, the row without it, or the row as it was.
+module _ (s : Step) (n m : ℕ) (message : m ≡ messageIn s) (row r : List ℕ) where
+  at-step : (P : Step → Type 0) (at : ℕ → Step) → s ≡ at n → messageIn (at n) ≡ n → P (at m) → P s
+  at-step P at i k p = subst⁻¹ P i (subst (λ (j : ℕ). P (at j)) (message ∙ ap messageIn i ∙ k) p)
+
+  pub done-sent : s ≡ Send n → With row (2 * m) r → DoneBehind row s r
+  done-sent i h = at-step (λ t. DoneBehind row t r) Send i refl h
+
+  pub done-consumed : s ≡ Consume n → With row (2 * m + 1) r → DoneBehind row s r
+  done-consumed i h = at-step (λ t. DoneBehind row t r) Consume i refl h
+
+  pub way-sent : s ≡ Send n → With row (2 * m) r → WayBehind row s r
+  way-sent i h = at-step (λ t. WayBehind row t r) Send i refl h
+
+  pub way-delivered : s ≡ Deliver n → Without row (2 * m) r → WayBehind row s r
+  way-delivered i h = at-step (λ t. WayBehind row t r) Deliver i refl h
+
+  pub held-delivered : s ≡ Deliver n → With row (2 * m) r → HeldBehind row s r
+  held-delivered i h = at-step (λ t. HeldBehind row t r) Deliver i refl h
+
+  pub held-consumed : s ≡ Consume n → Without row (2 * m) r → HeldBehind row s r
+  held-consumed i h = at-step (λ t. HeldBehind row t r) Consume i refl h
+
+module _ (s : Step) (n : ℕ) (row : List ℕ) where
+  pub done-kept : s ≡ Deliver n → DoneBehind row s row
+  done-kept i = subst⁻¹ (λ t. DoneBehind row t row) i refl
+
+  pub way-kept : s ≡ Consume n → WayBehind row s row
+  way-kept i = subst⁻¹ (λ t. WayBehind row t row) i refl
+
+  pub held-kept : s ≡ Send n → HeldBehind row s row
+  held-kept i = subst⁻¹ (λ t. HeldBehind row t row) i refl
+
+-- the run behind a step, whose receiver is board b
+pub next-follows : (run : Run) (s : Step) (m : ℕ) (on : List ℕ) (b : ℕ) (other : Buffer) (done way held : List ℕ)
+    → DoneBehind (run .done) s done → WayBehind (run .way) s way → HeldBehind (getD (run .buffers) b other .held) s held
+    → b ≡ getD on (2 * m + 1) 0 → m ≡ messageIn s → b < length (run .buffers)
+    → Follows on run (stepIn s) (record { done = done; way = way; buffers = set (run .buffers) b (record { held = held }) })
+unfolding next number
+next-follows run (Send n) m on b other done way held p q h target message inside count words = λ i.
+    record {
+      done = done-more (run .done) done (sendOf n) p i;
+      underWay = fun-ext (message-more (run .way) way n q) i;
+      holds = buffer-same run b inside held (λ k. ap (λ (l : List ℕ). inRow l (2 * k)) (h ∙ there run b other inside)) i;
+    }
+next-follows run (Deliver n) m on b other done way held p q h target message inside count words =
+    rw (← (target ∙ ap (λ (k : ℕ). getD on (2 * k + 1) 0) message), p) (λ i.
+    record {
+      done = stateOf run .done;
+      underWay = fun-ext (message-less (run .way) way n q) i;
+      holds = buffer-changed run b inside held n true (message-more (bufferOf run b .held) held n (subst (λ (l : List ℕ). With l (2 * n) held) (there run b other inside) h)) i;
+    })
+next-follows run (Consume n) m on b other done way held p q h target message inside count words =
+    rw (← (target ∙ ap (λ (k : ℕ). getD on (2 * k + 1) 0) message), q) (λ i.
+    record {
+      done = done-more (run .done) done (receiveOf n) p i;
+      underWay = stateOf run .underWay;
+      holds = buffer-changed run b inside held n false (message-less (bufferOf run b .held) held n (subst (λ (l : List ℕ). Without l (2 * n) held) (there run b other inside) h)) i;
+    })
+
+-- rows of zeros, and buffers of them, hold nothing
+zero-row : (n k : ℕ) → inRow (replicate n 0) k ≡ false
+zero-row n k = alone-row width (replicate n 0) k ∙ rw (replicate-at {A = ℕ} n (k / wordBits) 0) (has-zero (k % wordBits))
+
+zero-buffers : (n b k : ℕ) → inRow (getD {A = Buffer} (replicate n (record { held = replicate width 0 })) b (record { held = [] }) .held) k ≡ false
+zero-buffers zero b k = zero-row 0 k
+zero-buffers (suc n) zero k = zero-row width k
+zero-buffers (suc n) (suc b) k = zero-buffers n b k
+
+pub start-state : stateOf (record { done = replicate width 0; way = replicate width 0; buffers = replicate boards (record { held = replicate width 0 }) }) ≡ start
+start-state = λ i.
+    record {
+      done = fun-ext (λ (x : Event). zero-row width (number x)) i;
+      underWay = fun-ext (λ (m : ℕ). zero-row width (2 * m)) i;
+      holds = fun-ext (λ (b : ℕ). fun-ext (λ (m : ℕ). zero-buffers boards b (2 * m))) i;
+    }

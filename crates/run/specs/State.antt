@@ -1,0 +1,71 @@
+-- From the code's run state to the model's. Assumes nothing.
+use mathlib.Core.Path.{_≡_}
+use mathlib.Core.Bool.{Bool, not, _&&_, _||_}
+use mathlib.Core.List.{List, []}
+use Prim.Native.Nat.{ℕ, _+_, _*_, _<_}
+use lib.Dec.{eqb}
+use lib.ListN.{length, getD}
+use Rattle.model.specs.Limits.{messagesMost}
+use Rattle.model.specs.Order.{number}
+use Rattle.model.specs.Run as model
+use Rattle.model.specs.Run.{State, next}
+use Rattle.relation.specs.Width.{width}
+use Rattle.relation.specs.Rows.{holds}
+use Rattle.relation.specs.Scenario.{scenarioIn}
+use Rattle.board.specs.Boards.{boardsMost}
+use Rattle.step.specs.declared.Step.{Step}
+use Rattle.step.specs.declared.Step.the-variants as step
+use Rattle.step.specs.Steps.{messageIn}
+use Rattle.run.specs.declared.Buffer.{Buffer}
+use Rattle.run.specs.declared.Run.{Run}
+
+-- event k is in a row that stands by itself
+abbrev pub inRow : List ℕ → ℕ → Bool
+inRow row k = holds width row 0 k
+
+-- a row with event x besides, and one without it
+abbrev pub With : List ℕ → ℕ → List ℕ → Type 0
+With row x more = (k : ℕ) → inRow more k ≡ (inRow row k || eqb k x)
+
+abbrev pub Without : List ℕ → ℕ → List ℕ → Type 0
+Without row x rest = (k : ℕ) → inRow rest k ≡ (inRow row k && not (eqb k x))
+
+-- what the step makes of the events done, of the messages under way, and of what its receiver's buffer holds
+abbrev pub DoneBehind : List ℕ → Step → List ℕ → Type 0
+DoneBehind row (step.Send m) r = With row (2 * m) r
+DoneBehind row (step.Deliver m) r = r ≡ row
+DoneBehind row (step.Consume m) r = With row (2 * m + 1) r
+
+abbrev pub WayBehind : List ℕ → Step → List ℕ → Type 0
+WayBehind row (step.Send m) r = With row (2 * m) r
+WayBehind row (step.Deliver m) r = Without row (2 * m) r
+WayBehind row (step.Consume m) r = r ≡ row
+
+abbrev pub HeldBehind : List ℕ → Step → List ℕ → Type 0
+HeldBehind row (step.Send m) r = r ≡ row
+HeldBehind row (step.Deliver m) r = With row (2 * m) r
+HeldBehind row (step.Consume m) r = Without row (2 * m) r
+
+-- the buffer of board b; there is none beyond the last board
+abbrev pub bufferOf : Run → ℕ → Buffer
+bufferOf run b = getD (run .buffers) b (record { held = [] })
+
+-- a message under way, or in a buffer, is the bit of its send
+abbrev pub stateOf : Run → State
+stateOf run =
+    record {
+      done = λ x. inRow (run .done) (number x);
+      underWay = λ m. inRow (run .way) (2 * m);
+      holds = λ b m. inRow (bufferOf run b .held) (2 * m);
+    }
+
+-- the step's message has a receiver, event k being on board `getD on k 0`
+pub record Reaches (on : List ℕ) (s : Step) : Type 0 where
+  pub few : messageIn s < messagesMost
+  pub long : 2 * messageIn s + 1 < length on
+  pub below : getD on (2 * messageIn s + 1) 0 < boardsMost
+
+-- the state behind a step, event k being on board `getD on k 0`, whatever else the scenario has
+abbrev pub Follows : List ℕ → Run → model.Step → Run → Type 0
+Follows on run t behind =
+    (count : ℕ) (words : List ℕ) → stateOf behind ≡ next (scenarioIn count on words) (stateOf run) t

@@ -1,0 +1,25 @@
+-- `is_stray` meets its contract. Assumes nothing.
+use Rattle.sheet.proofs.Body.{stray-call, stray-other}
+use borrow.Author.Needs.{needs}
+use Rattle.sheet.proofs.is_stray.Statement.{statement}
+use Rattle.sheet.proofs.is_stray.Tie as tie
+
+element-copy-out-if1 : tie.Need-element-copy-out-if1
+element-copy-out-if1 c = search needs
+
+element-copy-out-is-open : tie.Need-element-copy-out-is-open
+element-copy-out-is-open c = search needs
+
+is-open-requires : tie.Need-is-open-requires
+is-open-requires c κs = search needs
+
+returns : tie.Need-returns
+returns c = search stray-call
+
+returns-2 : tie.Need-returns-2
+returns-2 c = search stray-other
+
+pub is-stray-spec : {M : Type 1} → statement M
+is-stray-spec =
+    tie.close
+    (tie.spec element-copy-out-if1 element-copy-out-is-open is-open-requires returns returns-2)

@@ -1,0 +1,86 @@
+-- What each part of the check is to show, from what its own parts handed on. Assumes nothing.
+use mathlib.Core.Path.{_≡_, refl, sym, _∙_, ap, subst, subst⁻¹}
+use mathlib.Core.List.{List}
+use mathlib.Core.Option.{Option, none, some}
+use Prim.Native.Nat.{ℕ}
+use Rattle.model.specs.Refusal.{Out, ok, refusal}
+use Rattle.model.specs.Order.{Scenario}
+use Rattle.model.specs.Channel as model
+use Rattle.model.specs.Race.{raceRuleOf, lowestRace}
+use Rattle.model.specs.Schedule.{schedule}
+use Rattle.model.specs.Answer.{lockedWord, free, locked, sheetOf, verdictOf, answerFor, numbersOf, traceAfter}
+use Rattle.relation.specs.Scenario.{scenarioIn}
+use Rattle.expansion.specs.declared.Expanded.{Expanded}
+use Rattle.expansion.specs.declared.Expanded.the-variants as expanded
+use Rattle.scenario.specs.Contract.{SheetIn}
+use Rattle.scenario.proofs.Laws.{sheet-refused, sheet-is}
+use Rattle.race.specs.declared.Rule.{Rule}
+use Rattle.race.specs.declared.Lowest.{Lowest}
+use Rattle.race.specs.declared.Lowest.the-variants as lowest
+use Rattle.race.specs.Bridge.{ruleIn, raceIn}
+use Rattle.schedule.specs.Schedule.{Scheduled}
+use Rattle.verdict.specs.declared.Answer.{Answer}
+use Rattle.verdict.specs.declared.Answer.the-variants.{Free, Locked, Refused}
+use Rattle.verdict.specs.Parts.{IsRace, Decides}
+
+module _ (S : Scenario) (code : ℕ) where
+  verdict-locked : (e x : ℕ) → IsRace S code e x → verdictOf S code ≡ locked e x (schedule S (model.channelOf code) e)
+  unfolding verdictOf
+  verdict-locked e x h =
+      subst⁻¹
+      (λ (o : Option (ℕ × ℕ)). elim o [ none ↦ free | some race ↦ locked (race .0) (race .1) (schedule S (model.channelOf code) (race .0)) ]
+      ≡ locked e x (schedule S (model.channelOf code) e))
+      h refl
+
+  verdict-free : lowestRace S (raceRuleOf code) ≡ none → verdictOf S code ≡ free
+  unfolding verdictOf
+  verdict-free h =
+      subst⁻¹
+      (λ (o : Option (ℕ × ℕ)). elim o [ none ↦ free | some race ↦ locked (race .0) (race .1) (schedule S (model.channelOf code) (race .0)) ] ≡ free)
+      h refl
+
+  module _ (trace : List ℕ) where
+    -- the race named, and its schedule written: locked
+    pub locks : (e x steps : ℕ) (behind : List ℕ) (c : model.Channel) → IsRace S code e x → c ≡ model.channelOf code
+        → Scheduled S c e trace behind steps → Decides (ok S) code trace behind (Locked e x steps)
+    unfolding answerFor traceAfter
+    locks e x steps behind c h i s =
+        let t = subst (λ (k : model.Channel). Scheduled S k e trace behind steps) i s in
+        let v = sym (verdict-locked e x h) in
+        record {
+          answer = ap (λ n. record { word = lockedWord; one = e; two = x; three = n }) (t .count) ∙ ap numbersOf v;
+          traceLeft = t .trace ∙ ap (λ a. traceAfter a trace) v;
+        }
+
+    -- no race: free, and the trace as it was
+    pub frees : lowestRace S (raceRuleOf code) ≡ none → Decides (ok S) code trace trace Free
+    unfolding answerFor traceAfter
+    frees h =
+        let v = sym (verdict-free h) in
+        record { answer = ap numbersOf v; traceLeft = ap (λ a. traceAfter a trace) v }
+
+-- the race that the search named, or none
+module _ (S : Scenario) (code : ℕ) (rule : Rule) (v : Lowest) (same : ruleIn rule ≡ raceRuleOf code) (found : raceIn v ≡ lowestRace S (ruleIn rule)) where
+  pub named : (e x : ℕ) → v ≡ lowest.Race e x → IsRace S code e x
+  named e x i = ap (lowestRace S) (sym same) ∙ sym found ∙ ap raceIn i
+
+  pub unnamed : (trace : List ℕ) → v ≡ lowest.Nothing → Decides (ok S) code trace trace Free
+  unnamed trace i = frees S code trace (ap (lowestRace S) (sym same) ∙ sym found ∙ ap raceIn i)
+
+-- a refusal handed on
+refuses : (number line code : ℕ) (trace : List ℕ) → Decides (refusal number line) code trace trace (Refused number line)
+unfolding answerFor traceAfter
+refuses number line code trace = record { answer = refl; traceLeft = refl }
+
+-- What the way to the scenario hands on.
+module _ (text boards words : List ℕ) (v : Expanded) (p : SheetIn text boards words v) where
+  pub scenario-refused : (number line code : ℕ) (trace : List ℕ) → v ≡ expanded.Refused number line
+      → Decides (sheetOf text) code trace trace (Refused number line)
+  scenario-refused number line code trace i =
+      subst⁻¹ (λ (o : Out Scenario). Decides o code trace trace (Refused number line))
+      (sheet-refused text boards words v p number line i) (refuses number line code trace)
+
+  pub scenario-decided : (count : ℕ) → v ≡ expanded.Messages count → (code : ℕ) (trace behind : List ℕ) (r : Answer)
+      → Decides (ok (scenarioIn count boards words)) code trace behind r → Decides (sheetOf text) code trace behind r
+  scenario-decided count i code trace behind r d =
+      subst⁻¹ (λ (o : Out Scenario). Decides o code trace behind r) (sheet-is text boards words v p count i) d

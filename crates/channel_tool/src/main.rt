@@ -1,7 +1,7 @@
 // For a technician: the check at the command line, a word a call. The sheet comes from standard input.
 mod arguments;
-mod replay;
 mod steps;
+mod traces;
 
 use libc::STDERR_FILENO;
 use libc::STDIN_FILENO;
@@ -39,7 +39,7 @@ fn main() {
         steps::write(&text[..n], arguments::code(2));
     } else if check::same(word, b"replay") {
         let n = io::read_full(STDIN_FILENO, &mut text);
-        replay::print(&text[..n], arguments::code(2));
+        traces::print(&text[..n], arguments::code(2));
     } else {
         print_usage();
     }

@@ -12,7 +12,7 @@ ghost use Rattle.channel_table.specs.Table.{channelIn};
 ghost use Rattle.board.specs.Masks.{Standing};
 ghost use Rattle.standing.specs.Bridge.{standIn};
 ghost use Rattle.replay.specs.Bridge.{replayIn, numbersIn};
-use crate::answer::TraceCheckAnswer;
+pub use crate::answer::TraceCheckAnswer;
 use channel_table::Channel;
 use expansion::Expanded;
 use run::Run;
@@ -119,7 +119,8 @@ fn judge_trace(text: &[u8], code: u32, scratch: &mut [u64], trace: &[u8]) -> Rep
         return Replay::Refused(model::BENCH, 0);
     }
     if !is_trace(trace.len()) {
-        relation::clear(scratch, model::SCRATCH_LEAST);
+        let all = model::SCRATCH_LEAST;
+        relation::clear(scratch, all);
         return Replay::Refused(model::TRACE, 0);
     }
     let end = scenario::RELATION_WORDS;

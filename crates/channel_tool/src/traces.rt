@@ -1,6 +1,6 @@
 // `replay CODE TRACEFILE`: the verdict of the step rules on a trace from another tool, in words.
-use channel_check::TraceCheckAnswer;
 use libc::STDERR_FILENO;
+use replay::TraceCheckAnswer;
 
 // One byte more than a trace may have: a longer one is then seen to be too long.
 const MOST: usize = model::TRACE_LEAST + 1;

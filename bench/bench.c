@@ -129,6 +129,8 @@ static void run(int proved, uint32_t code) {
     unsigned sum = 0;
     for (size_t i = 0; i < sizeof trace; i++) sum = 31 * sum + trace[i];
     printf("%zu bytes, code %u: %u %u %u %u, trace %u\n", len, code, a.word, a.one, a.two, a.three, sum);
+    trace_check_answer t = (proved ? trace_check : careful_trace_check)((const uint8_t *)text, len, code, scratch, CHANNEL_CHECK_SCRATCH_WORDS, trace, a.word == 1 ? 2 * a.three : 0);
+    printf("replayed: %u %u %u\n", t.word, t.one, t.two);
 }
 
 int main(int argc, char **argv) {

@@ -331,29 +331,85 @@ static int choose(const walk *w, const masks *k, channel c, const run *r, size_t
 
 static void flip(uint64_t *row, size_t x) { row[x / 64] ^= UINT64_C(1) << (x % 64); }
 
+static void boards_masks(const walk *w, masks *k) {
+    memset(k, 0, sizeof *k);
+    for (size_t m = 0; m < w->count; m++) {
+        mark(k->on, w->boards[2 * m], 2 * m);
+        mark(k->on, w->boards[2 * m + 1], 2 * m + 1);
+        mark(k->to, w->boards[2 * m + 1], 2 * m);
+    }
+}
+
+static void take(const walk *w, run *r, uint8_t kind, size_t m) {
+    uint64_t *held = r->held[w->boards[2 * m + 1]];
+    if (kind == 0) flip(r->done, 2 * m), flip(r->way, 2 * m);
+    if (kind == 1) flip(r->way, 2 * m), flip(held, 2 * m);
+    if (kind == 2) flip(held, 2 * m), flip(r->done, 2 * m + 1);
+}
+
 static size_t schedule(const walk *w, channel c, size_t e, uint8_t *trace) {
     masks k;
     run r;
-    memset(&k, 0, sizeof k);
+    boards_masks(w, &k);
     memset(&r, 0, sizeof r);
-    for (size_t m = 0; m < w->count; m++) {
-        mark(k.on, w->boards[2 * m], 2 * m);
-        mark(k.on, w->boards[2 * m + 1], 2 * m + 1);
-        mark(k.to, w->boards[2 * m + 1], 2 * m);
-    }
     for (size_t i = 0; i < 3 * w->count; i++) {
         uint8_t kind;
         size_t m;
         if (!choose(w, &k, c, &r, e, &kind, &m)) return i;
-        uint64_t *held = r.held[w->boards[2 * m + 1]];
-        if (kind == 0) flip(r.done, 2 * m), flip(r.way, 2 * m);
-        if (kind == 1) flip(r.way, 2 * m), flip(held, 2 * m);
-        if (kind == 2) flip(held, 2 * m), flip(r.done, 2 * m + 1);
+        take(w, &r, kind, m);
         trace[2 * i] = kind;
         trace[2 * i + 1] = (uint8_t)m;
     }
     return 3 * w->count;
 }
+
+/* ------------------------------------------------------------------ a trace from another tool */
+
+static int may(const walk *w, const masks *k, channel c, const run *r, uint8_t kind, size_t m) {
+    if (m >= w->count) return 0;
+    switch (kind) {
+    case 0: return may_send(w, k, c, r, m);
+    case 1: return may_deliver(w, k, c, r, m);
+    case 2: return may_consume(w, k, r, m);
+    default: return 0;
+    }
+}
+
+static trace_check_answer replay(const walk *w, channel c, const uint8_t *trace, size_t len) {
+    masks k;
+    run r;
+    int finished = 1;
+    boards_masks(w, &k);
+    memset(&r, 0, sizeof r);
+    for (size_t i = 0; i < len / 2; i++) {
+        if (!may(w, &k, c, &r, trace[2 * i], trace[2 * i + 1])) return (trace_check_answer){3, (uint32_t)i, 0};
+        take(w, &r, trace[2 * i], trace[2 * i + 1]);
+    }
+    for (size_t x = 0; x < 2 * w->count && finished; x++) finished = has(r.done, x);
+    if (finished) return (trace_check_answer){0, 0, 0};
+    for (size_t m = 0; m < w->count; m++)
+        if (may_send(w, &k, c, &r, m) || may_deliver(w, &k, c, &r, m) || may_consume(w, &k, &r, m)) return (trace_check_answer){2, 0, 0};
+    return (trace_check_answer){1, 0, 0};
+}
+
+trace_check_answer careful_trace_check(const uint8_t *text, size_t text_len, uint32_t code, uint64_t *scratch, size_t scratch_len,
+                                       const uint8_t *trace, size_t trace_len) {
+    sheet s;
+    walk w;
+    if (code > 5) return (trace_check_answer){4, 1, 0};
+    if (scratch_len < 2048) return (trace_check_answer){4, 2, 0};
+    trace_check_answer a = {4, 12, 0};
+    if (trace_len % 2 == 0 && trace_len <= 768) {
+        refusal r = read(text, text_len, &s);
+        w.words = scratch;
+        if (!r.number) r = expand(&s, &w);
+        a = r.number ? (trace_check_answer){4, r.number, r.line} : replay(&w, channels[code], trace, trace_len);
+    }
+    memset(scratch, 0, 2048 * 8);
+    return a;
+}
+
+/* ------------------------------------------------------------------ the check */
 
 static channel_check_answer judge(const uint8_t *text, size_t len, uint32_t code, uint64_t *scratch, uint8_t *trace) {
     sheet s;

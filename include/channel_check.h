@@ -21,7 +21,7 @@ extern "C" {
  * free:    one, two and three are 0.
  * locked:  one is the race's message, two its event (message m has the send 2m and the receive 2m + 1), three the number of
  *          steps in the trace.
- * refused: one is the refusal's number, 1 to 11; two its line, 0 where the table gives none; three is 0. */
+ * refused: one is the refusal's number, 1 to 11 (README has the table); two its line, 0 where the table gives none; three is 0. */
 typedef struct {
     uint32_t word, one, two, three;
 } channel_check_answer;
@@ -37,12 +37,37 @@ typedef struct {
  *                       2 * three of them: two for each step, 0 send, 1 deliver, 2 consume, and then the message.
  *
  * The three buffers do not overlap. A pointer is valid for its length; with length 0 any pointer but NULL is taken.
- * A call needs less than 16 KiB of stack (4,504 bytes measured on x86-64, tests/stack.c).
+ * A call needs less than 16 KiB of stack (7,288 bytes measured on x86-64, tests/stack.c).
  * The function always returns, stays inside the buffers, keeps nothing between calls, and may be called from several threads
  * at a time with buffers of their own.
  */
 channel_check_answer channel_check(const uint8_t *text, size_t text_len, uint32_t code, uint64_t *scratch, size_t scratch_len,
                                    uint8_t *trace, size_t trace_len);
+
+/* The longest trace that trace_check takes. */
+#define TRACE_CHECK_TRACE_BYTES 768
+
+/* word: 0 finished, 1 stuck, 2 open, 3 not allowed, 4 refused.
+ * not allowed: one is the index, from 0, of the first step that is not allowed.
+ * refused:     one is the refusal's number, 1 to 12; two its line, 0 where the table gives none.
+ * Numbers that a word does not name are 0. */
+typedef struct {
+    uint32_t word, one, two;
+} trace_check_answer;
+
+/* Says what the step rules say of a trace, from any tool, on a sheet and a channel.
+ *
+ * text, code, scratch   as above; the scratch is left as channel_check leaves it.
+ * trace, trace_len      the steps, two bytes each: 0 send, 1 deliver, 2 consume, and then the message; only read. An odd length, or
+ *                       more than 768 bytes, is refusal 12, directly behind 2.
+ *
+ * finished: an allowed order behind which all events are done. stuck: one behind which no step is allowed, and not all are done.
+ * open: any other allowed order. Otherwise the first step that is none (a code above 2, an unknown message) or is not allowed in the
+ * state that the steps ahead of it leave is named; a step behind a finished run is not allowed. The steps that channel_check hands
+ * back where a sheet is locked are stuck here. All of this is proved for every text and trace.
+ */
+trace_check_answer trace_check(const uint8_t *text, size_t text_len, uint32_t code, uint64_t *scratch, size_t scratch_len,
+                               const uint8_t *trace, size_t trace_len);
 
 #ifdef __cplusplus
 }

@@ -6,6 +6,8 @@
 mod reference;
 #[path = "texts.rs"]
 mod texts;
+#[path = "traces.rs"]
+mod traces;
 
 use reference::{Answer, Refusal, Scenario, State, Step, SCRATCH_LEAST, TRACE_LEAST};
 use std::sync::atomic::{AtomicU64, Ordering};
@@ -117,21 +119,11 @@ fn compare(r: &mut Random, text: &[u8], sheet: &Result<Scenario, Refusal>, code:
 
 // ---------------------------------------------------------------- the step rules
 
-fn decoded(pair: &[u8]) -> Option<Step> {
-    let m = usize::from(pair[1]);
-    match pair[0] {
-        0 => Some(Step::Send(m)),
-        1 => Some(Step::Deliver(m)),
-        2 => Some(Step::Consume(m)),
-        _ => None,
-    }
-}
-
 /// The bytes handed back are an allowed order that ends stuck.
 fn replay(trace: &[u8], text: &[u8], s: &Scenario, code: u32) {
     let mut state = State::start(s);
     for pair in trace.chunks(2) {
-        match decoded(pair).filter(|t| state.allowed(s, code, *t)) {
+        match reference::told(pair).filter(|t| state.allowed(s, code, *t)) {
             Some(t) => state.take(s, t),
             None => fail("replay: a step is not allowed", text, code),
         }
@@ -175,6 +167,7 @@ struct Seen {
     replayed: u64,
     wandered: u64,
     searched: u64,
+    traces: traces::Seen,
 }
 
 impl Seen {
@@ -187,6 +180,7 @@ impl Seen {
         self.replayed += o.replayed;
         self.wandered += o.wandered;
         self.searched += o.searched;
+        self.traces.add(&o.traces);
     }
 
     fn limits_of(&mut self, s: &Scenario) {
@@ -199,13 +193,14 @@ impl Seen {
         println!("locked by code 0 to 5: {:?}", self.locked);
         println!("refused by number 1 to 11: {:?}", &self.refused[1..]);
         println!("accepted at a limit, {}: {:?}", LIMITS.join(", "), self.limits);
+        self.traces.print();
         println!("traces replayed {}, free orders taken {}, sheets searched whole {}", self.replayed, self.wandered, self.searched);
     }
 
     fn whole(&self) -> bool {
         let eager = [0, 2, 4, 5].iter().all(|c| self.locked[*c] > 0);
         let some = |all: &[u64]| all.iter().all(|n| *n > 0);
-        eager && some(&self.free) && some(&self.refused[1..]) && some(&self.limits) && self.replayed * self.wandered * self.searched > 0
+        eager && some(&self.free) && some(&self.refused[1..]) && some(&self.limits) && self.traces.whole() && self.replayed * self.wandered * self.searched > 0
     }
 }
 
@@ -251,6 +246,9 @@ fn try_text(r: &mut Random, seen: &mut Seen) {
             (Answer::Locked { .. }, Ok(s)) => judge(r, seen, &text, s, code, Some(&trace), search),
             (Answer::Free, Ok(s)) => judge(r, seen, &text, s, code, None, search),
             _ => fail("an answer to no sheet", &text, code),
+        }
+        if r.one_in(4) {
+            traces::try_traces(r, &mut seen.traces, &text, &sheet, code, &trace);
         }
     }
 }

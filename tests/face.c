@@ -1,5 +1,6 @@
 /* The C face, called on every kind of answer with a guard page right behind each buffer: the answer, and the bytes of trace
- * and scratch, on all eleven refusals and both words, with exact and larger buffers, odd codes and empty text. */
+ * and scratch, on all eleven refusals and both words, with exact and larger buffers, odd codes and empty text; and trace_check on
+ * every word and on traces of every length up to two beyond the limit. */
 #define _GNU_SOURCE
 #include "../include/channel_check.h"
 #include <stdio.h>
@@ -255,7 +256,54 @@ static void refusals(void) {
     at_lengths();
 }
 
+/* ------------------------------------------------------------------ trace_check */
+
+static int trace_words[5];
+
+/* one call, with a guard page behind text, scratch and trace */
+static void replay(sheet s, uint32_t code, size_t words, const void *steps, size_t bytes, trace_check_answer e) {
+    buffer text = lend(s.len), scratch = lend(words * 8), trace = lend(bytes);
+    memcpy(text.at, s.text, s.len);
+    memcpy(trace.at, steps, bytes);
+    trace_check_answer a = trace_check(text.at, s.len, code, (uint64_t *)scratch.at, words, trace.at, bytes);
+    calls++;
+    if (a.word < 5) trace_words[a.word]++;
+    if (a.word != e.word || a.one != e.one || a.two != e.two)
+        printf("  expected %u %u %u, got %u %u %u (%zu bytes)\n", e.word, e.one, e.two, a.word, a.one, a.two, bytes);
+    expect(a.word == e.word && a.one == e.one && a.two == e.two, s, code, "trace verdict");
+    size_t cleared = e.word == 4 && e.one <= 2 ? 0 : 8 * (size_t)WORDS;
+    expect(zero(scratch.at, scratch.at + cleared) && painted(scratch.at + cleared, scratch.guard), s, code, "scratch behind a trace");
+    expect(painted(scratch.from, scratch.at) && painted(trace.from, trace.at), s, code, "bytes ahead of a buffer");
+    expect(memcmp(trace.at, steps, bytes) == 0 && memcmp(text.at, s.text, s.len) == 0, s, code, "what was lent to be read was written to");
+    give_back(text), give_back(scratch), give_back(trace);
+}
+
+static void traces(void) {
+    static uint8_t wrong[BYTES + 2];
+    sheet one = named("sheet 1", H "S 0 0\n"), two = named("sheet 2", H "S 0 0\nM 0 1\nM 2 1\nP 1 3\n");
+    replay(one, 0, WORDS, "", 0, (trace_check_answer){0, 0, 0});
+    replay(two, 0, WORDS, "", 0, (trace_check_answer){2, 0, 0});
+    replay(two, 0, WORDS, "\0\1\1\1\0\0", 6, (trace_check_answer){1, 0, 0});
+    replay(two, 1, WORDS, "\0\1\1\1\0\0", 6, (trace_check_answer){2, 0, 0});
+    replay(two, 0, WORDS, "\0\0\1\0\2\0\0\1\1\1\2\1", 12, (trace_check_answer){0, 0, 0});
+    replay(two, 0, WORDS, "\0\0\1\0\2\0\0\1\1\1\2\1\2\1", 14, (trace_check_answer){3, 6, 0});
+    replay(two, 0, WORDS, "\0\0\1\0\1\1", 6, (trace_check_answer){3, 2, 0});
+    replay(two, 0, WORDS, "\0\2", 2, (trace_check_answer){3, 0, 0});
+    replay(two, 6, WORDS, "\0", 1, (trace_check_answer){4, 1, 0});
+    replay(two, 0, WORDS - 1, "\0", 1, (trace_check_answer){4, 2, 0});
+    replay(two, 0, WORDS + 3, "\0", 1, (trace_check_answer){4, 12, 0});
+    replay(named("no sheet", ""), 0, WORDS, "\0\0", 2, (trace_check_answer){4, 3, 0});
+    memset(wrong, 3, sizeof wrong);
+    for (size_t n = 1; n <= BYTES + 2; n++) {
+        trace_check_answer refusal = {4, 12, 0}, first = {3, 0, 0};
+        replay(two, 0, WORDS, wrong, n, n % 2 || n > BYTES ? refusal : first);
+    }
+    for (int w = 0; w < 5; w++)
+        if (!trace_words[w]) printf("FAILED: trace_check never said %d\n", w), failures++;
+}
+
 int main(void) {
+    traces();
     words();
     limits();
     refusals();

@@ -390,3 +390,56 @@ pub fn answer(sheet: &Result<Scenario, Refusal>, code: u32, scratch: usize, trac
         Ok(s) => verdict(s, code),
     }
 }
+
+// ---------------------------------------------------------------- request (a): a trace from another tool
+
+#[derive(Debug, PartialEq)]
+pub enum Replay {
+    Finished,
+    Stuck,
+    Open,
+    NotAllowed(usize),
+    Refused(Refusal),
+}
+
+/// The step that two bytes tell.
+pub fn told(pair: &[u8]) -> Option<Step> {
+    let m = usize::from(pair[1]);
+    match pair[0] {
+        0 => Some(Step::Send(m)),
+        1 => Some(Step::Deliver(m)),
+        2 => Some(Step::Consume(m)),
+        _ => None,
+    }
+}
+
+/// The verdict on a trace by the step rules, as the request words it.
+pub fn replay(sheet: &Result<Scenario, Refusal>, code: u32, scratch: usize, trace: &[u8]) -> Replay {
+    if code > 5 {
+        return Replay::Refused((1, 0));
+    }
+    if scratch < SCRATCH_LEAST {
+        return Replay::Refused((2, 0));
+    }
+    if trace.len() % 2 == 1 || trace.len() > TRACE_LEAST {
+        return Replay::Refused((12, 0));
+    }
+    let s = match sheet {
+        Err(refusal) => return Replay::Refused(*refusal),
+        Ok(s) => s,
+    };
+    let mut state = State::start(s);
+    for (i, pair) in trace.chunks(2).enumerate() {
+        match told(pair).filter(|t| state.allowed(s, code, *t)) {
+            Some(t) => state.take(s, t),
+            None => return Replay::NotAllowed(i),
+        }
+    }
+    if state.finished() {
+        Replay::Finished
+    } else if state.steps(s, code).is_empty() {
+        Replay::Stuck
+    } else {
+        Replay::Open
+    }
+}

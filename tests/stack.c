@@ -20,6 +20,7 @@ static uint8_t *top; /* where the caller's frame stands */
 static void *run(void *unused) {
     top = __builtin_frame_address(0);
     answer = channel_check((const uint8_t *)text, len, code, scratch, CHANNEL_CHECK_SCRATCH_WORDS, trace, CHANNEL_CHECK_TRACE_BYTES);
+    trace_check((const uint8_t *)text, len, code, scratch, CHANNEL_CHECK_SCRATCH_WORDS, trace, answer.word == 1 ? 2 * answer.three : 0);
     return unused;
 }
 

@@ -1,8 +1,11 @@
 // The channel check for C: each exported call is a few lines over its crate, and promises the whole of it.
 ghost use mathlib.Core.Path.{_≡_};
 ghost use Rattle.model.specs.Verdict.{Checked};
+ghost use Rattle.model.specs.Replay.{Replayed};
+ghost use Rattle.replay.specs.Bridge as replayed;
 ghost use Rattle.verdict.specs.Parts.{numbersFor};
 ghost use Rattle.channel_check.specs.Numbers.{Small, numbersIn};
+use replay::TraceCheckAnswer;
 use verdict::Answer;
 
 // The answer as C gets it: word 0 free, 1 locked, 2 refused.
@@ -56,4 +59,17 @@ pub extern "C" fn channel_check(
     ensures { λ r. ⌜ Checked (now (text .entry)) code (now (scratch .entry)) (now (scratch .exit)) (now (trace .entry)) (now (trace .exit)) (numbersIn r) ⌝ }
 {
     numbers(verdict::check(text, code, scratch, trace))
+}
+
+// A trace from another tool: any text, any channel code, any trace, any lengths.
+#[no_mangle]
+pub extern "C" fn trace_check(
+    text: &[u8],
+    code: u32,
+    scratch: &mut [u64],
+    trace: &[u8],
+) -> TraceCheckAnswer
+    ensures { λ r. ⌜ Replayed (now (text .entry)) code (now (scratch .entry)) (now (scratch .exit)) (now (trace .entry)) (replayed.numbersIn r) ⌝ }
+{
+    replay::trace_check(text, code, scratch, trace)
 }

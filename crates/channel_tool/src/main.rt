@@ -1,6 +1,7 @@
 // For a technician: the check at the command line, a word a call. The sheet comes from standard input.
 mod arguments;
 mod steps;
+mod traces;
 
 use libc::STDERR_FILENO;
 use libc::STDIN_FILENO;
@@ -12,6 +13,14 @@ const MOST: usize = model::TEXT_MOST + 1;
 fn print_usage() {
     io::write_all(STDERR_FILENO, b"usage: channel_tool check < SHEET\n");
     io::write_all(STDERR_FILENO, b"       channel_tool steps CODE < SHEET\n");
+    io::write_all(
+        STDERR_FILENO,
+        b"       channel_tool trace CODE < SHEET > TRACEFILE\n",
+    );
+    io::write_all(
+        STDERR_FILENO,
+        b"       channel_tool replay CODE TRACEFILE < SHEET\n",
+    );
 }
 
 fn main() {
@@ -25,6 +34,12 @@ fn main() {
     } else if check::same(word, b"steps") {
         let n = io::read_full(STDIN_FILENO, &mut text);
         steps::print(&text[..n], arguments::code(2));
+    } else if check::same(word, b"trace") {
+        let n = io::read_full(STDIN_FILENO, &mut text);
+        steps::write(&text[..n], arguments::code(2));
+    } else if check::same(word, b"replay") {
+        let n = io::read_full(STDIN_FILENO, &mut text);
+        traces::print(&text[..n], arguments::code(2));
     } else {
         print_usage();
     }

@@ -156,3 +156,7 @@ lowest-hit n k p e t l = go (lowest n p) (lowest-found n p)
 pub lowest-miss : (k : ℕ) (p : ℕ → Bool) → lowest k p ≡ none → p k ≡ false → lowest (suc k) p ≡ none
 unfolding lowest
 lowest-miss k p e f = rw (e, lowest, f)
+
+-- one number that fails is enough
+pub every-fails : (n : ℕ) (p : ℕ → Bool) (k : ℕ) → k < n → p k ≡ false → every n p ≡ false
+every-fails n p k l h = ⊎-elim (λ t. not-both (p k) (every-at n p t k l) h) (λ f. f) (which (every n p))

@@ -24,7 +24,7 @@ use Rattle.model.specs.Verdict.{LowestRace, Verdict, PointThree}
 use Rattle.model.proofs.Bounded.{and-left, and-right, which, not-both, any-some, any-none, IsLowest, Found, lowest-found}
 use Rattle.model.proofs.Events.{event-number, below-number}
 use Rattle.model.proofs.Causal.{Causal}
-use Rattle.model.proofs.Accepted.{accepted-parts, sheet-causal, sheet-count}
+use Rattle.model.proofs.Accepted.{Accepted, accepted-parts, sheet-causal, sheet-count}
 use Rattle.model.proofs.Phases.{view, view-start}
 use Rattle.model.proofs.Rules.{stuck-unfinished, stuck-forbids}
 use Rattle.model.proofs.Invariants.{inv-start}
@@ -239,3 +239,26 @@ trace-kept text code scratchLength trace = go (acceptedOf text code scratchLengt
         let count : S .count ≤ messagesMost = sheet-count text S (a .sheet) in
         let long : traceLeast ≤ length trace = a .traceEnough in
         trace-fits S C code (a .codeKnown) (verdictOf S code) (decided S C code (a .codeKnown)) trace (omega arith)
+
+-- where the check says locked, the sheet is accepted, and its steps are an order of the scenario that ends stuck
+pub locked-stuck : (text : List ℕ) (code m n e x : ℕ) (ts : List Step) → answerOf text code m n ≡ locked e x ts
+    → (S : Scenario) × Accepted text code m n S × EndsStuck S (channelOf code) ts × (length ts ≤ 3 * S .count)
+unfolding answerOf answerFor
+locked-stuck text code m n e x ts h = go (acceptedOf text code m n) refl h
+  where
+    decides : (S : Scenario) (a : Accepted text code m n S) (v : Answer) → Decided S (sheet-causal text S (a .sheet)) code (a .codeKnown) v
+        → v ≡ locked e x ts → EndsStuck S (channelOf code) ts × (length ts ≤ 3 * S .count)
+    decides S a v (isFree quiet) i = let z : _≡_ {A = ℕ} 0 1 = cc in absurd (omega arith)
+    decides S a v (isLocked {e = f} {x = y} L) i =
+        let same : schedule S (channelOf code) f ≡ ts = cc in
+        let E = race-stuck S (sheet-causal text S (a .sheet)) code (a .codeKnown) f (event y) (L .inScenario .0) (L .race) in
+        subst (λ (l : List Step). EndsStuck S (channelOf code) l × (length l ≤ 3 * S .count)) same
+        (E, none-longer S (channelOf code) (sheet-causal text S (a .sheet)) (schedule S (channelOf code) f) (E .isOrder))
+
+    go : (o : Out Scenario) → acceptedOf text code m n ≡ o → answerFor o code ≡ locked e x ts
+        → (S : Scenario) × Accepted text code m n S × EndsStuck S (channelOf code) ts × (length ts ≤ 3 * S .count)
+    go (refusal number line) i k = let z : _≡_ {A = ℕ} 0 1 = cc in absurd (omega arith)
+    go (ok S) i k =
+        let a = accepted-parts text code m n S i in
+        let d = decides S a (verdictOf S code) (decided S (sheet-causal text S (a .sheet)) code (a .codeKnown)) k in
+        (S, a, d .0, d .1)

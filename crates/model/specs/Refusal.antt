@@ -1,4 +1,4 @@
--- "Refusal table": the eleven numbers, and what a part of the check hands on: a value, or the refusal with its line.
+-- "Refusal table" and those that the requests add: their numbers, and what a part of the check hands on: a value, or the refusal with its line.
 -- Assumes nothing.
 use Prim.Native.Nat.{ℕ}
 
@@ -43,3 +43,7 @@ messagesRefusal = 10
 
 abbrev pub circleRefusal : ℕ
 circleRefusal = 11
+
+-- request (a): a trace of odd length, or too long
+abbrev pub traceRefusal : ℕ
+traceRefusal = 12

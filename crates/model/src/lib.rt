@@ -29,7 +29,7 @@ pub const SCRATCH_LEAST: usize = 2048;
 
 pub const TRACE_LEAST: usize = 2 * (3 * MESSAGES_MOST);
 
-// The refusals, by the numbers of the paper's table.
+// The refusals, by the numbers of the paper's table and of the requests.
 pub const CHANNEL: u8 = 1;
 
 pub const BENCH: u8 = 2;
@@ -51,3 +51,5 @@ pub const CALLS: u8 = 9;
 pub const MESSAGES: u8 = 10;
 
 pub const CIRCLE: u8 = 11;
+
+pub const TRACE: u8 = 12;

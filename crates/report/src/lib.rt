@@ -53,7 +53,7 @@ pub fn print_channels(text: &[u8]) {
 }
 
 // A step of the trace, for a technician: 0 send, 1 deliver, 2 consume.
-pub fn print_step(kind: u8, message: u8) {
+fn print_step(kind: u8, message: u8) {
     if kind == 0 {
         print(b"send ");
     } else if kind == 1 {
@@ -63,6 +63,17 @@ pub fn print_step(kind: u8, message: u8) {
     }
     print_decimal(message as u32);
     print(b"\n");
+}
+
+// The step that two bytes tell, or that they tell none.
+pub fn print_told(kind: u8, message: u8) {
+    if kind < 3 {
+        print_step(kind, message);
+    } else {
+        print(b"no step has the code ");
+        print_decimal(kind as u32);
+        print(b"\n");
+    }
 }
 
 // The steps that the bytes of a trace tell, one a line.

@@ -1,0 +1,3 @@
+mod Going
+mod Parts
+mod Whole

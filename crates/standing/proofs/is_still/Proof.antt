@@ -1,0 +1,51 @@
+-- `standing::is_still` meets its contract. Assumes nothing.
+use Prim.Native.Nat.{_-_}
+use Rattle.standing.proofs.AtEnd.{Stilled, stilled-starts, still-moves, still-stands, all-still}
+use borrow.Author.Needs.{needs}
+use Rattle.standing.proofs.is_still.Statement.{statement}
+use Rattle.standing.proofs.is_still.Tie as tie
+
+abbrev Inv-loop : tie.InvT-loop
+Inv-loop words masks boards count c done way rows m₀ m = Stilled count boards words c done way rows m
+
+abbrev μ-loop : tie.MeasureT-loop
+μ-loop words masks boards count c done way rows m₀ m = count - m
+
+held-rows-requires : tie.Need-held-rows-requires Inv-loop μ-loop
+held-rows-requires c κs = search needs
+
+loop-holds : tie.Need-loop-holds Inv-loop μ-loop
+loop-holds c = search stilled-starts
+
+is-held-up-requires : tie.Need-is-held-up-requires Inv-loop μ-loop
+is-held-up-requires c κs = search needs
+
+returns : tie.Need-returns Inv-loop μ-loop
+returns c = search (still-moves, needs)
+
+add-m : tie.Need-add-m Inv-loop μ-loop
+add-m c = search needs
+
+loop-less : tie.Need-loop-less Inv-loop μ-loop
+loop-less c = search needs
+
+loop-again : tie.Need-loop-again Inv-loop μ-loop
+loop-again c = search still-stands
+
+returns-2 : tie.Need-returns-2 Inv-loop μ-loop
+returns-2 c = search (all-still, needs)
+
+pub is-still-spec : {M : Type 1} → statement M
+is-still-spec =
+    tie.close
+    (tie.spec
+    Inv-loop
+    μ-loop
+    held-rows-requires
+    loop-holds
+    is-held-up-requires
+    returns
+    add-m
+    loop-less
+    loop-again
+    returns-2)

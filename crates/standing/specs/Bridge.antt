@@ -1,0 +1,43 @@
+-- Where a run stands, as the model's verdict, and what the tests say of a run. Assumes nothing.
+use mathlib.Core.Path.{_≡_}
+use mathlib.Core.Bool.{Bool, not, _&&_}
+use mathlib.Core.List.{List}
+use Prim.Native.Nat.{ℕ, _+_, _*_}
+use Rattle.model.specs.Bounded.{every}
+use Rattle.model.specs.Run.{send, deliver, consume, allowed}
+use Rattle.model.specs.Replay.{Replay, finishes, sticks, open′}
+use Rattle.relation.specs.Scenario.{scenarioIn}
+use Rattle.channel_table.specs.declared.Channel.{Channel}
+use Rattle.channel_table.specs.Table.{channelIn}
+use Rattle.step.specs.declared.Step.{Step}
+use Rattle.run.specs.declared.Run.{Run}
+use Rattle.run.specs.State.{inRow, stateOf}
+use Rattle.buffers.specs.Held.{HeldIn}
+use Rattle.channel.specs.Steps.{Says}
+use Rattle.standing.specs.declared.Stand.{Stand}
+use Rattle.standing.specs.declared.Stand.the-variants.{Finished, Stuck, Open}
+
+abbrev pub standIn : Stand → Replay
+standIn Finished = finishes
+standIn Stuck = sticks
+standIn Open = open′
+
+-- the row has the send and the receive of each of the first `count` messages
+abbrev pub allDone : ℕ → List ℕ → Bool
+allDone count done = every count (λ m. inRow done (2 * m) && inRow done (2 * m + 1))
+
+-- no step on message m is allowed in the run
+abbrev pub stillAt : ℕ → List ℕ → List ℕ → Channel → Run → ℕ → Bool
+stillAt count on words c run m =
+    let may = allowed (scenarioIn count on words) (channelIn c) (stateOf run) in
+    not (may (send m)) && not (may (deliver m)) && not (may (consume m))
+
+-- of every run with these events done, these messages under way and these buffers in rows: whether the step is allowed
+abbrev pub SaysIn : ℕ → List ℕ → List ℕ → Channel → List ℕ → List ℕ → List ℕ → Step → Bool → Type 0
+SaysIn count on words c done way rows step r =
+    (run : Run) → run .done ≡ done → run .way ≡ way → HeldIn run rows → Says count on words c run step r
+
+-- and whether no step on message m is
+abbrev pub SaysStill : ℕ → List ℕ → List ℕ → Channel → List ℕ → List ℕ → List ℕ → ℕ → Bool → Type 0
+SaysStill count on words c done way rows m r =
+    (run : Run) → run .done ≡ done → run .way ≡ way → HeldIn run rows → r ≡ stillAt count on words c run m

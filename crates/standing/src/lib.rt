@@ -1,0 +1,157 @@
+// Where a run stands: finished, stuck or open.
+ghost use mathlib.Core.Path.{_≡_};
+ghost use Prim.Native.Nat.{_<_, _≤_};
+ghost use Rattle.model.specs.Limits.{messagesMost};
+ghost use Rattle.model.specs.Run.{noStep};
+ghost use Rattle.model.specs.Replay.{standing};
+ghost use Rattle.relation.specs.Scenario.{scenarioIn};
+ghost use Rattle.channel_table.specs.Table.{channelIn};
+ghost use Rattle.board.specs.Masks.{Standing};
+ghost use Rattle.run.specs.State.{stateOf};
+ghost use Rattle.step.specs.Steps.{messageIn};
+ghost use Rattle.standing.specs.Bridge.{standIn, allDone, SaysIn, SaysStill};
+use board::board_of;
+use buffers::HELD_WORDS;
+use channel_table::Channel;
+use relation::WIDTH;
+use run::Run;
+use step::Step;
+
+// All events done; no step allowed, and not all done; or a step allowed.
+pub enum Stand {
+    Finished,
+    Stuck,
+    Open,
+}
+
+// All events are done.
+fn is_finished(done: &[u64; WIDTH], count: usize) -> bool
+    requires { ⌜ count ≤ messagesMost ⌝ }
+    ensures { λ r. ⌜ r ≡ allDone count (now (done .entry)) ⌝ }
+{
+    for m in 0..count {
+        let send = 2 * m;
+        let receive = send + 1;
+        if !relation::test(done, 0, send) {
+            return false;
+        }
+        if !relation::test(done, 0, receive) {
+            return false;
+        }
+    }
+    true
+}
+
+// The step is allowed, by the parts of a run: what is done, what is under way, and the rows of the buffers.
+fn may_step<'a>(
+    words: &[u64],
+    masks: &[u64],
+    boards: &[u8],
+    count: usize,
+    c: Channel,
+    done: &'a [u64; WIDTH],
+    way: &'a [u64; WIDTH],
+    rows: &'a [u64; HELD_WORDS],
+    step: Step,
+) -> bool
+    requires { ⌜ Standing count (now boards) (now words) (now masks) ⌝ }
+    requires { ⌜ messageIn step < count ⌝ }
+    ensures { λ r. ⌜ SaysIn count (now (boards .entry)) (now (words .entry)) c (now (done .entry)) (now (way .entry)) (now (rows .entry)) step r ⌝ }
+{
+    let x = step.event();
+    let board = board_of(boards, x);
+    let buffer = buffers::buffer_at(rows, board);
+    channel::allowed(words, masks, boards, count, c, done, way, buffer, step)
+}
+
+// No step on message m is allowed, by the same parts of a run.
+fn is_held_up<'a>(
+    words: &[u64],
+    masks: &[u64],
+    boards: &[u8],
+    count: usize,
+    c: Channel,
+    done: &'a [u64; WIDTH],
+    way: &'a [u64; WIDTH],
+    rows: &'a [u64; HELD_WORDS],
+    m: usize,
+) -> bool
+    requires { ⌜ Standing count (now boards) (now words) (now masks) ⌝ }
+    requires { ⌜ m < count ⌝ }
+    ensures { λ r. ⌜ SaysStill count (now (boards .entry)) (now (words .entry)) c (now (done .entry)) (now (way .entry)) (now (rows .entry)) m r ⌝ }
+{
+    if may_step(
+        words,
+        masks,
+        boards,
+        count,
+        c,
+        done,
+        way,
+        rows,
+        Step::Send(m),
+    ) {
+        return false;
+    }
+    if may_step(
+        words,
+        masks,
+        boards,
+        count,
+        c,
+        done,
+        way,
+        rows,
+        Step::Deliver(m),
+    ) {
+        return false;
+    }
+    !may_step(
+        words,
+        masks,
+        boards,
+        count,
+        c,
+        done,
+        way,
+        rows,
+        Step::Consume(m),
+    )
+}
+
+// No step is allowed.
+fn is_still(run: Run, words: &[u64], masks: &[u64], boards: &[u8], count: usize, c: Channel) -> bool
+    requires { ⌜ Standing count (now boards) (now words) (now masks) ⌝ }
+    ensures { λ r. ⌜ r ≡ noStep (scenarioIn count (now (boards .entry)) (now (words .entry))) (channelIn c) (stateOf run) ⌝ }
+{
+    let done = run.done;
+    let way = run.way;
+    let rows = buffers::held_rows(run);
+    for m in 0..count {
+        if !is_held_up(words, masks, boards, count, c, &done, &way, &rows, m) {
+            return false;
+        }
+    }
+    true
+}
+
+// Where the run stands.
+pub fn stand_of(
+    run: Run,
+    words: &[u64],
+    masks: &[u64],
+    boards: &[u8],
+    count: usize,
+    c: Channel,
+) -> Stand
+    requires { ⌜ Standing count (now boards) (now words) (now masks) ⌝ }
+    ensures { λ r. ⌜ standIn r ≡ standing (scenarioIn count (now (boards .entry)) (now (words .entry))) (channelIn c) (stateOf run) ⌝ }
+{
+    if is_finished(&run.done, count) {
+        return Stand::Finished;
+    }
+    if is_still(run, words, masks, boards, count, c) {
+        return Stand::Stuck;
+    }
+    Stand::Open
+}

@@ -29,7 +29,7 @@ expandedOf file = andThen (expand metOps file nothingMet) (λ s. withoutCircle (
 unfoldable pub sheetOf : List ℕ → Out Scenario
 sheetOf text = andThen (readOf text) expandedOf
 
--- the exchange that the walk of a text meets, or refusal 3 to 10
+-- the exchange that the walk of a text meets, or refusal 3 to 11
 unfoldable pub exchangeMet : List ℕ → Out Exchange
 exchangeMet text = andThen (readOf text) (λ file. andThen (expand metOps file nothingMet) (λ s. ok (exchangeOf s)))
 

@@ -106,24 +106,40 @@ complete-same rs rs′ e = go (strayCall (opens rs) 0 rs) (cond-ok (among 0 (ope
     go none h = cc
     go (some line) h = not-refused h
 
-body-fits : (ls : List Line) (rs : List Row) → bodyOf ls ≡ ok rs → Fits [] rs
+-- What a text that is read has: a heading, and behind it the rows, judged one by one and complete.
+pub record Parts (rs : List Row) : Type 0 where
+  pub columns : Columns
+  pub lines : List Line
+  pub read : rowsFrom columns 0 outside lines ≡ ok rs
+  pub whole : complete rs ≡ ok rs
+
+body-parts : (ls : List Line) (rs : List Row) → bodyOf ls ≡ ok rs → Parts rs
 unfolding bodyOf
-body-fits [] rs e = not-refused e
-body-fits (h ∷ ls) rs e = go (headingOf h) e
+body-parts [] rs e = not-refused e
+body-parts (h ∷ ls) rs e = go (headingOf h) e
   where
     go : (o : Option Columns)
         → elim o [ none ↦ refusal headingRefusal 1 | some c ↦ andThen (rowsFrom c 0 outside ls) complete ] ≡ ok rs
-        → Fits [] rs
+        → Parts rs
     go none e = not-refused e
     go (some c) e =
         let t = and-then-ok (rowsFrom c 0 outside ls) complete rs e in
-        subst (λ (z : List Row). Fits [] z) (complete-same (t .0) rs (t .2)) (rows-fit c 0 outside ls (t .0) (t .1))
+        let same = complete-same (t .0) rs (t .2) in
+        record {
+          columns = c;
+          lines = ls;
+          read = subst (λ (z : List Row). rowsFrom c 0 outside ls ≡ ok z) same (t .1);
+          whole = subst (λ (z : List Row). complete z ≡ ok rs) same (t .2);
+        }
+
+pub read-parts : (text : List ℕ) (rs : List Row) → readOf text ≡ ok rs → Parts rs
+unfolding readOf
+read-parts text rs e =
+    body-parts (linesOf text) rs (cond-ok (ltb 0 (length text) && leb (length text) textMost) (bodyOf (linesOf text)) _ _ rs e .1)
 
 -- the rows of a text that is read fit
 pub read-fits : (text : List ℕ) (rs : List Row) → readOf text ≡ ok rs → Fits [] rs
-unfolding readOf
-read-fits text rs e =
-    body-fits (linesOf text) rs (cond-ok (ltb 0 (length text) && leb (length text) textMost) (bodyOf (linesOf text)) _ _ rs e .1)
+read-fits text rs e = let p = read-parts text rs e in rows-fit (p .columns) 0 outside (p .lines) rs (p .read)
 
 -- and so do the rows behind each sheet's S row
 pub sheet-fits : (n : ℕ) (events : List ℕ) (rs : List Row) → Fits events rs → Fits [] (drop (startOf n rs) rs)

@@ -49,6 +49,7 @@ Within m (call n) = Unit {0}
 pub record NotedAs (words : List ℕ) (m : ℕ) (r : Row) (exit : List ℕ) (circle : Bool) : Type 0 where
   pub found : circle ≡ circles words r
   pub left : exit ≡ cond circle words (noted words m r)
+  pub long : length exit ≡ length words
 
 -- The words hold the order of a block of n events: event x is in row y exactly if it is before y.
 pub record HoldsOrder (n : ℕ) (orders : List (ℕ × ℕ)) (words : List ℕ) : Type 0 where

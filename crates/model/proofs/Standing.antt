@@ -52,7 +52,7 @@ pub record Judged (i : ℕ) (p q : Place) (r : Row) : Type 0 where
   pub allowed : moved p r ≡ some q
   pub noCircle : circleAt r q ≡ false
 
-placed-moved : (p q : Place) (r : Row) → placed p r ≡ some q → moved p r ≡ some q
+pub placed-moved : (p q : Place) (r : Row) → placed p r ≡ some q → moved p r ≡ some q
 unfolding placed
 placed-moved p q r e = go (isSheet r || not (eqb (length (p .opened)) 0)) e
   where

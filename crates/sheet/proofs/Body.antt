@@ -1,5 +1,5 @@
 -- The rows behind the heading, complete: sheet 0 is there, and so is every sheet that is called. Assumes nothing.
-use Prim.Native.Nat.{ℕ, zero, suc, _+_, _-_, _≤_, _<_}
+use Prim.Native.Nat.{ℕ, zero, suc, _+_, _-_, _*_, _≤_, _<_}
 use Prim.Native.Char.{code}
 use native.Mathlib.Nat.{sub-zero}
 use native.Mathlib.Numerals.{add-one}
@@ -10,13 +10,14 @@ use mathlib.Core.List.{List, _∷_}
 use mathlib.Core.Option.{Option, none, some}
 use borrow.Author.Tests.{ne-eqb, eqb-true, not-true, not-false}
 use lib.Dec.{eqb}
-use lib.ListN.{getD, drop}
-use Rattle.model.specs.Limits.{rowsMost}
+use lib.ListN.{length, getD, drop}
+use Rattle.model.specs.Limits.{rowsMost, messagesMost}
 use Rattle.model.specs.Bounded.{among}
 use Rattle.model.specs.Refusal.{Out, ok, refusal, andThen, absentRefusal}
 use Rattle.model.specs.Text.{Line, Columns, linesOf}
 use Rattle.model.specs.Rows.{Row}
 use Rattle.model.specs.Place.{outside, lineOf, rowsFrom, opens, strayCall, complete}
+use Rattle.relation.specs.Width.{width}
 use Rattle.place.specs.Stand.{isOpen}
 use Rattle.sheet.specs.Bridge.{rowFrom, rowsAt, rowsOf, outcomeOf, startsOf, storeOf, Sized, KeptOn}
 use Rattle.sheet.specs.Reading.{readFrom, fresh}
@@ -137,23 +138,23 @@ pub no-rows : {C : Type 0} (o : Out (List Row)) (number line : ℕ) (rs : List R
 no-rows o number line rs e f = let z : _≡_ {A = ℕ} 0 1 = cc in absurd (omega arith)
 
 -- the rows refused, and the rows read and judged as a whole
-module _ (c : Columns) (text : List ℕ) (first : ℕ) (kind one two start : List ℕ) where
+module _ (c : Columns) (text : List ℕ) (first : ℕ) (kind one two start words : List ℕ) (long : length words ≡ 2 * messagesMost * width) where
   abbrev lines : List Line
   lines = linesOf (drop first text)
 
-  pub body-refused : (number line : ℕ) → readFrom c 0 fresh lines ≡ refusal number line → BodyAs c text first (storeOf kind one two start) (Refused number line)
+  pub body-refused : (number line : ℕ) → readFrom c 0 (fresh words) lines ≡ refusal number line → BodyAs c text first (storeOf kind one two start) (Refused number line)
   unfolding andThen
   body-refused number line e =
-      let o : andThen (rowsFrom c 0 outside lines) complete ≡ refusal number line = rw (rows-refused c lines number line e) in
+      let o : andThen (rowsFrom c 0 outside lines) complete ≡ refusal number line = rw (rows-refused c lines words long number line e) in
       record { outcome = sym o; starts = λ rs h. no-rows _ number line rs o h; kept = tt }
 
-  pub body-complete : (count : ℕ) (r : Verdict) → readFrom c 0 fresh lines ≡ ok (record { rows = rowsOf kind one two count; starts = start })
+  pub body-complete : (count : ℕ) (r : Verdict) → readFrom c 0 (fresh words) lines ≡ ok (record { rows = rowsOf kind one two count; starts = start })
       → count ≤ rowsMost → Sized (storeOf kind one two start) → r ≡ completeIn kind one start count → BodyAs c text first (storeOf kind one two start) r
   unfolding andThen
   body-complete count r e few sized h =
-      let o : andThen (rowsFrom c 0 outside lines) complete ≡ complete (rowsOf kind one two count) = rw (rows-read c lines _ e) in
+      let o : andThen (rowsFrom c 0 outside lines) complete ≡ complete (rowsOf kind one two count) = rw (rows-read c lines words long _ e) in
       record {
-        outcome = ap (λ (x : Verdict). outcomeOf x kind one two) h ∙ complete-in kind one two start count (open-same c lines _ e) ∙ sym o;
-        starts = λ rs g. starts-same c lines _ e ∙ ap startsOf (complete-rows (rowsOf kind one two count) rs (sym o ∙ g));
+        outcome = ap (λ (x : Verdict). outcomeOf x kind one two) h ∙ complete-in kind one two start count (open-same c lines words long _ e) ∙ sym o;
+        starts = λ rs g. starts-same c lines words long _ e ∙ ap startsOf (complete-rows (rowsOf kind one two count) rs (sym o ∙ g));
         kept = subst (λ (x : Verdict). KeptOn (storeOf kind one two start) x) (sym h) (complete-kept kind one two start count (few, sized));
       }

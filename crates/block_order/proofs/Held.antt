@@ -8,16 +8,15 @@ use mathlib.Core.Logic.{_⊎_, inl, inr, ⊎-elim}
 use mathlib.Core.Bool.{Bool, true, false, _&&_, _||_, and-false, and-eq-true-iff}
 use mathlib.Core.List.{List, [], _∷_}
 use lib.Dec.{eqb}
-use lib.ListN.{length, getD, replicate}
+use lib.ListN.{length}
 use borrow.Author.Tests.{eqb-true, eq-eqb, ne-eqb}
 use Rattle.model.specs.Limits.{messagesMost}
-use Rattle.model.specs.Closure.{reads}
-use Rattle.model.specs.Place.{BlockBefore, given, through, blockTable, blockCircle}
-use Rattle.model.proofs.Bounded.{or-cases, or-left, or-right, both-ways, which, not-both}
+use Rattle.model.specs.Place.{BlockBefore, given, through, blockCircle}
+use Rattle.model.proofs.Bounded.{or-cases, or-left, or-right, both-ways}
 use Rattle.model.proofs.Lists.{replicate-at}
 use Rattle.model.proofs.Block.{Inside, inside-more, listed-first, blockBefore, NoCircle, before-below, before-transitive, block-exact, before-more, more-split, circle-exactly, message-old, message-new, message-split}
 use Rattle.relation.specs.Width.{width, wordBits}
-use Rattle.relation.specs.Rows.{has, holds, marked, copiedFrom, inserted}
+use Rattle.relation.specs.Rows.{holds, copiedFrom, inserted}
 use Rattle.relation.specs.Order.{before, Transitive, Covers, linked}
 use Rattle.relation.proofs.Bits.{has-zero}
 use Rattle.relation.proofs.Marked.{length-marked, holds-marked}

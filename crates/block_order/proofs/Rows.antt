@@ -2,8 +2,8 @@
 -- behind the row. Assumes nothing.
 use Prim.Native.Nat.{ℕ, _+_, _*_, _/_, _<_}
 use native.Mathlib.Omega.{arith}
-use mathlib.Core.Path.{_≡_, refl, sym, _∙_, ap, subst}
-use mathlib.Core.Bool.{Bool, true, not, _&&_}
+use mathlib.Core.Path.{_≡_, refl, sym, subst}
+use mathlib.Core.Bool.{true, not, _&&_}
 use mathlib.Core.List.{List, [], _∷_}
 use mathlib.Core.Option.{some}
 use borrow.Author.Tests.{ltb-true}
@@ -12,7 +12,7 @@ use lib.ListN.{length, length-append}
 use Rattle.model.specs.Limits.{sheets, boards, messagesMost}
 use Rattle.model.specs.Bounded.{among}
 use Rattle.model.specs.Rows.{Row, sheet, message, order, block, call}
-use Rattle.model.specs.Place.{Place, blockNext, messageFits, orderFits, moved, circleAt}
+use Rattle.model.specs.Place.{Place, messageFits, orderFits, moved, circleAt}
 use Rattle.model.proofs.Bounded.{and-right}
 use Rattle.model.proofs.Standing.{cond-some}
 use Rattle.model.proofs.Walked.{order-parts}
@@ -83,5 +83,5 @@ module _ (p : Place) (words : List ℕ) (ordered : Ordered (length (p .events)) 
   held-behind (order x y) q e =
       let t = cond-some (orderFits (p .events) x y) _ q e in
       subst (λ (z : Place). HeldAt z (noted words (length (p .events) / 2) (order x y))) (t .1) (order-held x y (t .0))
-  held-behind block q e = subst (λ (z : Place). HeldAt z words) (cond-some true (blockNext (p .opened)) q e .1) (held-empty words (held .long))
+  held-behind block q e = subst (λ (z : Place). HeldAt z words) (cond-some true _ q e .1) (held-empty words (held .long))
   held-behind (call n) q e = subst (λ (z : Place). HeldAt z words) (cond-some (ltb n sheets) _ q e .1) (held-empty words (held .long))

@@ -1,17 +1,17 @@
 -- The order of a block: the computed table is exactly the least transitive relation, and what one P row and one message more add to
 -- it. Assumes nothing.
-use Prim.Native.Nat.{ℕ, suc, _+_, _*_, _%_, _<_, _≤_}
+use Prim.Native.Nat.{ℕ, _+_, _*_, _%_, _<_}
 use native.Mathlib.Omega.{arith}
 use native.Mathlib.Decide.{ℕ-discrete}
-use mathlib.Core.Path.{_≡_, refl, sym, _∙_, ap, subst}
+use mathlib.Core.Path.{_≡_, refl, sym, _∙_, subst}
 use mathlib.Core.Logic.{_⊎_, inl, inr, ⊎-elim, _↔_}
-use mathlib.Core.Bool.{Bool, true, false, _&&_, _||_}
-use mathlib.Core.List.{List, [], _∷_}
+use mathlib.Core.Bool.{Bool, true, false, _&&_}
+use mathlib.Core.List.{List, _∷_}
 use lib.Dec.{eqb, ltb}
 use borrow.Author.Tests.{eqb-true, eq-eqb, ltb-true, lt-ltb}
 use Rattle.model.specs.Closure.{listed, reads}
-use Rattle.model.specs.Place.{isOwnPair, BlockBefore, given, paired, through, blockTable, blockCircle}
-use Rattle.model.proofs.Bounded.{and-left, and-right, and-both, or-cases, or-left, or-right, both-ways, not-both, any-from, any-none, any-some}
+use Rattle.model.specs.Place.{isOwnPair, BlockBefore, given, paired, through, blockDirect, blockTable, blockCircle}
+use Rattle.model.proofs.Bounded.{and-left, and-right, or-cases, or-left, or-right, both-ways, not-both, any-from, any-none, any-some}
 use Rattle.model.proofs.Closure.{linked-below, closure-holds, closure-transitive, closure-least}
 
 -- a message's own pair: its parts, and from them
@@ -66,31 +66,39 @@ abbrev pub NoCircle : ℕ → List (ℕ × ℕ) → Type 0
 NoCircle n orders = (e : ℕ) → BlockBefore n orders e e → ⊥
 
 module _ (n : ℕ) (orders : List (ℕ × ℕ)) where
-  abbrev direct : ℕ → ℕ → Bool
-  direct x y = listed x y orders || isOwnPair n x y
-
   pub before-below : (x y : ℕ) → blockBefore n orders x y ≡ true → (x < n) × (y < n)
   unfolding blockTable
-  before-below x y h = linked-below n direct n x y h
+  before-below x y h = linked-below n (blockDirect n orders) n x y h
 
   pub before-transitive : (x y z : ℕ) → blockBefore n orders x y ≡ true → blockBefore n orders y z ≡ true → blockBefore n orders x z ≡ true
   unfolding blockTable
-  before-transitive x y z p q = closure-transitive n direct x y z p q
+  before-transitive x y z p q = closure-transitive n (blockDirect n orders) x y z p q
+
+  -- each source, and what a source is
+  direct-given : (x y : ℕ) → listed x y orders ≡ true → blockDirect n orders x y ≡ true
+  unfolding blockDirect
+  direct-given x y h = or-left (listed x y orders) (isOwnPair n x y) h
+
+  direct-paired : (x y : ℕ) → isOwnPair n x y ≡ true → blockDirect n orders x y ≡ true
+  unfolding blockDirect
+  direct-paired x y h = or-right (listed x y orders) (isOwnPair n x y) h
+
+  direct-relation : (x y : ℕ) → blockDirect n orders x y ≡ true → BlockBefore n orders x y
+  unfolding blockDirect
+  direct-relation x y d = ⊎-elim (λ l. given l) (λ o. paired o) (or-cases (listed x y orders) (isOwnPair n x y) d)
 
   table-relation : (x y : ℕ) → blockBefore n orders x y ≡ true → BlockBefore n orders x y
   unfolding blockTable
   table-relation x y h =
-      closure-least n direct (BlockBefore n orders)
-      (λ a b p q d. ⊎-elim (λ l. given l) (λ o. paired o) (or-cases (listed a b orders) (isOwnPair n a b) d))
-      (λ a b c p q. through p q) x y h
+      closure-least n (blockDirect n orders) (BlockBefore n orders) (λ a b p q d. direct-relation a b d) (λ a b c p q. through p q) x y h
 
   relation-table : Inside n orders → {x y : ℕ} → BlockBefore n orders x y → blockBefore n orders x y ≡ true
   unfolding blockTable
   relation-table inside (given {x = x} {y = y} h) =
-      let p = inside x y h in closure-holds n direct x y (p .0) (p .1) (or-left (listed x y orders) (isOwnPair n x y) h)
+      let p = inside x y h in closure-holds n (blockDirect n orders) x y (p .0) (p .1) (direct-given x y h)
   relation-table inside (paired {x = x} {y = y} h) =
       let p = own-pair-parts n x y h in
-      closure-holds n direct x y (omega (arith, p .1, p .2)) (p .2) (or-right (listed x y orders) (isOwnPair n x y) h)
+      closure-holds n (blockDirect n orders) x y (omega (arith, p .1, p .2)) (p .2) (direct-paired x y h)
   relation-table inside (through {x = x} {y = y} {z = z} p q) =
       before-transitive x y z (relation-table inside p) (relation-table inside q)
 

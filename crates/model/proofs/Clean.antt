@@ -1,7 +1,7 @@
 -- No block of a text that is read has a circle, called or not. Assumes nothing.
 use Prim.Native.Nat.{ℕ, suc, _+_, _*_}
 use native.Mathlib.Omega.{arith}
-use mathlib.Core.Path.{_≡_, refl, sym, _∙_, subst}
+use mathlib.Core.Path.{_≡_, refl, sym, subst}
 use mathlib.Core.Bool.{Bool, true, false, not, _&&_}
 use mathlib.Core.List.{List, [], _∷_}
 use mathlib.Core.Option.{some}
@@ -13,7 +13,7 @@ use Rattle.model.specs.Closure.{listed}
 use Rattle.model.specs.Refusal.{ok, refusal}
 use Rattle.model.specs.Text.{Line, Columns}
 use Rattle.model.specs.Rows.{Row, sheet, message, order, block, call}
-use Rattle.model.specs.Place.{Place, outside, blockNext, withMessage, messageFits, orderFits, moved, circleAt, judged, rowsFrom, readOf}
+use Rattle.model.specs.Place.{Place, outside, messageFits, orderFits, moved, circleAt, judged, rowsFrom, readOf}
 use Rattle.model.specs.Expansion.{startOf}
 use Rattle.model.proofs.Bounded.{not-both}
 use Rattle.model.proofs.Refusal.{passed}
@@ -77,7 +77,7 @@ judged-ordered p q (order x y) e c h =
       noCircle = circle-none (length (p .events)) ((x, y) ∷ p .orders) inside c′;
     })
 judged-ordered p q block e c h =
-    subst (λ (z : Place). Ordered (length (z .events)) (z .orders)) (cond-some true (blockNext (p .opened)) q e .1) ordered-empty
+    subst (λ (z : Place). Ordered (length (z .events)) (z .orders)) (cond-some true _ q e .1) ordered-empty
 judged-ordered p q (call n) e c h =
     subst (λ (z : Place). Ordered (length (z .events)) (z .orders)) (cond-some (ltb n sheets) _ q e .1) ordered-empty
 
@@ -103,7 +103,7 @@ moved-clean p q (message a b) rs e h f = (
 moved-clean p q (order x y) rs e h f =
     (h, subst (λ (z : Place). Clean (length (z .events)) (z .orders) rs) (sym (cond-some (orderFits (p .events) x y) _ q e .1)) f)
 moved-clean p q block rs e h f =
-    (h, subst (λ (z : Place). Clean (length (z .events)) (z .orders) rs) (sym (cond-some true (blockNext (p .opened)) q e .1)) f)
+    (h, subst (λ (z : Place). Clean (length (z .events)) (z .orders) rs) (sym (cond-some true _ q e .1)) f)
 moved-clean p q (call n) rs e h f =
     (h, subst (λ (z : Place). Clean (length (z .events)) (z .orders) rs) (sym (cond-some (ltb n sheets) _ q e .1)) f)
 

@@ -15,7 +15,7 @@ use Rattle.model.specs.Text.{Line, Columns, linesOf, headingOf}
 use Rattle.model.specs.Rows.{Row, sheet, message, order, block, call, rowOf}
 use Rattle.model.specs.Place.{Place, outside, placed, circleAt, lineOf, judged, rowsFrom, opens, strayCall, complete, bodyOf, readOf}
 use Rattle.model.specs.Expansion.{Ops, Progress, startOf, blockOpened, callMade, messageMet, orderMet, walkRows, callAt, expand}
-use Rattle.model.specs.Order.{Met, metOps, nothingMet, exchangeOf, scenarioOf, hasCircle}
+use Rattle.model.specs.Order.{metOps, nothingMet, exchangeOf, scenarioOf, hasCircle}
 use Rattle.model.specs.Answer.{withoutCircle, expandedOf, sheetOf}
 use Rattle.model.proofs.Refusal.{not-refused}
 

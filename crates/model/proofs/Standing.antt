@@ -14,7 +14,7 @@ use Rattle.model.specs.Bounded.{among}
 use Rattle.model.specs.Refusal.{ok, refusal, andThen, headingRefusal, rowRefusal, placeRefusal, absentRefusal, circleRefusal}
 use Rattle.model.specs.Text.{Line, Columns, linesOf, headingOf}
 use Rattle.model.specs.Rows.{Row, sheet, message, order, block, call, rowOf}
-use Rattle.model.specs.Place.{Place, outside, blockNext, withMessage, messageFits, orderFits, moved, isSheet, placed, circleAt, lineOf, judged, rowsFrom, opens, strayCall, complete, bodyOf, readOf}
+use Rattle.model.specs.Place.{Place, outside, withMessage, messageFits, orderFits, moved, isSheet, placed, circleAt, lineOf, judged, rowsFrom, opens, strayCall, complete, bodyOf, readOf}
 use Rattle.model.specs.Expansion.{startOf}
 use Rattle.model.proofs.Refusal.{not-refused, and-then-ok, passed, cond-ok, cond-refused}
 
@@ -42,7 +42,7 @@ moved-fits p q (message a b) rs e f =
 moved-fits p q (order x y) rs e f =
     let t = cond-some (orderFits (p .events) x y) _ q e in (t .0, subst (λ (z : Place). Fits (z .events) rs) (sym (t .1)) f)
 moved-fits p q block rs e f =
-    let t = cond-some true (blockNext (p .opened)) q e in subst (λ (z : Place). Fits (z .events) rs) (sym (t .1)) f
+    let t = cond-some true _ q e in subst (λ (z : Place). Fits (z .events) rs) (sym (t .1)) f
 moved-fits p q (call n) rs e f =
     let t = cond-some (ltb n sheets) _ q e in subst (λ (z : Place). Fits (z .events) rs) (sym (t .1)) f
 

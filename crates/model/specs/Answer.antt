@@ -11,7 +11,7 @@ use Rattle.model.specs.Refusal.{Out, ok, refusal, andThen, channelRefusa
 use Rattle.model.specs.Rows.{Row}
 use Rattle.model.specs.Place.{readOf}
 use Rattle.model.specs.Expansion.{expand}
-use Rattle.model.specs.Order.{Exchange, Scenario, Met, nothingMet, metOps, exchangeOf, scenarioOf, hasCircle}
+use Rattle.model.specs.Order.{Exchange, Scenario, nothingMet, metOps, exchangeOf, scenarioOf, hasCircle}
 use Rattle.model.specs.Channel.{channelOf}
 use Rattle.model.specs.Run.{Step}
 use Rattle.model.specs.Race.{raceRuleOf, lowestRace}

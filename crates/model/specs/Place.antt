@@ -76,9 +76,12 @@ module _ (n : ℕ) (orders : List (ℕ × ℕ)) where
     paired : {x y : ℕ} → isOwnPair n x y ≡ true → BlockBefore x y
     through : {x y z : ℕ} → BlockBefore x y → BlockBefore y z → BlockBefore x z
 
-  -- the same, as a computed table
+  -- its two sources, and the whole of it as a computed table
+  unfoldable pub blockDirect : ℕ → ℕ → Bool
+  blockDirect x y = listed x y orders || isOwnPair n x y
+
   unfoldable pub blockTable : List (List Bool)
-  blockTable = linked n (λ x y. listed x y orders || isOwnPair n x y) n
+  blockTable = linked n blockDirect n
 
   -- an event of the block is before itself
   unfoldable pub blockCircle : Bool

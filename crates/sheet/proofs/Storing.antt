@@ -18,9 +18,11 @@ use Rattle.relation.specs.Width.{width}
 use Rattle.row.specs.Judged.{Reader, readerOf, judgedBy, StepAs}
 use Rattle.row.specs.declared.Step.{Step}
 use Rattle.row.specs.declared.Step.the-variants as step
+use Rattle.presence.specs.Stray.{presenceIn}
+use Rattle.presence.specs.declared.Presence.{Presence}
 use Rattle.sheet.specs.Bridge.{rowFrom, rowsAt, rowsOf, storeOf, Sized}
 use Rattle.sheet.specs.Reading.{Kept, aheadOf, readFrom, fresh}
-use Rattle.sheet.specs.Store.{completeIn, BodyAs}
+use Rattle.sheet.specs.Store.{verdictOn, BodyAs}
 use Rattle.sheet.specs.declared.Verdict.{Verdict}
 use Rattle.sheet.specs.declared.Verdict.the-variants as verdict
 use Rattle.sheet.proofs.Body.{body-refused, body-complete}
@@ -168,13 +170,13 @@ module _ (c : Columns) (text : List ℕ) (first at row messages : ℕ) (kind one
               ∙ ap (λ (l : List Row). aheadAll l rest) (sym rows-more));
         }
 
-pub loop-done : (c : Columns) (text : List ℕ) (first at row messages : ℕ) (kind one two start boards lent words : List ℕ) (r : Verdict)
-    → Looping c text first at row messages kind one two start boards lent words → length text ≤ at → r ≡ completeIn kind one start row
+pub loop-done : (c : Columns) (text : List ℕ) (first at row messages : ℕ) (kind one two start boards lent words : List ℕ) (f : Presence) (r : Verdict)
+    → Looping c text first at row messages kind one two start boards lent words → length text ≤ at → f ≡ presenceIn kind one start row → r ≡ verdictOn f row
     → BodyAs c text first (storeOf kind one two start) r
 unfolding readFrom linesOf
-loop-done c text first at row messages kind one two start boards lent words r v h e =
+loop-done c text first at row messages kind one two start boards lent words f r v h g e =
     let d : drop at text ≡ [] = drop-of-length-le text h in
     body-complete c text first kind one two start lent (v .allLent) row r
     (v .read ∙ ap (λ (l : List ℕ). aheadAll (rowsOf kind one two row) (readFrom c row (readerOf start boards messages words) (linesOf l))) d
     ∙ ahead-all (rowsOf kind one two row) start)
-    (v .count) (v .sized) e
+    (v .count) (v .sized) (e ∙ ap (λ (x : Presence). verdictOn x row) g)

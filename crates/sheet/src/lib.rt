@@ -4,16 +4,16 @@ use heading::Heading;
 use model::EVENTS_MOST;
 use model::ROWS_MOST;
 use model::SHEETS;
+use presence::Presence;
 use row::Step;
 ghost use mathlib.Core.Path.{_≡_};
 ghost use Prim.Native.Nat.{_*_, _≤_, _<_};
-ghost use lib.ListN.{length, getD};
-ghost use Rattle.model.specs.Limits.{sheets, rowsMost, messagesMost};
+ghost use lib.ListN.{length};
+ghost use Rattle.model.specs.Limits.{messagesMost};
 ghost use Rattle.relation.specs.Width.{width};
 ghost use Rattle.heading.specs.Names.{Below, columnsFrom};
-ghost use Rattle.place.specs.Stand.{isOpen};
 ghost use Rattle.sheet.specs.Bridge.{storeOf, Sized, ReadAs};
-ghost use Rattle.sheet.specs.Store.{isStray, completeIn, BodyAs};
+ghost use Rattle.sheet.specs.Store.{verdictOn, BodyAs};
 
 // So many rows; or the refusal's number and line.
 pub enum Verdict {
@@ -82,49 +82,15 @@ fn rows(
             }
         }
     }
-    complete(row, kind, one, start)
+    verdict_on(presence::complete(row, kind, one, start), row)
 }
 
-// Row i calls a sheet that is not there.
-fn is_stray(kind: &[u8; ROWS_MOST], one: &[u8; ROWS_MOST], start: &[u16; SHEETS], i: usize) -> bool
-    requires { ⌜ (i < rowsMost) × (length (now start) ≡ sheets) ⌝ }
-    ensures { λ r. ⌜ r ≡ isStray (getD (now (kind .entry)) i 0) (getD (now (one .entry)) i 0) (now (start .entry)) ⌝ }
+// The verdict on so many rows, by whether every sheet that they need is there.
+fn verdict_on(presence: Presence, count: usize) -> Verdict
+    ensures { λ r. ⌜ r ≡ verdictOn presence count ⌝ }
 {
-    if kind[i] == b'C' {
-        !is_open(start, one[i])
-    } else {
-        false
+    match presence {
+        Presence::Absent(line) => Verdict::Refused(model::ABSENT, line),
+        Presence::Complete => Verdict::Rows(count),
     }
-}
-
-// Sheet 0 is there, and so is every sheet that is called.
-fn complete(
-    count: usize,
-    kind: &[u8; ROWS_MOST],
-    one: &[u8; ROWS_MOST],
-    start: &[u16; SHEETS],
-) -> Verdict
-    requires { ⌜ (count ≤ rowsMost) × (length (now start) ≡ sheets) ⌝ }
-    ensures { λ r. ⌜ r ≡ completeIn (now (kind .entry)) (now (one .entry)) (now (start .entry)) count ⌝ }
-{
-    if !is_open(start, 0) {
-        return Verdict::Refused(model::ABSENT, 0);
-    }
-    let mut i = 0;
-    while i < count {
-        if is_stray(kind, one, start, i) {
-            return Verdict::Refused(model::ABSENT, i + 2);
-        }
-        i += 1;
-    }
-    Verdict::Rows(count)
-}
-
-// Sheet n is there.
-fn is_open(start: &[u16; SHEETS], n: u8) -> bool
-    requires { ⌜ length (now start) ≡ sheets ⌝ }
-    ensures { λ r. ⌜ r ≡ isOpen (now (start .entry)) n ⌝ }
-{
-    let k = n as usize;
-    if k < SHEETS { start[k] != 0 } else { false }
 }

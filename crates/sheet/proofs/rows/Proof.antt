@@ -57,6 +57,9 @@ loop-again c = search loop-more
 complete-requires : tie.Need-complete-requires Inv-loop μ-loop
 complete-requires c κs = search needs
 
+verdict-on-requires : tie.Need-verdict-on-requires Inv-loop μ-loop
+verdict-on-requires c κs = search needs
+
 same-length-2 : tie.Need-same-length-2 Inv-loop μ-loop
 same-length-2 c = search needs
 
@@ -83,5 +86,6 @@ rows-spec =
     loop-less
     loop-again
     complete-requires
+    verdict-on-requires
     same-length-2
     returns-2)

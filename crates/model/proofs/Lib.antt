@@ -13,6 +13,7 @@ pub mod Lines
 pub mod Least
 pub mod Phases
 pub mod Rank
+pub mod Occurrences
 pub mod Trace
 pub mod Rules
 pub mod Invariants
@@ -23,3 +24,4 @@ pub mod Withholding
 pub mod Orders
 pub mod PointThree
 pub mod Wired
+pub mod FinishedRuns

@@ -135,8 +135,8 @@ module _ (S : Scenario) (C : Causal S) (c : Channel) where
           let whole : occurrences y (eventsOf ts) ≡ occurrences y ahead + occurrences y behind = ap (occurrences y) e ∙ occurrences-append y ahead behind in
           omega (arith, now y, occurs S c ts y o, times-most (after S start ts .done y))
 
-  -- the events of a finished run
-  rearranged : (ts : List Step) → EndsFinished S c ts → Rearranged S ts
+  -- the events of a finished run, over a scenario and a channel
+  pub rearranged : (ts : List Step) → EndsFinished S c ts → Rearranged S ts
   unfolding finished messageOf
   rearranged ts E =
       record { eachOnce = once; noOther = none; howMany = two-a-message (S .count) (eventsOf ts) once none; allowedByBefore = allowed-by-before ts (E .isOrder) }

@@ -2,7 +2,7 @@
 -- the same message and event. First for a scenario, then for every text. Assumes nothing.
 use Prim.Native.Nat.{ℕ, _<_}
 use native.Mathlib.Omega.{arith}
-use mathlib.Core.Path.{_≡_, refl, sym, _∙_, ap, subst}
+use mathlib.Core.Path.{_≡_, refl, sym, _∙_, ap, subst, subst⁻¹}
 use mathlib.Core.Logic.{⊎-elim}
 use mathlib.Core.Bool.{true, false, _&&_}
 use mathlib.Core.List.{List}
@@ -25,7 +25,13 @@ use Rattle.model.proofs.PointThree.{Decided, isFree, isLocked, decided}
 
 -- the three have one rule
 wired-rule : (code : ℕ) → IsWired code → raceRuleOf code ≡ byOrigin
-wired-rule code w = ⊎-elim (λ e. ap raceRuleOf e) (⊎-elim (λ e. ap raceRuleOf e) (λ e. ap raceRuleOf e)) w
+wired-rule code w =
+    ⊎-elim
+    (λ (e : code ≡ 2). subst⁻¹ (λ (k : ℕ). raceRuleOf k ≡ byOrigin) e refl)
+    (⊎-elim
+    (λ (e : code ≡ 4). subst⁻¹ (λ (k : ℕ). raceRuleOf k ≡ byOrigin) e refl)
+    (λ (e : code ≡ 5). subst⁻¹ (λ (k : ℕ). raceRuleOf k ≡ byOrigin) e refl))
+    w
 
 wired-known : (code : ℕ) → IsWired code → code < channels
 wired-known code w = ⊎-elim (λ e. omega arith) (⊎-elim (λ e. omega arith) (λ e. omega arith)) w

@@ -26,7 +26,7 @@ pub record SameVerdict (r s : Numbers) : Type 0 where
   pub one : r .one ≡ s .one
   pub two : r .two ≡ s .two
 
--- r is locked, at the message of s or a lower one
+-- r is locked, at the same message as s or a lower one
 pub record LockedNoHigher (r s : Numbers) : Type 0 where
   pub word : r .word ≡ lockedWord
   pub message : r .one ≤ s .one
@@ -37,7 +37,7 @@ answered text code scratchLength traceLength = numbersOf (answerOf text code scr
 
 -- One verdict, for every text, whatever buffers are lent.
 pub record OneVerdict (text : List ℕ) (scratchLength traceLength : ℕ) : Type 0 where
-  -- a sheet is accepted on all six codes or on none, and its scenario is one and the same
+  -- a sheet is accepted on all six codes, as one and the same scenario, or refused on all six alike
   pub oneSheet : (code other : ℕ) → code < channels → other < channels
       → acceptedOf text code scratchLength traceLength ≡ acceptedOf text other scratchLength traceLength
   -- codes 2, 4 and 5 give the same word and the same race
@@ -67,6 +67,7 @@ pub record Rearranged (S : Scenario) (ts : List Step) : Type 0 where
   -- every event of the scenario occurs once, and no other occurs
   pub eachOnce : (x : Event) → messageOf x < S .count → occurrences x (eventsOf ts) ≡ 1
   pub noOther : (x : Event) → S .count ≤ messageOf x → occurrences x (eventsOf ts) ≡ 0
+  -- so there are two a message
   pub howMany : length (eventsOf ts) ≡ 2 * S .count
   -- no event comes ahead of one that is before it, boards across too: wherever the run is cut in two, nothing behind the cut is before
   -- an event ahead of it

@@ -14,4 +14,5 @@ pub mod Schedule
 pub mod Answer
 pub mod Verdict
 pub mod Replay
+pub mod Wired
 pub mod Marked

@@ -43,3 +43,7 @@ messagesRefusal = 10
 
 abbrev pub circleRefusal : ℕ
 circleRefusal = 11
+
+-- an event that the sheet has not, or twice in one list of a tap
+abbrev pub tapRefusal : ℕ
+tapRefusal = 20

@@ -29,6 +29,9 @@ pub const SCRATCH_LEAST: usize = 2048;
 
 pub const TRACE_LEAST: usize = 2 * (3 * MESSAGES_MOST);
 
+// The output of the two taps.
+pub const TAP_NUMBERS_LEAST: usize = 512;
+
 // The refusals, by the numbers of the paper's table.
 pub const CHANNEL: u8 = 1;
 
@@ -51,3 +54,5 @@ pub const CALLS: u8 = 9;
 pub const MESSAGES: u8 = 10;
 
 pub const CIRCLE: u8 = 11;
+
+pub const TAP: u8 = 20;

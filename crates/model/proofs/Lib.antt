@@ -23,3 +23,4 @@ pub mod Withholding
 pub mod Orders
 pub mod PointThree
 pub mod Ahead
+pub mod Course

@@ -1,5 +1,5 @@
--- A course: number after number is taken, always the lowest with nothing left before it. Where R lies in a strict order it goes on until
--- all are taken, each once, and it obeys R; and the closure of R gives the same course. Assumes nothing.
+-- A course: number after number is taken, always the lowest with nothing left before it. Where R links no number to itself it goes on
+-- until all are taken, each once, and it obeys R; and the closure of R gives the same course. Assumes nothing.
 use Prim.Native.Nat.{ℕ, zero, suc, _+_, _<_, _≤_}
 use native.Mathlib.Nat.{not-suc-le-zero, le-of-suc-le-suc, eq-or-lt-of-le, le-step}
 use native.Mathlib.Omega.{arith}
@@ -95,23 +95,23 @@ module _ (n : ℕ) (R : ℕ → ℕ → Bool) where
       go x l true e = N .before x l e
       go x l false e = refl
 
-  -- where R lies in a strict order P, some number left has nothing left before it
-  module _ (P : ℕ → ℕ → Bool) (inside : (x y : ℕ) → x < n → y < n → R x y ≡ true → P x y ≡ true)
-      (transitive : (x y z : ℕ) → P x y ≡ true → P y z ≡ true → P x z ≡ true) (irreflexive : (x : ℕ) → P x x ≡ true → ⊥) where
+  -- Where R links no number to itself.
+  module _ (noCircle : (x : ℕ) → Over n R n x x → ⊥) where
+    -- some number left has nothing left before it
     some-next : (taken : List ℕ) (k : ℕ) → k < n → among k taken ≡ false → (j : ℕ) × (j < n) × (isNext n R taken j ≡ true)
     some-next taken k l f =
-        let p = least-below (λ j. not (among j taken)) P transitive irreflexive n k l (not-is-true (among k taken) f) in
+        let p = least-below (λ j. not (among j taken)) (over n R n) (closure-transitive n R) noCircle n k l (not-is-true (among k taken) f) in
         let j = p .0 in
         let m = p .1 in (
           j,
           m .below,
           next-on taken j
-          (record {
-            left = not-true (among j taken) (m .passes);
-            before = λ x b r.
-                ⊎-elim (λ t. t) (λ (o : among x taken ≡ false). absurd (m .least x b (not-is-true (among x taken) o) (inside x j b (m .below) r)))
-                (which (among x taken));
-          }),
+              (record {
+                left = not-true (among j taken) (m .passes);
+                before = λ x b r.
+                    ⊎-elim (λ t. t) (λ (o : among x taken ≡ false). absurd (m .least x b (not-is-true (among x taken) o) (closure-holds n R x j b (m .below) r)))
+                    (which (among x taken));
+              }),
         )
 
     -- what holds of the first i of the course
@@ -232,7 +232,7 @@ module _ (n : ℕ) (R Q : ℕ → ℕ → Bool) (closed : (x y : ℕ) → x < n 
   course-closure zero l = refl
   course-closure (suc i) l =
       let t = courseOf n R i in
-      let C = course-holds n R (over n R n) (closure-holds n R) (closure-transitive n R) noCircle i (omega arith) in
+      let C = course-holds n R noCircle i (omega arith) in
       let down : (x y : ℕ) → x < n → among y t ≡ true → R x y ≡ true → among x t ≡ true =
       λ x y b m r. ahead-left t x y (C .obeys x y b m r) in
       ap (λ (o : Option ℕ). elim o [ none ↦ t | some k ↦ t ++ (k ∷ []) ])

@@ -24,3 +24,4 @@ pub mod Orders
 pub mod PointThree
 pub mod Ahead
 pub mod Course
+pub mod Taps

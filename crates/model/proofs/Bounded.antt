@@ -173,3 +173,11 @@ lowest-same n p q f g = go (lowest n p) (lowest n q) (lowest-found n p) (lowest-
         (λ (h : j < k). not-both (q j) (f j (a .below) (a .passes)) (b .first j h))
         (λ (h : k < j). not-both (p k) (g k (b .below) (b .passes)) (a .first k h)))
         (apart j k))
+
+-- no number below the bound passes
+pub lowest-nowhere : (n : ℕ) (p : ℕ → Bool) → ((k : ℕ) → k < n → p k ≡ false) → lowest n p ≡ none
+lowest-nowhere n p f = go (lowest n p) (lowest-found n p)
+  where
+    go : (o : Option ℕ) → Found n p o → o ≡ none
+    go none h = refl
+    go (some k) h = not-both (p k) (h .passes) (f k (h .below))

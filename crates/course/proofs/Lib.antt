@@ -1,2 +1,3 @@
 pub mod Lists
 pub mod Taking
+pub mod Written

@@ -27,7 +27,7 @@ pub among-kept : (x : ℕ) (l : List ℕ) (k : ℕ) → among x l ≡ true → a
 among-kept x l k h = rw among-snoc (or-left (among x l) (eqb x k) h)
 
 -- a member of a list is its first, or one behind it
-among-cases : (x k : ℕ) (l : List ℕ) → among x (k ∷ l) ≡ true → (x ≡ k) ⊎ (among x l ≡ true)
+pub among-cases : (x k : ℕ) (l : List ℕ) → among x (k ∷ l) ≡ true → (x ≡ k) ⊎ (among x l ≡ true)
 unfolding among
 among-cases x k l h = ⊎-elim (λ e. inl (eqb-true x k e)) inr (or-cases (eqb x k) (among x l) h)
 
@@ -35,7 +35,7 @@ among-not : (x k : ℕ) (l : List ℕ) → (x ≡ k → ⊥) → among x l ≡ f
 unfolding among
 among-not x k l n h = rw (ne-eqb x k n) h
 
-among-here : (x : ℕ) (l : List ℕ) → among x (x ∷ l) ≡ true
+pub among-here : (x : ℕ) (l : List ℕ) → among x (x ∷ l) ≡ true
 unfolding among
 among-here x l = rw (eq-eqb x x refl)
 
@@ -50,7 +50,7 @@ among-at (k ∷ l) zero h = among-here k l
 among-at (k ∷ l) (suc i) h = among-there (getD l i 0) k l (among-at l i (le-of-suc-le-suc h))
 
 -- x is ahead of y: as the first, or behind it
-ahead-cases : (k : ℕ) (l : List ℕ) (x y : ℕ) → ahead (k ∷ l) x y ≡ true → ((x ≡ k) × (among y l ≡ true)) ⊎ (ahead l x y ≡ true)
+pub ahead-cases : (k : ℕ) (l : List ℕ) (x y : ℕ) → ahead (k ∷ l) x y ≡ true → ((x ≡ k) × (among y l ≡ true)) ⊎ (ahead l x y ≡ true)
 unfolding ahead
 ahead-cases k l x y h =
     ⊎-elim
@@ -122,12 +122,15 @@ once-make : (n k : ℕ) (l : List ℕ) → Once n k l → eachOnce n (k ∷ l) �
 unfolding eachOnce
 once-make n k l o = rw (lt-ltb k n (o .below), o .fresh, o .rest)
 
-pub once-below : (n : ℕ) (l : List ℕ) (x : ℕ) → eachOnce n l ≡ true → among x l ≡ true → x < n
+once-below : (n : ℕ) (l : List ℕ) (x : ℕ) → eachOnce n l ≡ true → among x l ≡ true → x < n
 unfolding among
 once-below n [] x h m = not-both false m refl
 once-below n (k ∷ l) x h m =
     let o = once-parts n k l h in
     ⊎-elim (λ e. subst (λ (j : ℕ). j < n) (sym e) (o .below)) (λ r. once-below n l x (o .rest) r) (among-cases x k l m)
+
+pub ahead-inside : (n : ℕ) (l : List ℕ) → eachOnce n l ≡ true → (x y : ℕ) → ahead l x y ≡ true → (x < n) × (y < n)
+ahead-inside n l once x y h = (once-below n l x once (ahead-left l x y h), once-below n l y once (ahead-right l x y h))
 
 -- one more at the end, and what stands at a place: below n, and not among those ahead of it
 pub once-snoc : (n : ℕ) (l : List ℕ) (k : ℕ) → eachOnce n l ≡ true → k < n → among k l ≡ false → eachOnce n (l ++ (k ∷ [])) ≡ true

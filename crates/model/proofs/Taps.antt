@@ -22,7 +22,7 @@ use Rattle.model.proofs.Refusal.{and-then-ok, cond-ok, cond-refused}
 use Rattle.model.proofs.Causal.{Causal}
 use Rattle.model.proofs.Accepted.{or-false, sheet-causal, sheet-count}
 use Rattle.model.proofs.Closure.{Over, over, linked-below, closure-holds, closure-transitive, closure-least}
-use Rattle.model.proofs.Ahead.{ahead-left, ahead-right, once-below, ahead-transitive, ahead-irreflexive}
+use Rattle.model.proofs.Ahead.{ahead-inside, ahead-transitive, ahead-irreflexive}
 use Rattle.model.proofs.Course.{next-use, next-on, course-holds, course-all, course-take, course-place}
 
 -- what acceptance says: the buffers are long enough, the sheet has its scenario, and each list has events of it, each once
@@ -53,6 +53,28 @@ taps-accepted-parts text scratchLength first second outputLength S e =
       secondOnce = subst (λ (U : Scenario). eachOnce (2 * U .count) second ≡ true) same (d .0);
     }
 
+-- The three sources of "has to precede", one by one.
+module _ (S : Scenario) (first second : List ℕ) where
+  pub sooner-cases : (x y : ℕ) → isSooner S first second x y ≡ true → (S .before (event x) (event y) ≡ true) ⊎ ((ahead first x y ≡ true) ⊎ (ahead second x y ≡ true))
+  unfolding isSooner
+  sooner-cases x y h =
+      ⊎-elim
+      (λ p. ⊎-elim inl (λ f. inr (inl f)) (or-cases (S .before (event x) (event y)) (ahead first x y) p))
+      (λ s. inr (inr s))
+      (or-cases (S .before (event x) (event y) || ahead first x y) (ahead second x y) h)
+
+  pub by-sheet : (x y : ℕ) → S .before (event x) (event y) ≡ true → isSooner S first second x y ≡ true
+  unfolding isSooner
+  by-sheet x y h = or-left _ (ahead second x y) (or-left (S .before (event x) (event y)) (ahead first x y) h)
+
+  pub by-first : (x y : ℕ) → ahead first x y ≡ true → isSooner S first second x y ≡ true
+  unfolding isSooner
+  by-first x y h = or-left _ (ahead second x y) (or-right (S .before (event x) (event y)) (ahead first x y) h)
+
+  pub by-second : (x y : ℕ) → ahead second x y ≡ true → isSooner S first second x y ≡ true
+  unfolding isSooner
+  by-second x y h = or-right (S .before (event x) (event y) || ahead first x y) (ahead second x y) h
+
 module _ (S : Scenario) (C : Causal S) (first second : List ℕ) (firstOnce : eachOnce (2 * S .count) first ≡ true)
     (secondOnce : eachOnce (2 * S .count) second ≡ true) where
   -- the events, and which is before which by one of the three
@@ -62,43 +84,20 @@ module _ (S : Scenario) (C : Causal S) (first second : List ℕ) (firstOnce : ea
   abbrev sooner : ℕ → ℕ → Bool
   sooner = isSooner S first second
 
-  sooner-cases : (x y : ℕ) → sooner x y ≡ true → (S .before (event x) (event y) ≡ true) ⊎ ((ahead first x y ≡ true) ⊎ (ahead second x y ≡ true))
-  unfolding isSooner
-  sooner-cases x y h =
-      ⊎-elim
-      (λ p. ⊎-elim inl (λ f. inr (inl f)) (or-cases (S .before (event x) (event y)) (ahead first x y) p))
-      (λ s. inr (inr s))
-      (or-cases (S .before (event x) (event y) || ahead first x y) (ahead second x y) h)
-
-  by-sheet : (x y : ℕ) → S .before (event x) (event y) ≡ true → sooner x y ≡ true
-  unfolding isSooner
-  by-sheet x y h = or-left _ (ahead second x y) (or-left (S .before (event x) (event y)) (ahead first x y) h)
-
-  by-first : (x y : ℕ) → ahead first x y ≡ true → sooner x y ≡ true
-  unfolding isSooner
-  by-first x y h = or-left _ (ahead second x y) (or-right (S .before (event x) (event y)) (ahead first x y) h)
-
-  by-second : (x y : ℕ) → ahead second x y ≡ true → sooner x y ≡ true
-  unfolding isSooner
-  by-second x y h = or-right (S .before (event x) (event y) || ahead first x y) (ahead second x y) h
-
   -- both are events of the sheet
   event-inside : (x : ℕ) → messageOf (event x) < S .count → x < events
   event-inside x h = subst (λ (k : ℕ). k < events) (number-event x) (below-number (event x) (S .count) .0 h)
-
-  ahead-inside : (l : List ℕ) → eachOnce events l ≡ true → (x y : ℕ) → ahead l x y ≡ true → (x < events) × (y < events)
-  ahead-inside l once x y h = (once-below events l x once (ahead-left l x y h), once-below events l y once (ahead-right l x y h))
 
   sooner-inside : (x y : ℕ) → sooner x y ≡ true → (x < events) × (y < events)
   sooner-inside x y h =
       ⊎-elim
       (λ b. let i = C .inside (event x) (event y) b in (event-inside x (i .0), event-inside y (i .1)))
-      (⊎-elim (ahead-inside first firstOnce x y) (ahead-inside second secondOnce x y))
-      (sooner-cases x y h)
+      (⊎-elim (ahead-inside events first firstOnce x y) (ahead-inside events second secondOnce x y))
+      (sooner-cases S first second x y h)
 
   -- The computed test is exactly the least transitive relation with all three.
   sooner-precedes : (x y : ℕ) → sooner x y ≡ true → Precedes S first second x y
-  sooner-precedes x y h = ⊎-elim bySheet (⊎-elim byFirst bySecond) (sooner-cases x y h)
+  sooner-precedes x y h = ⊎-elim bySheet (⊎-elim byFirst bySecond) (sooner-cases S first second x y h)
 
   pub precedes-relation : (x y : ℕ) → precedes S first second x y ≡ true → Precedes S first second x y
   unfolding precedes
@@ -111,9 +110,9 @@ module _ (S : Scenario) (C : Causal S) (first second : List ℕ) (firstOnce : ea
 
   pub relation-precedes : {x y : ℕ} → Precedes S first second x y → precedes S first second x y ≡ true
   unfolding precedes
-  relation-precedes (bySheet {x = x} {y = y} h) = precedes-direct x y (by-sheet x y h)
-  relation-precedes (byFirst {x = x} {y = y} h) = precedes-direct x y (by-first x y h)
-  relation-precedes (bySecond {x = x} {y = y} h) = precedes-direct x y (by-second x y h)
+  relation-precedes (bySheet {x = x} {y = y} h) = precedes-direct x y (by-sheet S first second x y h)
+  relation-precedes (byFirst {x = x} {y = y} h) = precedes-direct x y (by-first S first second x y h)
+  relation-precedes (bySecond {x = x} {y = y} h) = precedes-direct x y (by-second S first second x y h)
   relation-precedes (link {x = x} {y = y} {z = z} p q) =
       closure-transitive events sooner x y z (relation-precedes p) (relation-precedes q)
 
@@ -138,9 +137,9 @@ module _ (S : Scenario) (C : Causal S) (first second : List ℕ) (firstOnce : ea
       record {
         inSheet = l;
         left = N .left;
-        takenBefore = λ x b. there (number x) (by-sheet (number x) k (subst⁻¹ (λ (y : Event). S .before y (event k) ≡ true) (event-number x) b));
-        takenFirst = λ x b. there x (by-first x k b);
-        takenSecond = λ x b. there x (by-second x k b);
+        takenBefore = λ x b. there (number x) (by-sheet S first second (number x) k (subst⁻¹ (λ (y : Event). S .before y (event k) ≡ true) (event-number x) b));
+        takenFirst = λ x b. there x (by-first S first second x k b);
+        takenSecond = λ x b. there x (by-second S first second x k b);
       }
 
   nothing-before-next : (taken : List ℕ) (k : ℕ) → NothingBefore S first second taken k → isNext events sooner taken k ≡ true
@@ -152,7 +151,7 @@ module _ (S : Scenario) (C : Causal S) (first second : List ℕ) (firstOnce : ea
             ⊎-elim
             (λ b. subst (λ (j : ℕ). among j taken ≡ true) (number-event x) (N .takenBefore (event x) b))
             (⊎-elim (N .takenFirst x) (N .takenSecond x))
-            (sooner-cases x k r);
+            (sooner-cases S first second x k r);
       })
 
   lowest-next : (taken : List ℕ) (k : ℕ) → IsLowest events (isNext events sooner taken) k → LowestNext S first second taken k
@@ -186,9 +185,9 @@ module _ (S : Scenario) (C : Causal S) (first second : List ℕ) (firstOnce : ea
           all = all;
           obeysBefore = λ x y b.
               obeys (number x) (number y)
-              (by-sheet (number x) (number y) (rw (event-number x, event-number y) b));
-          obeysFirst = λ x y h. obeys x y (by-first x y h);
-          obeysSecond = λ x y h. obeys x y (by-second x y h);
+              (by-sheet S first second (number x) (number y) (rw (event-number x, event-number y) b));
+          obeysFirst = λ x y h. obeys x y (by-first S first second x y h);
+          obeysSecond = λ x y h. obeys x y (by-second S first second x y h);
         }
 
     -- each place of it, with the output's own numbers behind it

@@ -123,7 +123,7 @@ module _ (count : ℕ) (boards words : List ℕ) (first second : List ℕ) (room
   once-links : Links events words first once
   once-links = linked-by events words room closed first firstOnce
 
-  pub once-room : Room events once
+  once-room : Room events once
   once-room = record { rows = omega (arith, room .rows, once-links .long); bits = room .bits }
 
   twice-links : Links events once second twice

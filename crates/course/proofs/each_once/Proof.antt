@@ -1,14 +1,9 @@
+-- `course::each_once` meets its contract. The loop keeps `Judging`: the members passed are events, each once. Assumes nothing.
 use Prim.Native.Nat.{_-_}
 use Rattle.course.proofs.Lists.{Judging, judging-start, judged-unknown, judged-twice, judging-more, judging-end}
 use borrow.Author.Needs.{needs}
-use native.Mathlib.Omega.{arith}
 use Rattle.course.proofs.each_once.Statement.{statement}
 use Rattle.course.proofs.each_once.Tie as tie
-use Rattle.course.proofs.each_once.Reads as reads
-use Rattle.course.proofs.each_once.Lts as lts
-use Rattle.course.proofs.wide.Reads as wide-reads
-use Rattle.relation.proofs.mark.Reads as mark-reads
-use Rattle.relation.proofs.test.Reads as test-reads
 
 abbrev Inv-loop : tie.InvT-loop
 Inv-loop list events seen₀ i₀ i-end seen i = Judging events list i seen
@@ -16,59 +11,45 @@ Inv-loop list events seen₀ i₀ i-end seen i = Judging events list i seen
 abbrev μ-loop : tie.MeasureT-loop
 μ-loop list events seen₀ i₀ i-end seen i = i-end - i
 
--- src/lib.rt:28:5
 loop-holds : tie.Need-loop-holds Inv-loop μ-loop
 loop-holds c = search judging-start
 
--- src/lib.rt:29:26
 mul-wide : tie.Need-mul-wide Inv-loop μ-loop
 mul-wide c = search needs
 
--- src/lib.rt:29:26
 shared-slice-read-wide : tie.Need-shared-slice-read-wide Inv-loop μ-loop
 shared-slice-read-wide c = search needs
 
--- src/lib.rt:29:13
 wide-requires : tie.Need-wide-requires Inv-loop μ-loop
 wide-requires c κs = search needs
 
--- src/lib.rt:31:13
 returns : tie.Need-returns Inv-loop μ-loop
 returns c = search judged-unknown
 
--- src/lib.rt:33:27
 slice-aggregate-test : tie.Need-slice-aggregate-test Inv-loop μ-loop
 slice-aggregate-test c = search needs
 
--- src/lib.rt:33:12
 test-requires : tie.Need-test-requires Inv-loop μ-loop
 test-requires c κs = search needs
 
--- src/lib.rt:34:13
 returns-2 : tie.Need-returns-2 Inv-loop μ-loop
 returns-2 c = search judged-twice
 
--- src/lib.rt:36:24
 slice-aggregate-mark : tie.Need-slice-aggregate-mark Inv-loop μ-loop
 slice-aggregate-mark c = search needs
 
--- src/lib.rt:36:9
 mark-requires : tie.Need-mark-requires Inv-loop μ-loop
 mark-requires c κs = search needs
 
--- src/lib.rt:28:9
 add-i : tie.Need-add-i Inv-loop μ-loop
 add-i c = search needs
 
--- src/lib.rt:28:5
 loop-less : tie.Need-loop-less Inv-loop μ-loop
 loop-less c = search needs
 
--- src/lib.rt:28:5
 loop-again : tie.Need-loop-again Inv-loop μ-loop
 loop-again c = search judging-more
 
--- src/lib.rt:23:1
 returns-3 : tie.Need-returns-3 Inv-loop μ-loop
 returns-3 c = search judging-end
 

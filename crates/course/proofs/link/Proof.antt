@@ -1,13 +1,10 @@
+-- `course::link` meets its contract. The loop keeps `Linking`: the links ahead of the place at hand are in the words. Assumes nothing.
 use Prim.Native.Nat.{_-_}
 use Rattle.course.proofs.Lists.{Linking, linking-start, linking-more, linking-end, member-fits}
 use borrow.Author.Needs.{needs}
 use native.Mathlib.Omega.{arith}
 use Rattle.course.proofs.link.Statement.{statement}
 use Rattle.course.proofs.link.Tie as tie
-use Rattle.course.proofs.link.Reads as reads
-use Rattle.course.proofs.link.Lts as lts
-use Rattle.course.proofs.wide.Reads as wide-reads
-use Rattle.relation.proofs.insert.Reads as insert-reads
 
 abbrev Inv-loop : tie.InvT-loop
 Inv-loop words₀ list events i₀ i-end words i = Linking events list words₀ i words
@@ -15,39 +12,30 @@ Inv-loop words₀ list events i₀ i-end words i = Linking events list words₀ 
 abbrev μ-loop : tie.MeasureT-loop
 μ-loop words₀ list events i₀ i-end words i = i-end - i
 
--- src/lib.rt:47:5
 loop-holds : tie.Need-loop-holds Inv-loop μ-loop
 loop-holds c = search linking-start
 
--- src/lib.rt:48:21
 sub-ahead : tie.Need-sub-ahead Inv-loop μ-loop
 sub-ahead c = search needs
 
--- src/lib.rt:49:22
 mul-wide : tie.Need-mul-wide Inv-loop μ-loop
 mul-wide c = search needs
 
--- src/lib.rt:49:22
 shared-slice-read-wide : tie.Need-shared-slice-read-wide Inv-loop μ-loop
 shared-slice-read-wide c = search needs
 
--- src/lib.rt:49:13
 wide-requires : tie.Need-wide-requires Inv-loop μ-loop
 wide-requires c κs = search needs
 
--- src/lib.rt:50:22
 mul-wide-2 : tie.Need-mul-wide-2 Inv-loop μ-loop
 mul-wide-2 c = search needs
 
--- src/lib.rt:50:22
 shared-slice-read-wide-2 : tie.Need-shared-slice-read-wide-2 Inv-loop μ-loop
 shared-slice-read-wide-2 c = search needs
 
--- src/lib.rt:50:13
 wide-requires-2 : tie.Need-wide-requires-2 Inv-loop μ-loop
 wide-requires-2 c κs = search needs
 
--- src/lib.rt:51:9
 insert-requires : tie.Need-insert-requires Inv-loop μ-loop
 insert-requires c κs =
     let turn = c .before .before .before .before .before in
@@ -57,15 +45,12 @@ insert-requires c κs =
     let y = member-fits _ _ _ _ _ _ _ (s .pre .0) (s .pre .1) linked (turn .loop-test .taken) (c .before .wide2 .ensures) in
     (x .1, (y .1, (omega (arith, s .pre .0 .rows, linked .long), (x .0, y .0))))
 
--- src/lib.rt:47:9
 add-i : tie.Need-add-i Inv-loop μ-loop
 add-i c = search needs
 
--- src/lib.rt:47:5
 loop-less : tie.Need-loop-less Inv-loop μ-loop
 loop-less c = search needs
 
--- src/lib.rt:47:5
 loop-again : tie.Need-loop-again Inv-loop μ-loop
 loop-again c =
     let called = c .before .before in
@@ -73,11 +58,9 @@ loop-again c =
     linking-more _ _ _ _ _ _ _ _ (turn .before .loop .inv) (turn .loop-test .taken) (called .before .before .before .before .wide .ensures)
     (called .before .before .wide2 .ensures) (called .insert .ensures)
 
--- src/lib.rt:42:1
 same-length : tie.Need-same-length Inv-loop μ-loop
 same-length c = search needs
 
--- src/lib.rt:42:1
 returns : tie.Need-returns Inv-loop μ-loop
 returns c = search linking-end
 

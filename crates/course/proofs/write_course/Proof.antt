@@ -1,3 +1,4 @@
+-- `course::write_course` meets its contract. The loop keeps `Writing`: so many events of the course are written, and which are left. Assumes nothing.
 use mathlib.Core.Path.{refl}
 use Prim.Native.Nat.{_-_}
 use Rattle.course.proofs.Written.{Writing, writing-start, found-below, writing-more, writing-end}
@@ -5,11 +6,6 @@ use borrow.Author.Needs.{needs}
 use native.Mathlib.Omega.{arith}
 use Rattle.course.proofs.write_course.Statement.{statement}
 use Rattle.course.proofs.write_course.Tie as tie
-use Rattle.course.proofs.write_course.Reads as reads
-use Rattle.course.proofs.write_course.Lts as lts
-use Rattle.course.proofs.all_left.Reads as all-left-reads
-use Rattle.course.proofs.next_event.Reads as next-event-reads
-use Rattle.run.proofs.without.Reads as without-reads
 
 abbrev Inv-loop : tie.InvT-loop
 Inv-loop words events output₀ left₀ i₀ output left i = Writing events words output₀ i output left
@@ -17,23 +13,18 @@ Inv-loop words events output₀ left₀ i₀ output left i = Writing events word
 abbrev μ-loop : tie.MeasureT-loop
 μ-loop words events output₀ left₀ i₀ output left i = events - i
 
--- src/lib.rt:123:20
 all-left-requires : tie.Need-all-left-requires Inv-loop μ-loop
 all-left-requires c κs = search needs
 
--- src/lib.rt:124:5
 loop-holds : tie.Need-loop-holds Inv-loop μ-loop
 loop-holds c = writing-start _ _ _ _ (c .all-left .ensures) (c .all-left .ok .1 .0 .1)
 
--- src/lib.rt:125:35
 slice-aggregate-next-event : tie.Need-slice-aggregate-next-event Inv-loop μ-loop
 slice-aggregate-next-event c = search needs
 
--- src/lib.rt:125:13
 next-event-requires : tie.Need-next-event-requires Inv-loop μ-loop
 next-event-requires c κs = search needs
 
--- src/lib.rt:126:21
 cast-output : tie.Need-cast-output Inv-loop μ-loop
 cast-output c =
     let turn = c .before .before in
@@ -41,15 +32,12 @@ cast-output c =
     let below = found-below _ _ (s .pre .1 .1) _ _ _ _ (turn .before .loop .inv) (s .pre .1 .0 .0) (turn .loop-test .taken) _ (c .next-event .ensures) in
     record { fits = omega arith }
 
--- src/lib.rt:126:9
 mul-output : tie.Need-mul-output Inv-loop μ-loop
 mul-output c = search needs
 
--- src/lib.rt:126:9
 slice-write-output : tie.Need-slice-write-output Inv-loop μ-loop
 slice-write-output c = search needs
 
--- src/lib.rt:127:16
 without-requires : tie.Need-without-requires Inv-loop μ-loop
 without-requires c κs =
     let turn = c .before .before in
@@ -57,15 +45,12 @@ without-requires c κs =
     let below = found-below _ _ (s .pre .1 .1) _ _ _ _ (turn .before .loop .inv) (s .pre .1 .0 .0) (turn .loop-test .taken) _ (c .next-event .ensures) in
     omega arith
 
--- src/lib.rt:124:9
 add-i : tie.Need-add-i Inv-loop μ-loop
 add-i c = search needs
 
--- src/lib.rt:124:5
 loop-less : tie.Need-loop-less Inv-loop μ-loop
 loop-less c = search needs
 
--- src/lib.rt:124:5
 loop-again : tie.Need-loop-again Inv-loop μ-loop
 loop-again c =
     let turn = c .before .before .before in
@@ -73,11 +58,9 @@ loop-again c =
     writing-more _ _ (s .pre .1 .1) _ _ _ _ (turn .before .loop .inv) (s .pre .1 .0 .0) (turn .loop-test .taken) _ (c .before .next-event .ensures) _ _
     (s .pre .1 .0 .1) refl (c .without .ensures) (c .without .ok .1 .0 .1)
 
--- src/lib.rt:117:1
 same-length : tie.Need-same-length Inv-loop μ-loop
 same-length c = search needs
 
--- src/lib.rt:117:1
 returns : tie.Need-returns Inv-loop μ-loop
 returns c = search writing-end
 

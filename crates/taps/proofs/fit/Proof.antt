@@ -1,3 +1,4 @@
+-- `taps::fit` meets its contract. Assumes nothing.
 use Prim.Native.Nat.{_*_}
 use Rattle.model.specs.Limits.{messagesMost}
 use Rattle.relation.specs.Width.{width}
@@ -8,44 +9,31 @@ use borrow.Author.Needs.{needs}
 use native.Mathlib.Omega.{arith}
 use Rattle.taps.proofs.fit.Statement.{statement}
 use Rattle.taps.proofs.fit.Tie as tie
-use Rattle.taps.proofs.fit.Reads as reads
-use Rattle.taps.proofs.fit.Lts as lts
-use Rattle.relation.proofs.clear.Reads as clear-reads
-use Rattle.taps.proofs.judge.Reads as judge-reads
 
--- src/lib.rt:100:9
 returns : tie.Need-returns
 returns c = refuses-scratch _ _ _ _ _ (omega arith)
 
--- src/lib.rt:103:9
 returns-2 : tie.Need-returns-2
 returns-2 c = refuses-output _ _ _ _ _ (omega arith)
 
--- src/lib.rt:106:30
 slice-relend-prefix-judge : tie.Need-slice-relend-prefix-judge
 slice-relend-prefix-judge c = search needs
 
--- src/lib.rt:106:30
 slice-aggregate-judge : tie.Need-slice-aggregate-judge
 slice-aggregate-judge c = simp length-take (omega arith)
 
--- src/lib.rt:106:9
 judge-requires : tie.Need-judge-requires
 judge-requires c κs = (simp length-take (omega arith), search needs)
 
--- src/lib.rt:107:5
 clear-requires : tie.Need-clear-requires
 clear-requires c κs = search needs
 
--- src/lib.rt:90:1
 same-length : tie.Need-same-length
 same-length c = search needs
 
--- src/lib.rt:90:1
 same-length-2 : tie.Need-same-length-2
 same-length-2 c = search needs
 
--- src/lib.rt:90:1
 returns-3 : tie.Need-returns-3
 returns-3 c =
     let s = c .before .before .before .before .before .before .before .before in

@@ -1,17 +1,17 @@
 -- The relation with the links of two lists is exactly what has to precede what, so that its course is the request's. Assumes nothing.
-use mathlib.Core.Path.{_≡_, refl, sym, ap, _∙_, subst, subst⁻¹}
+use mathlib.Core.Path.{_≡_, refl, sym, _∙_, subst⁻¹}
 use mathlib.Core.Bool.{Bool, true, false}
 use mathlib.Core.Logic.{⊎-elim}
 use mathlib.Core.List.{List, [], _∷_}
 use mathlib.Core.Option.{none}
-use Prim.Native.Nat.{ℕ, _*_, _<_, _≤_}
+use Prim.Native.Nat.{ℕ, _*_, _<_}
 use native.Mathlib.Omega.{arith}
 use lib.ListN.{length}
 use Rattle.model.specs.Bounded.{lowest, among}
 use Rattle.model.specs.Order.{event}
 use Rattle.model.specs.Taps.{ahead, eachOnce, isSooner, precedes, courseOf}
 use Rattle.model.proofs.Bounded.{not-both, lowest-same, lowest-none}
-use Rattle.model.proofs.Closure.{Over, over, linked-below, closure-holds, closure-transitive, closure-least}
+use Rattle.model.proofs.Closure.{Over, over, closure-holds, closure-transitive, closure-least}
 use Rattle.model.proofs.Ahead.{among-here, among-cases, ahead-cases, ahead-here, ahead-there, ahead-inside, once-parts}
 use Rattle.model.proofs.Course.{course-holds, course-closure}
 use Rattle.model.proofs.Taps.{sooner-cases, by-sheet, by-first, by-second}
@@ -24,7 +24,7 @@ use Rattle.relation.proofs.Tests.{both-ways}
 use Rattle.relation.proofs.Inserted.{length-inserted}
 use Rattle.relation.proofs.Closed.{linked-holds, linked-pair, linked-least, inserted-linked, inserted-closed}
 use Rattle.relation.proofs.Scenario.{before-at}
-use Rattle.course.specs.Left.{rowBits, NoCircle}
+use Rattle.course.specs.Left.{NoCircle}
 use Rattle.course.specs.Links.{Room, chained, linkedBy}
 
 -- The words `now` hold the least closed relation with that of `words` and the order of a list.

@@ -4,16 +4,16 @@ use mathlib.Core.Bool.{Bool, true, false, not, _&&_, _||_, and-true}
 use mathlib.Core.Logic.{⊎-elim}
 use mathlib.Core.List.{List, [], _∷_, _++_}
 use mathlib.Core.Option.{Option, none, some}
-use Prim.Native.Nat.{ℕ, suc, _+_, _*_, _<_, _≤_}
+use Prim.Native.Nat.{ℕ, suc, _+_, _<_, _≤_}
 use native.Mathlib.Numerals.{add-one}
 use native.Mathlib.Omega.{arith}
 use lib.Dec.{eqb, ltb}
 use lib.ListN.{length, set, drop, length-set}
 use lib.Seq.{set-at, drop-cons, append-snoc}
 use borrow.Author.Tests.{lt-ltb, ltb-true, not-true}
-use Rattle.model.specs.Bounded.{every, lowest, among}
+use Rattle.model.specs.Bounded.{every, among}
 use Rattle.model.specs.Taps.{isNext, courseOf}
-use Rattle.model.proofs.Bounded.{and-left, and-right, and-both, which, not-both, not-is-true, every-at, every-from, lowest-none, lowest-hit, lowest-nowhere}
+use Rattle.model.proofs.Bounded.{and-left, and-right, and-both, which, not-both, every-at, every-from, lowest-none, lowest-hit, lowest-nowhere}
 use Rattle.model.proofs.Closure.{Over, closure-least}
 use Rattle.model.proofs.Ahead.{among-snoc}
 use Rattle.model.proofs.Course.{next-use, next-on, course-holds, course-goes}

@@ -11,7 +11,7 @@ use lib.ListN.{length, getD, take}
 use borrow.Author.Tests.{eqb-true, eq-eqb, ne-eqb, ltb-true, lt-ltb, not-true}
 use Rattle.model.specs.Bounded.{among}
 use Rattle.model.specs.Taps.{ahead, eachOnce}
-use Rattle.model.proofs.Bounded.{and-left, and-right, and-both, or-cases, or-left, or-right, which, not-both, not-is-true}
+use Rattle.model.proofs.Bounded.{and-left, and-right, and-both, or-cases, or-left, or-right, which, not-both}
 
 -- the members of a list with one more at its end
 pub among-snoc : (x : ℕ) (l : List ℕ) (k : ℕ) → among x (l ++ (k ∷ [])) ≡ (among x l || eqb x k)

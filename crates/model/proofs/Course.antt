@@ -5,7 +5,7 @@ use native.Mathlib.Nat.{not-suc-le-zero, le-of-suc-le-suc, eq-or-lt-of-le, le-st
 use native.Mathlib.Omega.{arith}
 use mathlib.Core.Path.{_≡_, refl, sym, _∙_, ap, subst, subst⁻¹}
 use mathlib.Core.Logic.{_⊎_, inl, inr, ⊎-elim}
-use mathlib.Core.Bool.{Bool, true, false, not, cond, _&&_, _||_}
+use mathlib.Core.Bool.{Bool, true, false, not, cond, _||_}
 use mathlib.Core.List.{List, [], _∷_, _++_}
 use mathlib.Core.Option.{Option, none, some}
 use lib.Dec.{eqb}
@@ -14,10 +14,10 @@ use lib.Seq.{take-all, take-append-le, getD-take, getD-at}
 use borrow.Author.Tests.{eqb-true, eq-eqb, ne-eqb, not-true}
 use Rattle.model.specs.Bounded.{every, lowest, among}
 use Rattle.model.specs.Taps.{ahead, eachOnce, isNext, withNext, courseOf}
-use Rattle.model.proofs.Bounded.{and-left, and-right, and-both, or-cases, or-left, or-right, which, not-both, not-is-true, every-at, every-from, every-not, IsLowest, Found, lowest-found, lowest-same}
+use Rattle.model.proofs.Bounded.{and-left, and-right, and-both, or-cases, or-right, which, not-both, not-is-true, every-at, every-from, every-not, IsLowest, Found, lowest-found, lowest-same}
 use Rattle.model.proofs.Least.{least-below}
 use Rattle.model.proofs.Closure.{Over, over, closure-holds, closure-transitive, closure-least}
-use Rattle.model.proofs.Ahead.{among-snoc, among-kept, ahead-left, ahead-kept, ahead-last, once-snoc}
+use Rattle.model.proofs.Ahead.{among-snoc, ahead-left, ahead-kept, ahead-last, once-snoc}
 
 -- how many of the numbers below n are left
 pub left : ℕ → List ℕ → ℕ

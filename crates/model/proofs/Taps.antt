@@ -1,26 +1,26 @@
 -- Two taps on one machine: both fit exactly if nothing has to precede itself, and then the course built obeys all three. Assumes nothing.
 use Prim.Native.Nat.{ℕ, _*_, _<_, _≤_}
 use native.Mathlib.Omega.{arith}
-use mathlib.Core.Path.{_≡_, refl, sym, _∙_, ap, subst, subst⁻¹}
+use mathlib.Core.Path.{_≡_, refl, _∙_, ap, subst, subst⁻¹}
 use mathlib.Core.Logic.{_⊎_, inl, inr, ⊎-elim}
-use mathlib.Core.Bool.{Bool, true, false, _||_}
+use mathlib.Core.Bool.{Bool, true, _||_}
 use mathlib.Core.List.{List, _++_}
 use mathlib.Core.Option.{Option, none, some}
 use lib.Dec.{ltb}
-use lib.ListN.{length, getD, take, drop, length-append, length-drop, List·getD-append}
+use lib.ListN.{length, getD, take, drop, List·getD-append}
 use lib.Seq.{take-append-seam, take-append-le}
 use borrow.Author.Tests.{ltb-false}
-use Rattle.model.specs.Limits.{messagesMost, scratchLeast, tapNumbersLeast}
+use Rattle.model.specs.Limits.{scratchLeast, tapNumbersLeast}
 use Rattle.model.specs.Bounded.{lowest, among}
-use Rattle.model.specs.Refusal.{Out, ok, refusal, andThen}
+use Rattle.model.specs.Refusal.{Out, ok}
 use Rattle.model.specs.Order.{Event, number, event, messageOf, Scenario}
 use Rattle.model.specs.Answer.{sheetOf}
-use Rattle.model.specs.Taps.{ahead, eachOnce, withLists, tapsAcceptedOf, Precedes, bySheet, byFirst, bySecond, link, isSooner, precedes, isNext, courseOf, Tapped, fit, clash, refused, tappedOn, tappedFor, tappedOf, outputAfter, tapNumbersOf, Obeys, NothingBefore, LowestNext, LowestCircle, Fitted}
+use Rattle.model.specs.Taps.{ahead, eachOnce, withLists, tapsAcceptedOf, Precedes, bySheet, byFirst, bySecond, link, isSooner, precedes, isNext, courseOf, Tapped, fit, clash, tappedOn, tappedFor, tappedOf, outputAfter, tapNumbersOf, Obeys, NothingBefore, LowestNext, LowestCircle, Fitted}
 use Rattle.model.proofs.Bounded.{or-cases, or-left, or-right, not-both, IsLowest, Found, lowest-found}
 use Rattle.model.proofs.Events.{event-number, number-event, below-number}
 use Rattle.model.proofs.Refusal.{and-then-ok, cond-ok, cond-refused}
 use Rattle.model.proofs.Causal.{Causal}
-use Rattle.model.proofs.Accepted.{or-false, sheet-causal, sheet-count}
+use Rattle.model.proofs.Accepted.{or-false, sheet-causal}
 use Rattle.model.proofs.Closure.{Over, over, linked-below, closure-holds, closure-transitive, closure-least}
 use Rattle.model.proofs.Ahead.{ahead-inside, ahead-transitive, ahead-irreflexive}
 use Rattle.model.proofs.Course.{next-use, next-on, course-holds, course-all, course-take, course-place}

@@ -1,20 +1,20 @@
 -- What each part of the call is to show, from what its own parts handed on. Assumes nothing.
-use mathlib.Core.Path.{_≡_, refl, sym, _∙_, ap, subst, subst⁻¹}
+use mathlib.Core.Path.{_≡_, refl, sym, _∙_, ap, subst⁻¹}
 use mathlib.Core.Bool.{Bool, true, false, not}
 use mathlib.Core.List.{List, [], _++_}
 use mathlib.Core.Option.{Option, none, some}
-use Prim.Native.Nat.{ℕ, _*_, _<_, _≤_}
+use Prim.Native.Nat.{ℕ, _*_, _≤_}
 use native.Mathlib.Omega.{arith}
 use lib.ListN.{length, drop}
 use borrow.Author.Tests.{not-true, not-false}
-use Rattle.model.specs.Limits.{messagesMost, tapNumbersLeast}
+use Rattle.model.specs.Limits.{tapNumbersLeast}
 use Rattle.model.specs.Bounded.{lowest}
 use Rattle.model.specs.Refusal.{Out, ok, refusal, andThen, tapRefusal}
 use Rattle.model.specs.Order.{event, Scenario}
 use Rattle.model.specs.Answer.{sheetOf}
 use Rattle.model.specs.Taps.{Tapped, eachOnce, withLists, isSooner, precedes, courseOf, fit, clash, refused, fitWord, tappedOn, tappedFor, tapNumbersOf, outputAfter}
 use Rattle.model.proofs.Accepted.{sheet-causal}
-use Rattle.relation.specs.Width.{width, wordBits}
+use Rattle.relation.specs.Width.{width}
 use Rattle.relation.specs.Order.{before, Transitive}
 use Rattle.relation.specs.Own.{isOwn, foundIn}
 use Rattle.relation.specs.Scenario.{scenarioIn}

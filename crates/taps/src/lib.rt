@@ -1,10 +1,10 @@
 // Two taps on one machine: a text, scratch words and two lists of event numbers in; one course of events for both, a clash or a refusal out.
 ghost use mathlib.Core.Path.{_≡_};
 ghost use mathlib.Core.Bool.{true};
-ghost use Prim.Native.Nat.{ℕ, _*_, _≤_};
+ghost use Prim.Native.Nat.{_*_, _≤_};
 ghost use lib.ListN.{length};
 ghost use Rattle.model.specs.Limits.{messagesMost, tapNumbersLeast};
-ghost use Rattle.model.specs.Refusal.{ok, andThen};
+ghost use Rattle.model.specs.Refusal.{andThen};
 ghost use Rattle.model.specs.Answer.{sheetOf};
 ghost use Rattle.model.specs.Taps.{eachOnce, withLists, TapsChecked};
 ghost use Rattle.relation.specs.Width.{width};

@@ -1,18 +1,19 @@
 -- Two taps on one machine: both fit exactly if nothing has to precede itself, and then the course built obeys all three. Assumes nothing.
-use Prim.Native.Nat.{ℕ, _*_, _<_, _≤_}
+use Prim.Native.Nat.{ℕ, _*_, _^_, _<_, _≤_}
 use native.Mathlib.Omega.{arith}
 use mathlib.Core.Path.{_≡_, refl, _∙_, ap, subst, subst⁻¹}
 use mathlib.Core.Logic.{_⊎_, inl, inr, ⊎-elim}
-use mathlib.Core.Bool.{Bool, true, _||_}
+use mathlib.Core.Bool.{Bool, true, false, cond, _||_}
 use mathlib.Core.List.{List, _++_}
 use mathlib.Core.Option.{Option, none, some}
 use lib.Dec.{ltb}
 use lib.ListN.{length, getD, take, drop, List·getD-append}
 use lib.Seq.{take-append-seam, take-append-le}
 use borrow.Author.Tests.{ltb-false}
-use Rattle.model.specs.Limits.{scratchLeast, tapNumbersLeast}
+use Rattle.model.specs.Limits.{rowsMost, messagesMost, scratchLeast, tapNumbersLeast}
 use Rattle.model.specs.Bounded.{lowest, among}
-use Rattle.model.specs.Refusal.{Out, ok}
+use Rattle.model.specs.Refusal.{Out, ok, refusal, andThen, benchRefusal, tapRefusal}
+use Rattle.model.specs.Place.{lineOf}
 use Rattle.model.specs.Order.{Event, number, event, messageOf, Scenario}
 use Rattle.model.specs.Answer.{sheetOf}
 use Rattle.model.specs.Taps.{ahead, eachOnce, withLists, tapsAcceptedOf, Precedes, bySheet, byFirst, bySecond, link, isSooner, precedes, isNext, courseOf, Tapped, fit, clash, tappedOn, tappedFor, tappedOf, outputAfter, tapNumbersOf, Obeys, NothingBefore, LowestNext, LowestCircle, Fitted}
@@ -20,7 +21,8 @@ use Rattle.model.proofs.Bounded.{or-cases, or-left, or-right, not-both,
 use Rattle.model.proofs.Events.{event-number, number-event, below-number}
 use Rattle.model.proofs.Refusal.{and-then-ok, cond-ok, cond-refused}
 use Rattle.model.proofs.Causal.{Causal}
-use Rattle.model.proofs.Accepted.{or-false, sheet-causal}
+use Rattle.model.proofs.Accepted.{or-false, sheet-causal, sheet-count}
+use Rattle.model.proofs.Lines.{Well, sheet-well}
 use Rattle.model.proofs.Closure.{Over, over, linked-below, closure-holds, closure-transitive, closure-least}
 use Rattle.model.proofs.Ahead.{ahead-inside, ahead-transitive, ahead-irreflexive}
 use Rattle.model.proofs.Course.{next-use, next-on, course-holds, course-all, course-take, course-place}
@@ -52,6 +54,10 @@ taps-accepted-parts text scratchLength first second outputLength S e =
       firstOnce = subst (λ (U : Scenario). eachOnce (2 * U .count) first ≡ true) same (c .0);
       secondOnce = subst (λ (U : Scenario). eachOnce (2 * U .count) second ≡ true) same (d .0);
     }
+
+-- the numbers of an answer fit 32 bits
+abbrev pub Small : Tapped → Type 0
+Small a = (tapNumbersOf a .one < 2 ^ 32) × (tapNumbersOf a .two < 2 ^ 32)
 
 -- The three sources of "has to precede", one by one.
 module _ (S : Scenario) (first second : List ℕ) where
@@ -252,6 +258,11 @@ module _ (S : Scenario) (C : Causal S) (first second : List ℕ) (firstOnce : ea
         clashLowest = λ i. L;
       }
 
+  -- what an answer names: events of the sheet, or how many there are
+  decided-small : (a : Tapped) → Decided a → S .count ≤ messagesMost → Small a
+  decided-small a (isFit noCircle) few = (omega (arith, course-long noCircle), omega arith)
+  decided-small a (isClash {x = x} L) few = (omega (arith, L .inSheet), omega arith)
+
 -- What the answer says of the course, for every text, scratch length, lists and output, with no premise but that the call is accepted.
 pub taps-course : (text : List ℕ) (scratchLength : ℕ) (first second output : List ℕ) (S : Scenario)
     → tapsAcceptedOf text scratchLength first second (length output) ≡ ok S
@@ -264,3 +275,27 @@ taps-course text scratchLength first second output S e =
     subst⁻¹ (λ (o : Out Scenario). Fitted S first second (tapNumbersOf (tappedFor first second o)) (outputAfter (tappedFor first second o) output)) e
     (fitted-for S C first second (a .firstOnce) (a .secondOnce) (tappedOn first second S)
     (decided S C first second (a .firstOnce) (a .secondOnce)) output)
+
+-- The numbers of every answer do: they are events, refusals and lines.
+pub taps-small : (text : List ℕ) (scratchLength : ℕ) (first second : List ℕ) (outputLength : ℕ)
+    → Small (tappedOf text scratchLength first second outputLength)
+unfolding tappedOf tapsAcceptedOf tappedFor withLists andThen
+taps-small text scratchLength first second outputLength =
+    short (ltb scratchLength scratchLeast || ltb outputLength tapNumbersLeast)
+  where
+    listed : (S : Scenario) → sheetOf text ≡ ok S → (a b : Bool) → eachOnce (2 * S .count) first ≡ a → eachOnce (2 * S .count) second ≡ b
+        → Small (tappedFor first second (cond a (cond b (ok S) (refusal tapRefusal 2)) (refusal tapRefusal 1)))
+    listed S e true true p q =
+        let few : S .count ≤ messagesMost = sheet-count text S e in
+        decided-small S (sheet-causal text S e) first second p q (tappedOn first second S)
+        (decided S (sheet-causal text S e) first second p q) few
+    listed S e true false p q = (omega arith, omega arith)
+    listed S e false b p q = (omega arith, omega arith)
+
+    sheet : (o : Out Scenario) → sheetOf text ≡ o → Well (lineOf rowsMost) o → Small (tappedFor first second (andThen o (withLists first second)))
+    sheet (refusal number line) e w = (omega (arith, w .known), omega (arith, w .within))
+    sheet (ok S) e w = listed S e (eachOnce (2 * S .count) first) (eachOnce (2 * S .count) second) refl refl
+
+    short : (b : Bool) → Small (tappedFor first second (cond b (refusal benchRefusal 0) (andThen (sheetOf text) (withLists first second))))
+    short true = (omega arith, omega arith)
+    short false = sheet (sheetOf text) refl (sheet-well text)

@@ -28,3 +28,6 @@ pub mod PointThree
 pub mod Replay
 pub mod Wired
 pub mod FinishedRuns
+pub mod Ahead
+pub mod Course
+pub mod Taps

@@ -15,4 +15,5 @@ pub mod Answer
 pub mod Verdict
 pub mod Replay
 pub mod Wired
+pub mod Taps
 pub mod Marked

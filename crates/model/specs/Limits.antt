@@ -39,3 +39,7 @@ scratchLeast = 2048
 
 abbrev pub traceLeast : ℕ
 traceLeast = 2 * (3 * messagesMost)
+
+-- The output lent for the course of two taps: 512 numbers.
+abbrev pub tapNumbersLeast : ℕ
+tapNumbersLeast = 512

@@ -30,6 +30,11 @@ pub const SCRATCH_LEAST: usize = 2048;
 pub const TRACE_LEAST: usize = 2 * (3 * MESSAGES_MOST);
 
 // The refusals, by the numbers of the paper's table and of the requests.
+
+// The output of the two taps.
+pub const TAP_NUMBERS_LEAST: usize = 512;
+
+// The refusals, by the numbers of the paper's table.
 pub const CHANNEL: u8 = 1;
 
 pub const BENCH: u8 = 2;
@@ -53,3 +58,5 @@ pub const MESSAGES: u8 = 10;
 pub const CIRCLE: u8 = 11;
 
 pub const TRACE: u8 = 12;
+
+pub const TAP: u8 = 20;

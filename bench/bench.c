@@ -57,6 +57,22 @@ static void order_rows(int n) {
     for (int i = 0; i < 376; i++) line("P", 0, 1);
 }
 
+/* 40 blocks of three messages and a few P rows each; n is not used. */
+static void few(int n) {
+    (void)n;
+    begin();
+    for (int b = 0; b < 40; b++) {
+        line("M", 0, 1);
+        line("M", 0, 1);
+        line("M", 1, 0);
+        line("P", 0, 2);
+        line("P", 1, 3);
+        line("P", 3, 4);
+        line("P", 0, 5);
+        line("B", 0, 0);
+    }
+}
+
 /* Case 2 of the paper: a small sheet; n is not used. */
 static void case_2(int n) {
     (void)n;
@@ -117,7 +133,7 @@ static void streams(int n) {
 
 static const struct { const char *name; void (*make)(int); } sheets[] = {
     {"longest-trace", longest_trace}, {"chain", chain}, {"dense", dense}, {"calls", calls}, {"blocks", blocks}, {"refused", refused},
-    {"chain-twice", chain_twice}, {"order-rows", order_rows}, {"case-2", case_2},
+    {"chain-twice", chain_twice}, {"order-rows", order_rows}, {"few", few}, {"case-2", case_2},
     {"early-race", early_race}, {"streams", streams},
 };
 

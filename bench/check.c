@@ -17,6 +17,15 @@ static inline void copy(uint64_t *words, size_t to, const uint64_t *other, size_
 static inline void join(uint64_t *words, size_t to, const uint64_t *other, size_t from) {
     for (size_t i = 0; i < W; i++) words[to * W + i] |= other[from * W + i];
 }
+/* x is put before y, among the rows from .. to - 1 */
+static void insert(uint64_t *words, size_t x, size_t y, size_t from, size_t to) {
+    if (test(words, y, x)) return;
+    for (size_t b = from; b < to; b++)
+        if (b == y || test(words, b, y)) {
+            join(words, b, words, x);
+            mark(words, b, x);
+        }
+}
 
 /* ------------------------------------------------------------------ the sheet file */
 
@@ -66,7 +75,8 @@ static int formed(uint8_t kind, int one, int two) {
     return kind == 'S' || kind == 'C' || (kind == 'B' && one == 0);
 }
 
-static refusal read(const uint8_t *text, size_t len, sheet *s) {
+/* the words hold the order of the open block: a message's two rows are made anew, so their contents do not matter */
+static refusal read(const uint8_t *text, size_t len, sheet *s, uint64_t *words) {
     static const char *names[3] = {"kind", "one", "two"};
     size_t from[3], to[3], column[3] = {3, 3, 3}, messages = 0, row = 0;
     uint8_t boards[EVENTS];
@@ -98,11 +108,16 @@ static refusal read(const uint8_t *text, size_t len, sheet *s) {
             if (placed) {
                 boards[2 * messages] = (uint8_t)one;
                 boards[2 * messages + 1] = (uint8_t)two;
+                memset(words + 2 * messages * W, 0, 2 * W * sizeof *words);
+                mark(words, 2 * messages + 1, 2 * messages);
                 messages++;
             }
             break;
         case 'P':
             placed = placed && (size_t)one < 2 * messages && (size_t)two < 2 * messages && one != two && boards[one] == boards[two];
+            if (!placed) break;
+            if (test(words, (size_t)one, (size_t)two)) return (refusal){11, line};
+            insert(words, (size_t)one, (size_t)two, 0, 2 * messages);
             break;
         case 'B': messages = 0; break;
         default: placed = placed && one < SHEETS; messages = 0;
@@ -148,15 +163,6 @@ static void message(walk *w, uint8_t a, uint8_t b) {
     w->count++;
 }
 
-static void insert(walk *w, size_t x, size_t y) {
-    if (test(w->words, y, x)) return;
-    for (size_t b = 2 * w->first; b < 2 * w->count; b++)
-        if (b == y || test(w->words, b, y)) {
-            join(w->words, b, w->words, x);
-            mark(w->words, b, x);
-        }
-}
-
 static refusal walk_sheets(const sheet *s, walk *w) {
     size_t from[LEVELS], level = 0;
     for (size_t row = s->start[0];;) {
@@ -168,7 +174,7 @@ static refusal walk_sheets(const sheet *s, walk *w) {
             row++;
             break;
         case 'P':
-            insert(w, 2 * w->first + s->one[row], 2 * w->first + s->two[row]);
+            insert(w->words, 2 * w->first + s->one[row], 2 * w->first + s->two[row], 2 * w->first, 2 * w->count);
             row++;
             break;
         case 'B': /* an empty block costs its row */
@@ -400,7 +406,7 @@ trace_check_answer careful_trace_check(const uint8_t *text, size_t text_len, uin
     if (scratch_len < 2048) return (trace_check_answer){4, 2, 0};
     trace_check_answer a = {4, 12, 0};
     if (trace_len % 2 == 0 && trace_len <= 768) {
-        refusal r = read(text, text_len, &s);
+        refusal r = read(text, text_len, &s, scratch);
         w.words = scratch;
         if (!r.number) r = expand(&s, &w);
         a = r.number ? (trace_check_answer){4, r.number, r.line} : replay(&w, channels[code], trace, trace_len);
@@ -415,7 +421,7 @@ static channel_check_answer judge(const uint8_t *text, size_t len, uint32_t code
     sheet s;
     walk w;
     size_t e, x;
-    refusal r = read(text, len, &s);
+    refusal r = read(text, len, &s, scratch);
     w.words = scratch;
     if (!r.number) r = expand(&s, &w);
     if (r.number) return (channel_check_answer){2, r.number, r.line, 0};

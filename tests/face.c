@@ -196,8 +196,16 @@ static const struct { const char *name, *text; uint32_t number, line; } refused[
     {"7 the first absent call", H "S 0 0\nS 1 0\nC 9 0\nC 8 0\n", 7, 4},
     {"8 depth", H "S 0 0\nC 0 0\n", 8, 3},
     {"8 ahead of 10", H "S 0 0\nM 0 0\nC 0 0\n", 8, 4},
-    {"11 circle", H "S 0 0\nM 0 1\nM 1 0\nP 1 2\nP 3 0\n", 11, 0},
-    {"11 circle of two rows", H "S 0 0\nM 0 1\nM 0 1\nP 0 2\nP 2 0\n", 11, 0},
+    {"11 circle", H "S 0 0\nM 0 1\nM 1 0\nP 1 2\nP 3 0\n", 11, 6},
+    {"11 circle of two rows", H "S 0 0\nM 0 1\nM 0 1\nP 0 2\nP 2 0\n", 11, 6},
+    {"11 circle of a message to its own board", H "S 0 0\nM 0 0\nP 1 0\n", 11, 4},
+    {"11 in a sheet that nobody calls", H "S 0 0\nS 1 0\nM 0 0\nB 0 0\nM 0 0\nP 1 0\n", 11, 7},
+    {"11 at the first row of two", H "S 0 0\nM 0 0\nP 1 0\nP 1 0\n", 11, 4},
+    {"6 ahead of 11 on one row", H "S 0 0\nM 0 1\nP 1 0\n", 6, 4},
+    {"6 ahead of 11 behind", H "S 0 0\nM 0 0\nM 16 0\nP 1 0\n", 6, 4},
+    {"11 ahead of 5 behind", H "S 0 0\nM 0 0\nP 1 0\nX\n", 11, 4},
+    {"11 ahead of 7", H "S 1 0\nM 0 0\nP 1 0\n", 11, 4},
+    {"11 ahead of 8", H "S 0 0\nC 0 0\nS 1 0\nM 0 0\nP 1 0\n", 11, 6},
 };
 
 /* the call at level 8 is call 1,025 too; with one call more ahead of it, the one that leads to level 8 is */

@@ -92,6 +92,22 @@ fn row(columns: [usize; 3], line: (&[u8], bool)) -> Option<Row> {
     }
 }
 
+/// Event x of a block is before itself: over its P rows, and from a message's send to its receive, one comes from x back to x.
+fn circles(orders: &BTreeSet<(usize, usize)>, x: usize) -> bool {
+    let behind = |a: usize| {
+        let rows = orders.range((a, 0)..(a + 1, 0)).map(|p| p.1);
+        rows.chain((a % 2 == 0).then_some(a + 1)).collect::<Vec<usize>>()
+    };
+    let mut reached = BTreeSet::new();
+    let mut next = behind(x);
+    while let Some(a) = next.pop() {
+        if reached.insert(a) {
+            next.extend(behind(a));
+        }
+    }
+    reached.contains(&x)
+}
+
 pub fn read(text: &[u8]) -> Result<Vec<Row>, Refusal> {
     if text.is_empty() || text.len() > 8192 {
         return Err((3, 0));
@@ -101,6 +117,7 @@ pub fn read(text: &[u8]) -> Result<Vec<Row>, Refusal> {
     let mut rows = Vec::new();
     let mut opened = BTreeSet::new();
     let mut open: Vec<(usize, usize)> = Vec::new();
+    let mut orders = BTreeSet::new();
     for (i, line) in lines[1..].iter().enumerate() {
         let at = i as u32 + 2;
         let r = row(columns, *line).filter(|_| i < 512).ok_or((5, at))?;
@@ -118,8 +135,16 @@ pub fn read(text: &[u8]) -> Result<Vec<Row>, Refusal> {
         }
         match r {
             Row::Message(a, b) => open.push((a, b)),
-            Row::Order(..) => {}
-            _ => open.clear(),
+            Row::Order(x, y) => {
+                orders.insert((x, y));
+                if circles(&orders, x) {
+                    return Err((11, at));
+                }
+            }
+            _ => {
+                open.clear();
+                orders.clear();
+            }
         }
         rows.push(r);
     }

@@ -9,7 +9,8 @@ use mathlib.Core.List.{List}
 use lib.ListN.{length, getD}
 use Rattle.model.specs.Limits.{boards, messagesMost}
 use Rattle.model.specs.Expansion.{Walk, freshWalk}
-use Rattle.model.specs.Order.{Met, nothingMet, listed}
+use Rattle.model.specs.Closure.{listed}
+use Rattle.model.specs.Order.{Met, nothingMet}
 use Rattle.model.proofs.Bounded.{not-both}
 use Rattle.relation.specs.Width.{width, wordBits}
 use Rattle.relation.specs.Rows.{holds, bitOf, wordOf}

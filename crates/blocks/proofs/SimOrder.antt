@@ -12,7 +12,8 @@ use lib.ListN.{length, getD}
 use borrow.Author.Tests.{eq-eqb, eqb-true, lt-leb}
 use Rattle.model.specs.Limits.{boards}
 use Rattle.model.specs.Expansion.{Walk}
-use Rattle.model.specs.Order.{Met, metOps, listed}
+use Rattle.model.specs.Closure.{listed}
+use Rattle.model.specs.Order.{Met, metOps}
 use Rattle.model.proofs.Bounded.{and-left, and-right, or-cases, or-left, or-right, which}
 use Rattle.model.proofs.Walked.{Sound}
 use Rattle.relation.specs.Width.{width}

@@ -4,23 +4,23 @@ use Prim.Native.Nat.{ℕ, zero, suc, _+_, _-_, _<_, _≤_}
 use native.Mathlib.Decide.{ℕ-discrete}
 use native.Mathlib.Omega.{arith}
 use mathlib.Core.Path.{_≡_, refl, _∙_, ap, subst}
-use mathlib.Core.Bool.{Bool, true, false, not, cond, _&&_, _||_}
+use mathlib.Core.Bool.{Bool, true, false, cond}
 use mathlib.Core.List.{List, [], _∷_}
 use mathlib.Core.Option.{Option, none, some}
-use lib.Dec.{eqb, leb, ltb}
+use lib.Dec.{eqb, ltb}
 use lib.ListN.{length, getD, drop, length-append}
 use borrow.Author.Tests.{ltb-true}
-use Rattle.model.specs.Limits.{textMost, rowsMost, sheets}
+use Rattle.model.specs.Limits.{rowsMost, sheets}
 use Rattle.model.specs.Bounded.{among}
-use Rattle.model.specs.Refusal.{ok, refusal, andThen, headingRefusal, rowRefusal, placeRefusal, absentRefusal}
-use Rattle.model.specs.Text.{Line, Columns, linesOf, headingOf}
-use Rattle.model.specs.Rows.{Row, sheet, message, order, block, call, rowOf}
-use Rattle.model.specs.Place.{Place, outside, withMessage, moved, isSheet, placed, lineOf, judged, opens, strayCall, complete, bodyOf, readOf}
+use Rattle.model.specs.Refusal.{ok, refusal, absentRefusal}
+use Rattle.model.specs.Text.{Line, Columns}
+use Rattle.model.specs.Rows.{Row, sheet, message, order, block, call}
+use Rattle.model.specs.Place.{Place, outside, withMessage, moved, lineOf, judged, opens, strayCall, complete}
 use Rattle.model.specs.Place.{rowsFrom as rowsRead}
 use Rattle.model.specs.Expansion.{startOf}
-use Rattle.model.proofs.Refusal.{not-refused, and-then-ok, passed, cond-ok}
+use Rattle.model.proofs.Refusal.{not-refused, passed, cond-ok}
 use Rattle.model.proofs.Closure.{cells-length, cells-at}
-use Rattle.model.proofs.Standing.{Fits, read-fits, cond-some}
+use Rattle.model.proofs.Standing.{Fits, judged-row, read-parts, read-fits, cond-some}
 use Rattle.model.proofs.Walked.{OnOneBoard, message-parts, order-parts}
 use Rattle.sheet.specs.Bridge.{rowFrom, rowsAt, rowsOf, startIn}
 use Rattle.sheet.proofs.Bridge.{rows-length, row-call}
@@ -28,34 +28,6 @@ use Rattle.walk.specs.Block.{rowsFrom, AllStand}
 use Rattle.walk.proofs.Meeting.{rows-drop}
 use Rattle.levels.specs.Levels.{Sheets}
 use Rattle.expansion.specs.Lent.{AreRead, RowsRead}
-
--- a row that is read is one of the first 512, and its place allows it
-pub record Judged (i : ℕ) (p q : Place) (r : Row) : Type 0 where
-  pub few : i < rowsMost
-  pub allowed : moved p r ≡ some q
-
-judged-row : (c : Columns) (i : ℕ) (p : Place) (l : Line) (rp : Row × Place) → judged c i p l ≡ ok rp → Judged i p (rp .1) (rp .0)
-unfolding judged placed
-judged-row c i p l rp e = form (ltb i rowsMost) refl (rowOf c l) e
-  where
-    place : (r : Row) (t : Bool) (o : Option Place) → moved p r ≡ o → i < rowsMost
-        → elim (cond t o none) [ none ↦ refusal placeRefusal (lineOf i) | some q ↦ ok (r, q) ] ≡ ok rp
-        → Judged i p (rp .1) (rp .0)
-    place r false o h k e = not-refused e
-    place r true none h k e = not-refused e
-    place r true (some q) h k e =
-        let t : _≡_ {A = Row × Place} (r, q) rp = cc in
-        subst (λ (z : Row × Place). Judged i p (z .1) (z .0)) t (record { few = k; allowed = h })
-
-    form : (b : Bool) → ltb i rowsMost ≡ b → (o : Option Row)
-        → elim (cond b o none) [
-          | none ↦ refusal rowRefusal (lineOf i)
-          | some r ↦ elim (cond (isSheet r || not (eqb (length (p .opened)) 0)) (moved p r) none) [ none ↦ refusal placeRefusal (lineOf i) | some q ↦ ok (r, q) ]
-        ] ≡ ok rp
-        → Judged i p (rp .1) (rp .0)
-    form false k o e = not-refused e
-    form true k none e = not-refused e
-    form true k (some r) e = place r (isSheet r || not (eqb (length (p .opened)) 0)) (moved p r) refl (ltb-true i rowsMost k) e
 
 -- the rows' sheets are 0 to 31 where they call, and the rows are few
 abbrev Known : Row → Type 0
@@ -75,7 +47,7 @@ moved-known p q (sheet k) e = tt
 moved-known p q (message a b) e = tt
 moved-known p q (order x y) e = tt
 moved-known p q block e = tt
-moved-known p q (call k) e = ltb-true k sheets (cond-some (ltb k sheets) (record { opened = p .opened; events = [] }) q e .0)
+moved-known p q (call k) e = ltb-true k sheets (cond-some (ltb k sheets) _ q e .0)
 
 read-rows : (c : Columns) (i : ℕ) (p : Place) (ls : List Line) (rs : List Row) → rowsRead c i p ls ≡ ok rs → i ≤ rowsMost
     → AllKnown rs × (i + length rs ≤ rowsMost)
@@ -164,36 +136,21 @@ record Whole (rs : List Row) : Type 0 where
   pub present : AllPresent (opens rs) rs
   pub begins : among 0 (opens rs) ≡ true
 
-complete-whole : (c : Columns) (ls : List Line) (rs₀ rs : List Row) → rowsRead c 0 outside ls ≡ ok rs₀ → complete rs₀ ≡ ok rs → Whole rs
+complete-whole : (c : Columns) (ls : List Line) (rs : List Row) → rowsRead c 0 outside ls ≡ ok rs → complete rs ≡ ok rs → Whole rs
 unfolding complete
-complete-whole c ls rs₀ rs e f =
-    let t = cond-ok (among 0 (opens rs₀)) _ _ _ rs f in go (strayCall (opens rs₀) 0 rs₀) refl (t .0) (t .1)
+complete-whole c ls rs e f =
+    let t = cond-ok (among 0 (opens rs)) _ _ _ rs f in go (strayCall (opens rs) 0 rs) refl (t .0) (t .1)
   where
-    go : (o : Option ℕ) → strayCall (opens rs₀) 0 rs₀ ≡ o → among 0 (opens rs₀) ≡ true
-        → elim o [ none ↦ ok rs₀ | some line ↦ refusal absentRefusal line ] ≡ ok rs
+    go : (o : Option ℕ) → strayCall (opens rs) 0 rs ≡ o → among 0 (opens rs) ≡ true
+        → elim o [ none ↦ ok rs | some line ↦ refusal absentRefusal line ] ≡ ok rs
         → Whole rs
     go none s b h =
-        let same : rs₀ ≡ rs = cc in
-        let r = read-rows c 0 outside ls rs₀ e (omega arith) in
-        subst Whole same (record { few = omega (arith, r .1); present = all-present (opens rs₀) 0 rs₀ (r .0) s; begins = b })
+        let r = read-rows c 0 outside ls rs e (omega arith) in
+        record { few = omega (arith, r .1); present = all-present (opens rs) 0 rs (r .0) s; begins = b }
     go (some line) s b h = not-refused h
 
-body-whole : (ls : List Line) (rs : List Row) → bodyOf ls ≡ ok rs → Whole rs
-unfolding bodyOf
-body-whole [] rs e = not-refused e
-body-whole (h ∷ ls) rs e = go (headingOf h) e
-  where
-    go : (o : Option Columns)
-        → elim o [ none ↦ refusal headingRefusal 1 | some c ↦ andThen (rowsRead c 0 outside ls) complete ] ≡ ok rs
-        → Whole rs
-    go none e = not-refused e
-    go (some c) e = let t = and-then-ok (rowsRead c 0 outside ls) complete rs e in complete-whole c ls (t .0) rs (t .1) (t .2)
-
 read-whole : (rs : List Row) → AreRead rs → Whole rs
-unfolding readOf
-read-whole rs r =
-    body-whole (linesOf (r .0)) rs
-    (cond-ok (ltb 0 (length (r .0)) && leb (length (r .0)) textMost) (bodyOf (linesOf (r .0))) _ _ rs (r .1) .1)
+read-whole rs r = let p = read-parts (r .0) rs (r .1) in complete-whole (p .columns) (p .lines) rs (p .read) (p .whole)
 
 module _ (kind one two : List ℕ) (count : ℕ) (start : List ℕ) (lent : RowsRead kind one two count start) where
   abbrev file : List Row

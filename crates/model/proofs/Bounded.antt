@@ -42,6 +42,12 @@ which false = inr refl
 pub not-both : {C : Type 0} (b : Bool) → b ≡ true → b ≡ false → C
 not-both b p q = let z : _≡_ {A = ℕ} 0 1 = cc in absurd (omega arith)
 
+-- two tests of which each follows from the other
+pub both-ways : (p q : Bool) → (p ≡ true → q ≡ true) → (q ≡ true → p ≡ true) → p ≡ q
+both-ways true q f g = sym (f refl)
+both-ways false true f g = g refl
+both-ways false false f g = refl
+
 pub not-is-true : (b : Bool) → b ≡ false → not b ≡ true
 not-is-true b p = rw p
 

@@ -1,4 +1,4 @@
--- Warshall's closure of specs/Order, over any bound and any test: it holds the test, is transitive, and lies inside
+-- Warshall's closure of specs/Closure, over any bound and any test: it holds the test, is transitive, and lies inside
 -- every transitive relation that holds the test. Assumes nothing.
 use Prim.Native.Nat.{ℕ, zero, suc, _<_, _≤_}
 use native.Mathlib.Nat.{not-suc-le-zero, le-of-suc-le-suc, eq-or-lt-of-le}
@@ -9,7 +9,7 @@ use mathlib.Core.List.{List, []}
 use lib.Dec.{ltb}
 use lib.ListN.{length, getD, List·getD-eq-default}
 use borrow.Author.Tests.{ltb-true, ltb-false}
-use Rattle.model.specs.Order.{cells, tabled, reads, linked}
+use Rattle.model.specs.Closure.{cells, tabled, reads, linked}
 use Rattle.model.proofs.Bounded.{and-left, and-right, and-both, or-cases, or-left, or-right, which, not-both}
 
 -- cells: so many of them, and each

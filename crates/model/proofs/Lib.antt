@@ -3,10 +3,12 @@ pub mod Bounded
 pub mod Marked
 pub mod Events
 pub mod Closure
+pub mod Block
 pub mod Order
 pub mod Refusal
 pub mod Standing
 pub mod Walked
+pub mod Clean
 pub mod Causal
 pub mod Accepted
 pub mod Lines

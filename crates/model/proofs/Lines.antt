@@ -13,9 +13,9 @@ use Rattle.model.specs.Bounded.{among}
 use Rattle.model.specs.Refusal.{Out, ok, refusal, andThen, benchRefusal, circleRefusal, rowRefusal, placeRefusal, absentRefusal, lengthRefusal, headingRefusal, callsRefusal, messagesRefusal}
 use Rattle.model.specs.Text.{Line, Columns, linesOf, headingOf}
 use Rattle.model.specs.Rows.{Row, sheet, message, order, block, call, rowOf}
-use Rattle.model.specs.Place.{Place, outside, placed, lineOf, judged, rowsFrom, opens, strayCall, complete, bodyOf, readOf}
+use Rattle.model.specs.Place.{Place, outside, placed, circleAt, lineOf, judged, rowsFrom, opens, strayCall, complete, bodyOf, readOf}
 use Rattle.model.specs.Expansion.{Ops, Progress, startOf, blockOpened, callMade, messageMet, orderMet, walkRows, callAt, expand}
-use Rattle.model.specs.Order.{Met, metOps, nothingMet, exchangeOf, scenarioOf, hasCircle}
+use Rattle.model.specs.Order.{metOps, nothingMet, exchangeOf, scenarioOf, hasCircle}
 use Rattle.model.specs.Answer.{withoutCircle, expandedOf, sheetOf}
 use Rattle.model.proofs.Refusal.{not-refused}
 
@@ -53,18 +53,34 @@ module _ (c : Columns) where
   unfolding judged Judged
   judged-well i p l h = form (ltb i rowsMost) refl
     where
+      circle : (r : Row) (q : Place) → i < rowsMost → (b : Bool) → Judged i (cond b (refusal circleRefusal (lineOf i)) (ok (r, q)))
+      circle r q u true = record { behind = omega arith; known = omega arith; within = omega arith }
+      circle r q u false = u
+
       place : (r : Row) → i < rowsMost → (o : Option Place)
-          → Judged i (elim o [ none ↦ refusal placeRefusal (lineOf i) | some q ↦ ok (r, q) ])
+          → Judged i (elim o [ none ↦ refusal placeRefusal (lineOf i) | some q ↦ cond (circleAt r q) (refusal circleRefusal (lineOf i)) (ok (r, q)) ])
       place r u none = record { behind = omega arith; known = omega arith; within = omega arith }
-      place r u (some q) = u
+      place r u (some q) = circle r q u (circleAt r q)
 
       row : i < rowsMost → (o : Option Row)
-          → Judged i (elim o [ none ↦ refusal rowRefusal (lineOf i) | some r ↦ elim (placed p r) [ none ↦ refusal placeRefusal (lineOf i) | some q ↦ ok (r, q) ] ])
+          → Judged i (elim o [
+            | none ↦ refusal rowRefusal (lineOf i)
+            | some r ↦ elim (placed p r) [
+              | none ↦ refusal placeRefusal (lineOf i)
+              | some q ↦ cond (circleAt r q) (refusal circleRefusal (lineOf i)) (ok (r, q))
+            ]
+          ])
       row u none = record { behind = omega arith; known = omega arith; within = omega arith }
       row u (some r) = place r u (placed p r)
 
       form : (b : Bool) → ltb i rowsMost ≡ b
-          → Judged i (elim (cond b (rowOf c l) none) [ none ↦ refusal rowRefusal (lineOf i) | some r ↦ elim (placed p r) [ none ↦ refusal placeRefusal (lineOf i) | some q ↦ ok (r, q) ] ])
+          → Judged i (elim (cond b (rowOf c l) none) [
+            | none ↦ refusal rowRefusal (lineOf i)
+            | some r ↦ elim (placed p r) [
+              | none ↦ refusal placeRefusal (lineOf i)
+              | some q ↦ cond (circleAt r q) (refusal circleRefusal (lineOf i)) (ok (r, q))
+            ]
+          ])
       form true e = row (ltb-true i rowsMost e) (rowOf c l)
       form false e = record { behind = omega arith; known = omega arith; within = omega arith }
 

@@ -1,6 +1,6 @@
 -- The rows of a text that is read stand where they may: each M row has boards and room, and each P row two events of one
 -- board of the open block. So do the rows behind every S row, from an empty block on. Assumes nothing.
-use Prim.Native.Nat.{ℕ, suc}
+use Prim.Native.Nat.{ℕ, suc, _<_}
 use mathlib.Core.Path.{_≡_, refl, sym, subst}
 use mathlib.Core.Bool.{Bool, true, false, not, cond, _&&_, _||_}
 use mathlib.Core.List.{List, [], _∷_}
@@ -8,14 +8,15 @@ use mathlib.Core.Option.{Option, none, some}
 use native.Mathlib.Omega.{arith}
 use lib.Dec.{eqb, leb, ltb}
 use lib.ListN.{length, drop}
+use borrow.Author.Tests.{ltb-true}
 use Rattle.model.specs.Limits.{textMost, rowsMost, sheets}
 use Rattle.model.specs.Bounded.{among}
-use Rattle.model.specs.Refusal.{ok, refusal, andThen, headingRefusal, rowRefusal, placeRefusal, absentRefusal}
+use Rattle.model.specs.Refusal.{ok, refusal, andThen, headingRefusal, rowRefusal, placeRefusal, absentRefusal, circleRefusal}
 use Rattle.model.specs.Text.{Line, Columns, linesOf, headingOf}
 use Rattle.model.specs.Rows.{Row, sheet, message, order, block, call, rowOf}
-use Rattle.model.specs.Place.{Place, outside, withMessage, messageFits, orderFits, moved, isSheet, placed, lineOf, judged, rowsFrom, opens, strayCall, complete, bodyOf, readOf}
+use Rattle.model.specs.Place.{Place, outside, withMessage, messageFits, orderFits, moved, isSheet, placed, circleAt, lineOf, judged, rowsFrom, opens, strayCall, complete, bodyOf, readOf}
 use Rattle.model.specs.Expansion.{startOf}
-use Rattle.model.proofs.Refusal.{not-refused, and-then-ok, passed, cond-ok}
+use Rattle.model.proofs.Refusal.{not-refused, and-then-ok, passed, cond-ok, cond-refused}
 
 -- the rows may stand behind the open block's events, given by their boards; S, B and C rows open a block
 abbrev pub Fits : List ℕ → List Row → Type 0
@@ -35,23 +36,23 @@ cond-some false a b e = let z : _≡_ {A = ℕ} 0 1 = cc in absurd (omega arith)
 moved-fits : (p q : Place) (r : Row) (rs : List Row) → moved p r ≡ some q → Fits (q .events) rs → Fits (p .events) (r ∷ rs)
 unfolding moved
 moved-fits p q (sheet n) rs e f =
-    let t = cond-some (ltb n sheets && not (among n (p .opened))) (record { opened = n ∷ p .opened; events = [] }) q e in
-    subst (λ (z : Place). Fits (z .events) rs) (sym (t .1)) f
+    let t = cond-some (ltb n sheets && not (among n (p .opened))) _ q e in subst (λ (z : Place). Fits (z .events) rs) (sym (t .1)) f
 moved-fits p q (message a b) rs e f =
-    let t = cond-some (messageFits (p .events) a b) (record { opened = p .opened; events = withMessage (p .events) a b }) q e in
-    (t .0, subst (λ (z : Place). Fits (z .events) rs) (sym (t .1)) f)
+    let t = cond-some (messageFits (p .events) a b) _ q e in (t .0, subst (λ (z : Place). Fits (z .events) rs) (sym (t .1)) f)
 moved-fits p q (order x y) rs e f =
-    let t = cond-some (orderFits (p .events) x y) p q e in
-    (t .0, subst (λ (z : Place). Fits (z .events) rs) (sym (t .1)) f)
+    let t = cond-some (orderFits (p .events) x y) _ q e in (t .0, subst (λ (z : Place). Fits (z .events) rs) (sym (t .1)) f)
 moved-fits p q block rs e f =
-    let t = cond-some true (record { opened = p .opened; events = [] }) q e in
-    subst (λ (z : Place). Fits (z .events) rs) (sym (t .1)) f
+    let t = cond-some true _ q e in subst (λ (z : Place). Fits (z .events) rs) (sym (t .1)) f
 moved-fits p q (call n) rs e f =
-    let t = cond-some (ltb n sheets) (record { opened = p .opened; events = [] }) q e in
-    subst (λ (z : Place). Fits (z .events) rs) (sym (t .1)) f
+    let t = cond-some (ltb n sheets) _ q e in subst (λ (z : Place). Fits (z .events) rs) (sym (t .1)) f
 
--- a row that is judged well is moved over
-placed-moved : (p q : Place) (r : Row) → placed p r ≡ some q → moved p r ≡ some q
+-- What the judgement of a row says of it: it is one of the first 512, its place allows it, and it makes no circle.
+pub record Judged (i : ℕ) (p q : Place) (r : Row) : Type 0 where
+  pub few : i < rowsMost
+  pub allowed : moved p r ≡ some q
+  pub noCircle : circleAt r q ≡ false
+
+pub placed-moved : (p q : Place) (r : Row) → placed p r ≡ some q → moved p r ≡ some q
 unfolding placed
 placed-moved p q r e = go (isSheet r || not (eqb (length (p .opened)) 0)) e
   where
@@ -59,26 +60,31 @@ placed-moved p q r e = go (isSheet r || not (eqb (length (p .opened)) 0)) e
     go true h = h
     go false h = let z : _≡_ {A = ℕ} 0 1 = cc in absurd (omega arith)
 
-judged-moved : (c : Columns) (i : ℕ) (p : Place) (l : Line) (rp : Row × Place) → judged c i p l ≡ ok rp → moved p (rp .0) ≡ some (rp .1)
+pub judged-row : (c : Columns) (i : ℕ) (p : Place) (l : Line) (rp : Row × Place) → judged c i p l ≡ ok rp → Judged i p (rp .1) (rp .0)
 unfolding judged
-judged-moved c i p l rp e = form (cond (ltb i rowsMost) (rowOf c l) none) e
+judged-row c i p l rp e = form (ltb i rowsMost) refl (rowOf c l) e
   where
-    place : (r : Row) (o : Option Place) → placed p r ≡ o
-        → elim o [ none ↦ refusal placeRefusal (lineOf i) | some q ↦ ok (r, q) ] ≡ ok rp
-        → moved p (rp .0) ≡ some (rp .1)
-    place r none h e = not-refused e
-    place r (some q) h e =
-        let t : _≡_ {A = Row × Place} (r, q) rp = cc in
-        subst (λ (z : Row × Place). moved p (z .0) ≡ some (z .1)) t (placed-moved p q r h)
+    place : (r : Row) (o : Option Place) → placed p r ≡ o → i < rowsMost
+        → elim o [ none ↦ refusal placeRefusal (lineOf i) | some q ↦ cond (circleAt r q) (refusal circleRefusal (lineOf i)) (ok (r, q)) ] ≡ ok rp
+        → Judged i p (rp .1) (rp .0)
+    place r none h k e = not-refused e
+    place r (some q) h k e =
+        let u = cond-refused (circleAt r q) (ok (r, q)) _ _ rp e in
+        let t : _≡_ {A = Row × Place} (r, q) rp = cc (u .1) in
+        subst (λ (z : Row × Place). Judged i p (z .1) (z .0)) t (record { few = k; allowed = placed-moved p q r h; noCircle = u .0 })
 
-    form : (o : Option Row)
-        → elim o [
+    form : (b : Bool) → ltb i rowsMost ≡ b → (o : Option Row)
+        → elim (cond b o none) [
           | none ↦ refusal rowRefusal (lineOf i)
-          | some r ↦ elim (placed p r) [ none ↦ refusal placeRefusal (lineOf i) | some q ↦ ok (r, q) ]
+          | some r ↦ elim (placed p r) [
+            | none ↦ refusal placeRefusal (lineOf i)
+            | some q ↦ cond (circleAt r q) (refusal circleRefusal (lineOf i)) (ok (r, q))
+          ]
         ] ≡ ok rp
-        → moved p (rp .0) ≡ some (rp .1)
-    form none e = not-refused e
-    form (some r) e = place r (placed p r) refl e
+        → Judged i p (rp .1) (rp .0)
+    form false k o e = not-refused e
+    form true k none e = not-refused e
+    form true k (some r) e = place r (placed p r) refl (ltb-true i rowsMost k) e
 
 rows-fit : (c : Columns) (i : ℕ) (p : Place) (ls : List Line) (rs : List Row) → rowsFrom c i p ls ≡ ok rs → Fits (p .events) rs
 unfolding rowsFrom
@@ -89,7 +95,7 @@ rows-fit c i p (l ∷ ls) rs e =
     let t = passed (rowsFrom c (suc i) (rp .1) ls) (λ rs′. ok (rp .0 ∷ rs′)) rs (s .2) in
     let e′ : rp .0 ∷ t .0 ≡ rs = cc (t .2) in
     subst (λ (z : List Row). Fits (p .events) z) e′
-    (moved-fits p (rp .1) (rp .0) (t .0) (judged-moved c i p l rp (s .1)) (rows-fit c (suc i) (rp .1) ls (t .0) (t .1)))
+    (moved-fits p (rp .1) (rp .0) (t .0) (judged-row c i p l rp (s .1) .allowed) (rows-fit c (suc i) (rp .1) ls (t .0) (t .1)))
 
 -- a file that is complete is the rows read
 complete-same : (rs rs′ : List Row) → complete rs ≡ ok rs′ → rs ≡ rs′
@@ -100,24 +106,40 @@ complete-same rs rs′ e = go (strayCall (opens rs) 0 rs) (cond-ok (among 0 (ope
     go none h = cc
     go (some line) h = not-refused h
 
-body-fits : (ls : List Line) (rs : List Row) → bodyOf ls ≡ ok rs → Fits [] rs
+-- What a text that is read has: a heading, and behind it the rows, judged one by one and complete.
+pub record Parts (rs : List Row) : Type 0 where
+  pub columns : Columns
+  pub lines : List Line
+  pub read : rowsFrom columns 0 outside lines ≡ ok rs
+  pub whole : complete rs ≡ ok rs
+
+body-parts : (ls : List Line) (rs : List Row) → bodyOf ls ≡ ok rs → Parts rs
 unfolding bodyOf
-body-fits [] rs e = not-refused e
-body-fits (h ∷ ls) rs e = go (headingOf h) e
+body-parts [] rs e = not-refused e
+body-parts (h ∷ ls) rs e = go (headingOf h) e
   where
     go : (o : Option Columns)
         → elim o [ none ↦ refusal headingRefusal 1 | some c ↦ andThen (rowsFrom c 0 outside ls) complete ] ≡ ok rs
-        → Fits [] rs
+        → Parts rs
     go none e = not-refused e
     go (some c) e =
         let t = and-then-ok (rowsFrom c 0 outside ls) complete rs e in
-        subst (λ (z : List Row). Fits [] z) (complete-same (t .0) rs (t .2)) (rows-fit c 0 outside ls (t .0) (t .1))
+        let same = complete-same (t .0) rs (t .2) in
+        record {
+          columns = c;
+          lines = ls;
+          read = subst (λ (z : List Row). rowsFrom c 0 outside ls ≡ ok z) same (t .1);
+          whole = subst (λ (z : List Row). complete z ≡ ok rs) same (t .2);
+        }
+
+pub read-parts : (text : List ℕ) (rs : List Row) → readOf text ≡ ok rs → Parts rs
+unfolding readOf
+read-parts text rs e =
+    body-parts (linesOf text) rs (cond-ok (ltb 0 (length text) && leb (length text) textMost) (bodyOf (linesOf text)) _ _ rs e .1)
 
 -- the rows of a text that is read fit
 pub read-fits : (text : List ℕ) (rs : List Row) → readOf text ≡ ok rs → Fits [] rs
-unfolding readOf
-read-fits text rs e =
-    body-fits (linesOf text) rs (cond-ok (ltb 0 (length text) && leb (length text) textMost) (bodyOf (linesOf text)) _ _ rs e .1)
+read-fits text rs e = let p = read-parts text rs e in rows-fit (p .columns) 0 outside (p .lines) rs (p .read)
 
 -- and so do the rows behind each sheet's S row
 pub sheet-fits : (n : ℕ) (events : List ℕ) (rs : List Row) → Fits events rs → Fits [] (drop (startOf n rs) rs)

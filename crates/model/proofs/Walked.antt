@@ -16,7 +16,8 @@ use Rattle.model.specs.Refusal.{Out, ok, refusal, callsRefusal, messages
 use Rattle.model.specs.Rows.{Row, sheet, message, order, block, call}
 use Rattle.model.specs.Place.{withMessage, messageFits, orderFits, lineOf}
 use Rattle.model.specs.Expansion.{freshWalk, Progress, startOf, blockOpened, callMade, messageMet, orderMet, walkRows, callAt, expand}
-use Rattle.model.specs.Order.{Met, nothingMet, metOps, listed}
+use Rattle.model.specs.Closure.{listed}
+use Rattle.model.specs.Order.{Met, nothingMet, metOps}
 use Rattle.model.proofs.Bounded.{and-left, and-right, or-cases, which, not-both}
 use Rattle.model.proofs.Refusal.{not-refused, and-then-ok}
 use Rattle.model.proofs.Standing.{Fits, sheet-fits}

@@ -11,7 +11,7 @@ use Rattle.model.specs.Refusal.{Out, ok, refusal, andThen, channelRefusa
 use Rattle.model.specs.Rows.{Row}
 use Rattle.model.specs.Place.{readOf}
 use Rattle.model.specs.Expansion.{expand}
-use Rattle.model.specs.Order.{Exchange, Scenario, Met, nothingMet, metOps, exchangeOf, scenarioOf, hasCircle}
+use Rattle.model.specs.Order.{Exchange, Scenario, nothingMet, metOps, exchangeOf, scenarioOf, hasCircle}
 use Rattle.model.specs.Channel.{channelOf}
 use Rattle.model.specs.Run.{Step}
 use Rattle.model.specs.Race.{raceRuleOf, lowestRace}
@@ -29,7 +29,7 @@ expandedOf file = andThen (expand metOps file nothingMet) (λ s. withoutCircle (
 unfoldable pub sheetOf : List ℕ → Out Scenario
 sheetOf text = andThen (readOf text) expandedOf
 
--- the exchange that the walk of a text meets, or refusal 3 to 10
+-- the exchange that the walk of a text meets, or refusal 3 to 11
 unfoldable pub exchangeMet : List ℕ → Out Exchange
 exchangeMet text = andThen (readOf text) (λ file. andThen (expand metOps file nothingMet) (λ s. ok (exchangeOf s)))
 

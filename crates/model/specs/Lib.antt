@@ -1,5 +1,6 @@
 pub mod Limits
 pub mod Bounded
+pub mod Closure
 pub mod Refusal
 pub mod Text
 pub mod Rows

@@ -45,7 +45,7 @@ marked =
       text = "kind one two\nS 0 0\nM 0 2\nM 0 1\nM 1 2\nP 0 2\nP 3 4\nP 1 5\n";
       answers = onZero (locked 2 1 (send 0 ∷ send 1 ∷ deliver 1 ∷ consume 1 ∷ send 2 ∷ deliver 2 ∷ []));
     }
-    ∷ record { text = "kind one two\nS 0 0\nM 0 1\nM 1 0\nP 1 2\nP 3 0\n"; answers = everywhere (refused 11 0) }
+    ∷ record { text = "kind one two\nS 0 0\nM 0 1\nM 1 0\nP 1 2\nP 3 0\n"; answers = everywhere (refused 11 6) }
     ∷ []
 
 -- the answers that the definitions give, on the channels from the given code on, with the least buffers

@@ -1,12 +1,13 @@
 -- "Expansion": events, the exchange that a walk meets, and the causal order "before" (Mitchell, definition 2.3).
 -- Assumes nothing.
-use Prim.Native.Nat.{ℕ, zero, suc, _+_, _*_, _/_, _%_}
+use Prim.Native.Nat.{ℕ, suc, _+_, _*_, _/_, _%_}
 use mathlib.Core.Path.{_≡_}
-use mathlib.Core.Bool.{Bool, true, false, not, cond, _&&_, _||_}
+use mathlib.Core.Bool.{Bool, true, false, cond, _&&_, _||_}
 use mathlib.Core.List.{List, [], _∷_, _++_}
 use lib.Dec.{eqb, ltb}
 use lib.ListN.{getD}
 use Rattle.model.specs.Bounded.{any}
+use Rattle.model.specs.Closure.{listed, reads, linked}
 use Rattle.model.specs.Expansion.{Ops, Progress}
 
 -- message m has the send 2m and the receive 2m + 1
@@ -63,23 +64,6 @@ module _ (E : Exchange) where
     earlier : {x y : Event} → isEarlier x y ≡ true → Before x y
     link : {x y z : Event} → Before x y → Before y z → Before x z
 
--- f 0, f 1, .. , n of them
-unfoldable pub cells : {A : Type 0} → ℕ → (ℕ → A) → List A
-cells zero f = []
-cells (suc n) f = f zero ∷ cells n (λ k. f (suc k))
-
--- a relation on the numbers below n, as a table, and its test
-unfoldable pub tabled : ℕ → (ℕ → ℕ → Bool) → List (List Bool)
-tabled n r = cells n (λ x. cells n (λ y. r x y))
-
-unfoldable pub reads : List (List Bool) → ℕ → ℕ → Bool
-reads t x y = getD (getD t x []) y false
-
--- the pairs of numbers below n that r links over numbers below k (Warshall)
-unfoldable pub linked : ℕ → (ℕ → ℕ → Bool) → ℕ → List (List Bool)
-linked n r zero = tabled n r
-linked n r (suc k) = let t = linked n r k in tabled n (λ x y. reads t x y || reads t x k && reads t k y)
-
 -- the sources of "before"
 unfoldable pub direct : Exchange → Event → Event → Bool
 direct E x y = E .ordered x y || isOwn E x y || isEarlier E x y
@@ -130,11 +114,6 @@ metOps =
       withOrder = λ w x y m. record { events = m .events; blocks = m .blocks; orders = (2 * w .first + x, 2 * w .first + y) ∷ m .orders; open′ = m .open′ };
       withBlock = λ w m. record { events = m .events; blocks = m .blocks; orders = m .orders; open′ = suc (m .open′) };
     }
-
--- a P row is among those met
-unfoldable pub listed : ℕ → ℕ → List (ℕ × ℕ) → Bool
-listed x y [] = false
-listed x y (p ∷ ps) = (eqb x (p .0) && eqb y (p .1)) || listed x y ps
 
 unfoldable pub exchangeOf : Progress Met → Exchange
 exchangeOf s =

@@ -3,17 +3,20 @@ use Prim.Native.Nat.{ℕ, suc, _+_, _*_, _≤_, _<_}
 use Prim.Native.Char.{code}
 use native.Mathlib.Omega.{arith}
 use mathlib.Core.Path.{_≡_, refl, sym, _∙_, ap}
-use mathlib.Core.Bool.{Bool, true, false, cond, _&&_, or-true}
+use mathlib.Core.Bool.{Bool, true, false, cond, _&&_, _||_, or-true}
 use mathlib.Core.List.{List, [], _∷_, _++_, append-assoc}
+use mathlib.Core.Option.{Option, none, some}
 use borrow.Author.Tests.{lt-ltb, le-ltb, eq-eqb, ne-eqb, ltb-true}
 use lib.Dec.{eqb, ltb}
 use lib.ListN.{length, getD, take, set, length-set, List·getD-eq-default}
 use lib.Seq.{length-take-le, getD-take, take-suc-set}
 use Rattle.model.proofs.Bounded.{and-right}
+use Rattle.model.proofs.Standing.{cond-some}
+use Rattle.model.proofs.Walked.{order-parts}
 use Rattle.model.specs.Limits.{sheets, boards, messagesMost}
 use Rattle.model.specs.Rows.{Row, sheet, message, order, block, call}
 use Rattle.model.specs.Place.{withMessage, messageFits, orderFits, isSheet}
-use Rattle.place.specs.Stand.{isOpen, mayOpen, movedTo, stoodAt, standOf, placedFor, placedAs, FewMessages, BlockAs, PlaceAs}
+use Rattle.place.specs.Stand.{Stand, isOpen, mayOpen, movedTo, stoodAt, standOf, placedFor, placedAs, FewMessages, BlockAs, PlaceAs}
 use Rattle.place.specs.Letters.{rowFrom}
 use Rattle.place.proofs.Letters.{row-sheet, row-message, row-order, row-call, row-block}
 use Rattle.place.specs.declared.Placed.{Placed}
@@ -94,6 +97,33 @@ unfolding messageFits
 room bs m a b few long h =
     let l : length (take (2 * m) bs) < 2 * messagesMost = ltb-true (length (take (2 * m) bs)) (2 * messagesMost) (and-right (ltb a boards && ltb b boards) (ltb (length (take (2 * m) bs)) (2 * messagesMost)) h) in
     omega (arith, events bs m few long)
+
+-- an M row that has its place fits, and so does a P row
+module _ (i : ℕ) (s q : Stand) where
+  stood-moved : (r : Row) → stoodAt i s r ≡ some q → movedTo i s r ≡ some q
+  unfolding stoodAt
+  stood-moved r e = go (isSheet r || ltb 0 i) (movedTo i s r) e
+    where
+      go : (t : Bool) (o : Option Stand) → cond t o none ≡ some q → o ≡ some q
+      go true o h = h
+      go false o h = let z : _≡_ {A = ℕ} 0 1 = cc in absurd (omega arith)
+
+  stood-message : (a b : ℕ) → stoodAt i s (message a b) ≡ some q → messageFits (s .events) a b ≡ true
+  unfolding movedTo
+  stood-message a b e = cond-some (messageFits (s .events) a b) _ q (stood-moved (message a b) e) .0
+
+  stood-order : (x y : ℕ) → stoodAt i s (order x y) ≡ some q → orderFits (s .events) x y ≡ true
+  unfolding movedTo
+  stood-order x y e = cond-some (orderFits (s .events) x y) _ q (stood-moved (order x y) e) .0
+
+module _ (starts bs : List ℕ) (m i : ℕ) (q : Stand) (few : m ≤ messagesMost) (long : length bs ≡ 2 * messagesMost) where
+  pub message-room : (a b : ℕ) → stoodAt i (standOf starts bs m) (message a b) ≡ some q → m < messagesMost
+  message-room a b e = room bs m a b few long (stood-message i (standOf starts bs m) q a b e)
+
+  pub order-there : (x y : ℕ) → stoodAt i (standOf starts bs m) (order x y) ≡ some q → (x < 2 * m) × (y < 2 * m)
+  order-there x y e =
+      let o = order-parts (take (2 * m) bs) x y (stood-order i (standOf starts bs m) q x y e) in
+      (omega (arith, o .firstThere, events bs m few long), omega (arith, o .secondThere, events bs m few long))
 
 -- two bytes more
 take-two : (bs : List ℕ) (m a b : ℕ) → m < messagesMost → length bs ≡ 2 * messagesMost

@@ -1,30 +1,35 @@
 -- Each way through the judgement of a row is the twin's. Assumes nothing.
-use Prim.Native.Nat.{ℕ, _≤_, _<_}
+use Prim.Native.Nat.{ℕ, _*_, _/_, _≤_, _<_}
+use native.Mathlib.Omega.{arith}
 use mathlib.Core.Path.{_≡_, refl, sym, _∙_, ap, subst}
 use mathlib.Core.Bool.{Bool, true, false}
 use mathlib.Core.List.{List}
 use mathlib.Core.Option.{none, some}
 use borrow.Author.Tests.{lt-ltb, le-ltb}
 use lib.Dec.{ltb}
-use lib.ListN.{drop}
-use Rattle.model.specs.Limits.{rowsMost}
-use Rattle.model.specs.Refusal.{ok, refusal, rowRefusal, placeRefusal}
+use lib.ListN.{length, take, drop}
+use lib.Seq.{length-take-le}
+use Rattle.model.specs.Limits.{rowsMost, messagesMost}
+use Rattle.model.specs.Refusal.{ok, refusal, rowRefusal, placeRefusal, circleRefusal}
 use Rattle.model.specs.Text.{Line, Columns}
-use Rattle.model.specs.Rows.{Row, rowOf}
+use Rattle.model.specs.Rows.{Row, sheet, message, order, block, call, rowOf}
 use Rattle.model.specs.Place.{lineOf}
 use Rattle.line.specs.Scan.{firstLine}
 use Rattle.place.specs.Letters.{rowFrom}
 use Rattle.place.specs.Stand.{Stand, standOf, stoodAt, placedAs, PlaceAs}
 use Rattle.place.specs.declared.Placed.{Placed}
 use Rattle.place.specs.declared.Placed.the-variants.{Messages, Nowhere}
+use Rattle.place.proofs.Standing.{message-room, order-there}
+use Rattle.relation.specs.Width.{width}
+use Rattle.block_order.specs.Noted.{noted, circles, Within, NotedAs}
 use Rattle.row.specs.Form.{readingFrom, RowAs}
-use Rattle.row.specs.Judged.{judgedBy, StepAs}
+use Rattle.row.specs.Judged.{Reader, readerOf, readerBehind, judgedBy, StepAs}
 use Rattle.row.specs.declared.Reading.{Reading}
 use Rattle.row.specs.declared.Reading.the-variants as reading
 use Rattle.row.specs.declared.Step.the-variants as step
 
--- a row judged: too many, malformed, with no place, and with one
-module _ (c : Columns) (i : ℕ) (s : Stand) (l : Line) where
+-- a row judged: too many, malformed, with no place, with a circle, and with none
+module _ (c : Columns) (i : ℕ) (s : Reader) (l : Line) where
   judged-full : rowsMost ≤ i → judgedBy c i s l ≡ refusal rowRefusal (lineOf i)
   unfolding judgedBy
   judged-full h = rw (le-ltb i rowsMost h, judgedBy)
@@ -37,46 +42,88 @@ module _ (c : Columns) (i : ℕ) (s : Stand) (l : Line) where
       go true h = rw (h, e, judgedBy)
       go false h = rw (h, judgedBy)
 
-  judged-nowhere : (r : Row) → i < rowsMost → rowOf c l ≡ some r → stoodAt i s r ≡ none → judgedBy c i s l ≡ refusal placeRefusal (lineOf i)
-  unfolding judgedBy
-  judged-nowhere r h e f = rw (lt-ltb i rowsMost h, e, f, judgedBy)
+  module _ (r : Row) (h : i < rowsMost) (e : rowOf c l ≡ some r) where
+    judged-nowhere : stoodAt i (s .stand) r ≡ none → judgedBy c i s l ≡ refusal placeRefusal (lineOf i)
+    unfolding judgedBy
+    judged-nowhere f = rw (lt-ltb i rowsMost h, e, f, judgedBy)
 
-  judged-placed : (r : Row) (q : Stand) → i < rowsMost → rowOf c l ≡ some r → stoodAt i s r ≡ some q → judgedBy c i s l ≡ ok (r, q)
-  unfolding judgedBy
-  judged-placed r q h e f = rw (lt-ltb i rowsMost h, e, f, judgedBy)
+    judged-circle : (q : Stand) → stoodAt i (s .stand) r ≡ some q → circles (s .words) r ≡ true → judgedBy c i s l ≡ refusal circleRefusal (lineOf i)
+    unfolding judgedBy
+    judged-circle q f g = rw (lt-ltb i rowsMost h, e, f, judgedBy, g)
 
-pub step-full : (c : Columns) (text : List ℕ) (at row : ℕ) (s : Stand) (start boards : List ℕ) → rowsMost ≤ row
-    → StepAs c text at row s start boards (step.Refused rowRefusal)
-step-full c text at row s start boards h = record { step = sym (judged-full c row s (firstLine (drop at text)) h); on = tt }
+    judged-placed : (q : Stand) → stoodAt i (s .stand) r ≡ some q → circles (s .words) r ≡ false → judgedBy c i s l ≡ ok (r, readerBehind s r q)
+    unfolding judgedBy
+    judged-placed q f g = rw (lt-ltb i rowsMost h, e, f, judgedBy, g)
 
-module _ (c : Columns) (text : List ℕ) (at row : ℕ) (start boards : List ℕ) (messages : ℕ) where
-  abbrev stand : Stand
-  stand = standOf start boards messages
+pub step-full : (c : Columns) (text : List ℕ) (at row : ℕ) (s : Reader) (start boards words : List ℕ) → rowsMost ≤ row
+    → StepAs c text at row s start boards words (step.Refused rowRefusal)
+step-full c text at row s start boards words h = record { step = sym (judged-full c row s (firstLine (drop at text)) h); on = tt }
+
+module _ (c : Columns) (text : List ℕ) (at row : ℕ) (start boards : List ℕ) (messages : ℕ) (words : List ℕ) where
+  abbrev reader : Reader
+  reader = readerOf start boards messages words
 
   abbrev line : Line
   line = firstLine (drop at text)
 
-  pub step-malformed : (r : Reading) → RowAs c text at r → r ≡ reading.Malformed → StepAs c text at row stand start boards (step.Refused rowRefusal)
-  step-malformed r p e = record { step = sym (judged-malformed c row stand line (sym (p .row) ∙ ap readingFrom e)); on = tt }
+  pub step-malformed : (r : Reading) → RowAs c text at r → r ≡ reading.Malformed → StepAs c text at row reader start boards words (step.Refused rowRefusal)
+  step-malformed r p e = record { step = sym (judged-malformed c row reader line (sym (p .row) ∙ ap readingFrom e)); on = tt }
 
   module _ (r : Reading) (k a b next : ℕ) (p : RowAs c text at r) (e : r ≡ reading.Row k a b next) (h : row < rowsMost)
-      (q : Placed) (start′ boards′ : List ℕ) (f : PlaceAs row stand (rowFrom k a b) start′ boards′ q) where
+      (q : Placed) (start′ boards′ : List ℕ) (f : PlaceAs row (reader .stand) (rowFrom k a b) start′ boards′ q) where
     row-is : rowOf c line ≡ some (rowFrom k a b)
     row-is = sym (p .row) ∙ ap readingFrom e
 
-    pub step-nowhere : q ≡ Nowhere → StepAs c text at row stand start′ boards′ (step.Refused placeRefusal)
+    pub step-nowhere : q ≡ Nowhere → StepAs c text at row reader start′ boards′ words (step.Refused placeRefusal)
     step-nowhere g =
         record {
-          step = sym (judged-nowhere c row stand line (rowFrom k a b) h row-is (sym (f .stand) ∙ ap (λ (x : Placed). placedAs x start′ boards′) g));
+          step = sym (judged-nowhere c row reader line (rowFrom k a b) h row-is (sym (f .stand) ∙ ap (λ (x : Placed). placedAs x start′ boards′) g));
           on = tt;
         }
 
-    pub step-row : (after : ℕ) → q ≡ Messages after → StepAs c text at row stand start′ boards′ (step.Row k a b next after)
-    step-row after g =
-        let p′ : RowAs c text at (reading.Row k a b next) = subst (λ (x : Reading). RowAs c text at x) e p in
-        let f′ : PlaceAs row stand (rowFrom k a b) start′ boards′ (Messages after) =
-        subst (λ (x : Placed). PlaceAs row stand (rowFrom k a b) start′ boards′ x) g f in
-        record {
-          step = sym (judged-placed c row stand line (rowFrom k a b) (standOf start′ boards′ after) h row-is (sym (f′ .stand)));
-          on = record { onward = p′ .next; room = h; few = f′ .few; allStarts = f′ .allStarts; allBoards = f′ .allBoards };
-        }
+    module _ (after : ℕ) (g : q ≡ Messages after) (few : messages ≤ messagesMost) (long : length boards ≡ 2 * messagesMost) where
+      placed : PlaceAs row (reader .stand) (rowFrom k a b) start′ boards′ (Messages after)
+      placed = subst (λ (x : Placed). PlaceAs row (reader .stand) (rowFrom k a b) start′ boards′ x) g f
+
+      -- what the row brings is within the block
+      pub row-within : Within messages (rowFrom k a b)
+      row-within = go (rowFrom k a b) (sym (placed .stand))
+        where
+          go : (x : Row) → stoodAt row (standOf start boards messages) x ≡ some (standOf start′ boards′ after) → Within messages x
+          go (sheet n) i = tt
+          go (message x y) i = message-room start boards messages row _ few long x y i
+          go (order x y) i = order-there start boards messages row _ few long x y i
+          go block i = tt
+          go (call n) i = tt
+
+      module _ (words′ : List ℕ) (t : Bool) (n : NotedAs words messages (rowFrom k a b) words′ t) where
+        pub step-circle : t ≡ true → StepAs c text at row reader start′ boards′ words′ (step.Refused circleRefusal)
+        step-circle o =
+            record {
+              step = sym (judged-circle c row reader line (rowFrom k a b) h row-is (standOf start′ boards′ after) (sym (placed .stand)) (sym (n .found) ∙ o));
+              on = tt;
+            }
+
+        -- the words behind the row, by the number of the block's events
+        words-behind : t ≡ false → words′ ≡ noted words (length (take (2 * messages) boards) / 2) (rowFrom k a b)
+        words-behind o =
+            let events : length (take (2 * messages) boards) ≡ 2 * messages = length-take-le (2 * messages) boards (omega arith) in
+            let half : length (take (2 * messages) boards) / 2 ≡ messages = omega arith in
+            n .left ∙ rw (o, half)
+
+        pub step-row : length words ≡ 2 * messagesMost * width → t ≡ false
+            → StepAs c text at row reader start′ boards′ words′ (step.Row k a b next after)
+        step-row l o =
+            let p′ : RowAs c text at (reading.Row k a b next) = subst (λ (x : Reading). RowAs c text at x) e p in
+            record {
+              step = rw (words-behind o)
+                  (sym (judged-placed c row reader line (rowFrom k a b) h row-is (standOf start′ boards′ after) (sym (placed .stand)) (sym (n .found) ∙ o)));
+              on = record {
+                onward = p′ .next;
+                room = h;
+                few = placed .few;
+                allStarts = placed .allStarts;
+                allBoards = placed .allBoards;
+                allWords = n .long ∙ l;
+              };
+            }

@@ -1,4 +1,4 @@
-// A row: its form (refusal 5), a letter and two numbers in the heading's order, ahead of its place (refusal 6).
+// A row: its form (refusal 5), a letter and two numbers in the heading's order, ahead of its place (6), and that ahead of a circle (11).
 use fields::Number;
 use heading::Columns;
 use line::Split;
@@ -12,11 +12,11 @@ ghost use Prim.Native.Nat.{_*_, _≤_};
 ghost use lib.ListN.{length};
 ghost use Rattle.model.specs.Limits.{sheets, messagesMost};
 ghost use Rattle.model.specs.Rows.{formed};
+ghost use Rattle.relation.specs.Width.{width};
 ghost use Rattle.heading.specs.Names.{Below, columnsFrom};
 ghost use Rattle.place.specs.Letters.{rowFrom};
-ghost use Rattle.place.specs.Stand.{standOf};
 ghost use Rattle.row.specs.Form.{RowAs};
-ghost use Rattle.row.specs.Judged.{StepAs};
+ghost use Rattle.row.specs.Judged.{readerOf, StepAs};
 
 // A row's kind and numbers, and where the next one begins.
 enum Reading {
@@ -30,7 +30,7 @@ pub enum Step {
     Refused(u8),
 }
 
-// The row with the number `row`, from 0, which begins at `at`, in a block of so many messages.
+// The row with the number `row`, from 0, which begins at `at`, in a block of so many messages, whose order the words hold.
 pub fn take_row(
     text: &[u8],
     at: usize,
@@ -39,9 +39,10 @@ pub fn take_row(
     columns: Columns,
     start: &mut [u16; SHEETS],
     boards: &mut [u8; EVENTS_MOST],
+    words: &mut [u64],
 ) -> Step
-    requires { ⌜ (at ≤ length (now text)) × Below columns × (messages ≤ messagesMost) × (length (now start) ≡ sheets) × (length (now boards) ≡ 2 * messagesMost) ⌝ }
-    ensures { λ r. ⌜ StepAs (columnsFrom columns) (now (text .entry)) at row (standOf (now (start .entry)) (now (boards .entry)) messages) (now (start .exit)) (now (boards .exit)) r ⌝ }
+    requires { ⌜ (at ≤ length (now text)) × Below columns × (messages ≤ messagesMost) × (length (now start) ≡ sheets) × (length (now boards) ≡ 2 * messagesMost) × (length (now words) ≡ 2 * messagesMost * width) ⌝ }
+    ensures { λ r. ⌜ StepAs (columnsFrom columns) (now (text .entry)) at row (readerOf (now (start .entry)) (now (boards .entry)) messages (now (words .entry))) (now (start .exit)) (now (boards .exit)) (now (words .exit)) r ⌝ }
 {
     if model::ROWS_MOST <= row {
         return Step::Refused(model::ROW);
@@ -52,6 +53,9 @@ pub fn take_row(
     let Placed::Messages(after) = place::place(row, kind, one, two, messages, start, boards) else {
         return Step::Refused(model::PLACE);
     };
+    if block_order::note(kind, one, two, messages, words) {
+        return Step::Refused(model::CIRCLE);
+    }
     Step::Row(kind, one, two, next, after)
 }
 

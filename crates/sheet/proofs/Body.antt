@@ -1,76 +1,40 @@
 -- The rows behind the heading, complete: sheet 0 is there, and so is every sheet that is called. Assumes nothing.
-use Prim.Native.Nat.{ℕ, zero, suc, _+_, _-_, _≤_, _<_}
+use Prim.Native.Nat.{ℕ, zero, suc, _*_, _≤_}
 use Prim.Native.Char.{code}
-use native.Mathlib.Nat.{sub-zero}
-use native.Mathlib.Numerals.{add-one}
 use native.Mathlib.Omega.{arith}
 use mathlib.Core.Path.{_≡_, refl, sym, _∙_, ap, subst}
 use mathlib.Core.Bool.{Bool, true, false, not, cond}
 use mathlib.Core.List.{List, _∷_}
 use mathlib.Core.Option.{Option, none, some}
-use borrow.Author.Tests.{ne-eqb, eqb-true, not-true, not-false}
+use borrow.Author.Tests.{eqb-true}
 use lib.Dec.{eqb}
-use lib.ListN.{getD, drop}
-use Rattle.model.specs.Limits.{rowsMost}
+use lib.ListN.{length, getD, drop}
+use Rattle.model.specs.Limits.{rowsMost, messagesMost}
 use Rattle.model.specs.Bounded.{among}
 use Rattle.model.specs.Refusal.{Out, ok, refusal, andThen, absentRefusal}
 use Rattle.model.specs.Text.{Line, Columns, linesOf}
 use Rattle.model.specs.Rows.{Row}
 use Rattle.model.specs.Place.{outside, lineOf, rowsFrom, opens, strayCall, complete}
+use Rattle.relation.specs.Width.{width}
 use Rattle.place.specs.Stand.{isOpen}
+use Rattle.presence.specs.Stray.{isStray, strayIn, absentAt, presenceIn}
+use Rattle.presence.specs.declared.Presence.{Presence}
+use Rattle.presence.specs.declared.Presence.the-variants.{Complete, Absent}
 use Rattle.sheet.specs.Bridge.{rowFrom, rowsAt, rowsOf, outcomeOf, startsOf, storeOf, Sized, KeptOn}
 use Rattle.sheet.specs.Reading.{readFrom, fresh}
-use Rattle.sheet.specs.Store.{isStray, strayIn, verdictOn, completeIn, BodyAs}
+use Rattle.sheet.specs.Store.{verdictOn, BodyAs}
 use Rattle.sheet.specs.declared.Verdict.{Verdict}
 use Rattle.sheet.specs.declared.Verdict.the-variants.{Rows, Refused}
 use Rattle.sheet.proofs.Simulation.{rows-refused, rows-read, starts-same, open-same}
 
--- calls of sheets that are not there
-pub stray-call : (k n : ℕ) (starts : List ℕ) (r : Bool) → r ≡ isOpen starts n → k ≡ code "C" → not r ≡ isStray k n starts
-unfolding isStray
-stray-call k n starts r p e = rw (e, p)
+-- the verdict, by the sheets that are there
+pub verdict-absent : (f : Presence) (line count : ℕ) → f ≡ Absent line → Refused absentRefusal line ≡ verdictOn f count
+unfolding verdictOn
+verdict-absent f line count e = rw e
 
-pub stray-other : (k n : ℕ) (starts : List ℕ) → (k ≡ code "C" → ⊥) → false ≡ isStray k n starts
-unfolding isStray
-stray-other k n starts e = rw (ne-eqb k (code "C") e)
-
-pub record Searching (kind one starts : List ℕ) (count i : ℕ) : Type 0 where
-  pub below : i ≤ count
-  pub zero : isOpen starts 0 ≡ true
-  pub same : strayIn kind one starts 0 count ≡ strayIn kind one starts i (count - i)
-
-pub search-zero : (kind one starts : List ℕ) (count : ℕ) (r : Bool) → r ≡ isOpen starts 0 → not r ≡ true → Refused absentRefusal 0 ≡ completeIn kind one starts count
-unfolding completeIn
-search-zero kind one starts count r e h = rw (← e, not-true r h)
-
-pub search-begin : (kind one starts : List ℕ) (count : ℕ) (r : Bool) → r ≡ isOpen starts 0 → not r ≡ false → Searching kind one starts count 0
-search-begin kind one starts count r e h = record { below = omega arith; zero = sym e ∙ not-false r h; same = rw (sub-zero count) }
-
-search-at : (kind one starts : List ℕ) (count i : ℕ) → Searching kind one starts count i → i < count
-    → strayIn kind one starts 0 count ≡ cond (isStray (getD kind i 0) (getD one i 0) starts) (some (lineOf i)) (strayIn kind one starts (i + 1) (count - (i + 1)))
-unfolding strayIn
-search-at kind one starts count i v h =
-    let e : count - i ≡ suc (count - (i + 1)) = omega arith in
-    v .same ∙ rw (e, add-one i)
-
-pub search-more : (kind one starts : List ℕ) (count i : ℕ) (r : Bool) → Searching kind one starts count i → i < count
-    → r ≡ isStray (getD kind i 0) (getD one i 0) starts → r ≡ false → Searching kind one starts count (i + 1)
-search-more kind one starts count i r v h e f =
-    record { below = omega arith; zero = v .zero; same = search-at kind one starts count i v h ∙ rw (← e, f) }
-
-pub search-found : (kind one starts : List ℕ) (count i : ℕ) (r : Bool) → Searching kind one starts count i → i < count
-    → r ≡ isStray (getD kind i 0) (getD one i 0) starts → r ≡ true → Refused absentRefusal (i + 2) ≡ completeIn kind one starts count
-unfolding completeIn verdictOn
-search-found kind one starts count i r v h e f =
-    let s : strayIn kind one starts 0 count ≡ some (lineOf i) = search-at kind one starts count i v h ∙ rw (← e, f) in
-    rw (v .zero, s)
-
-pub search-none : (kind one starts : List ℕ) (count i : ℕ) → Searching kind one starts count i → count ≤ i → Rows count ≡ completeIn kind one starts count
-unfolding completeIn verdictOn strayIn
-search-none kind one starts count i v h =
-    let e : count - i ≡ 0 = omega arith in
-    let s : strayIn kind one starts 0 count ≡ none = v .same ∙ rw e in
-    rw (v .zero, s)
+pub verdict-complete : (f : Presence) (count : ℕ) → f ≡ Complete → Rows count ≡ verdictOn f count
+unfolding verdictOn
+verdict-complete f count e = rw e
 
 -- Calls by the columns, and by the rows: a sheet has a start exactly when it is present.
 module _ (starts present : List ℕ) (agree : (n : ℕ) → isOpen starts n ≡ among n present) where
@@ -99,25 +63,25 @@ module _ (starts present : List ℕ) (agree : (n : ℕ) → isOpen starts n ≡ 
 
 -- the verdict on the columns is that on their rows
 complete-in : (kind one two starts : List ℕ) (count : ℕ) → ((n : ℕ) → isOpen starts n ≡ among n (opens (rowsOf kind one two count)))
-    → outcomeOf (completeIn kind one starts count) kind one two ≡ complete (rowsOf kind one two count)
-unfolding completeIn complete verdictOn
+    → outcomeOf (verdictOn (presenceIn kind one starts count) count) kind one two ≡ complete (rowsOf kind one two count)
+unfolding presenceIn absentAt complete verdictOn
 complete-in kind one two starts count agree =
     rw (stray-in starts (opens (rowsOf kind one two count)) agree kind one two count 0, agree 0)
     (go (among 0 (opens (rowsOf kind one two count))) (strayCall (opens (rowsOf kind one two count)) 0 (rowsOf kind one two count)))
   where
     go : (t : Bool) (o : Option ℕ)
-        → outcomeOf (cond t (verdictOn o count) (Refused absentRefusal 0)) kind one two
+        → outcomeOf (verdictOn (cond t (absentAt o) (Absent 0)) count) kind one two
         ≡ cond t (elim o [ none ↦ ok (rowsOf kind one two count) | some line ↦ refusal absentRefusal line ]) (refusal absentRefusal 0)
     go true none = refl
     go true (some line) = refl
     go false o = refl
 
 complete-kept : (kind one two start : List ℕ) (count : ℕ) → (count ≤ rowsMost) × Sized (storeOf kind one two start)
-    → KeptOn (storeOf kind one two start) (completeIn kind one start count)
-unfolding completeIn verdictOn
+    → KeptOn (storeOf kind one two start) (verdictOn (presenceIn kind one start count) count)
+unfolding presenceIn absentAt verdictOn
 complete-kept kind one two start count h = go (isOpen start 0) (strayIn kind one start 0 count)
   where
-    go : (t : Bool) (o : Option ℕ) → KeptOn (storeOf kind one two start) (cond t (verdictOn o count) (Refused absentRefusal 0))
+    go : (t : Bool) (o : Option ℕ) → KeptOn (storeOf kind one two start) (verdictOn (cond t (absentAt o) (Absent 0)) count)
     go true none = h
     go true (some line) = tt
     go false o = tt
@@ -137,23 +101,23 @@ pub no-rows : {C : Type 0} (o : Out (List Row)) (number line : ℕ) (rs : List R
 no-rows o number line rs e f = let z : _≡_ {A = ℕ} 0 1 = cc in absurd (omega arith)
 
 -- the rows refused, and the rows read and judged as a whole
-module _ (c : Columns) (text : List ℕ) (first : ℕ) (kind one two start : List ℕ) where
+module _ (c : Columns) (text : List ℕ) (first : ℕ) (kind one two start words : List ℕ) (long : length words ≡ 2 * messagesMost * width) where
   abbrev lines : List Line
   lines = linesOf (drop first text)
 
-  pub body-refused : (number line : ℕ) → readFrom c 0 fresh lines ≡ refusal number line → BodyAs c text first (storeOf kind one two start) (Refused number line)
+  pub body-refused : (number line : ℕ) → readFrom c 0 (fresh words) lines ≡ refusal number line → BodyAs c text first (storeOf kind one two start) (Refused number line)
   unfolding andThen
   body-refused number line e =
-      let o : andThen (rowsFrom c 0 outside lines) complete ≡ refusal number line = rw (rows-refused c lines number line e) in
+      let o : andThen (rowsFrom c 0 outside lines) complete ≡ refusal number line = rw (rows-refused c lines words long number line e) in
       record { outcome = sym o; starts = λ rs h. no-rows _ number line rs o h; kept = tt }
 
-  pub body-complete : (count : ℕ) (r : Verdict) → readFrom c 0 fresh lines ≡ ok (record { rows = rowsOf kind one two count; starts = start })
-      → count ≤ rowsMost → Sized (storeOf kind one two start) → r ≡ completeIn kind one start count → BodyAs c text first (storeOf kind one two start) r
+  pub body-complete : (count : ℕ) (r : Verdict) → readFrom c 0 (fresh words) lines ≡ ok (record { rows = rowsOf kind one two count; starts = start })
+      → count ≤ rowsMost → Sized (storeOf kind one two start) → r ≡ verdictOn (presenceIn kind one start count) count → BodyAs c text first (storeOf kind one two start) r
   unfolding andThen
   body-complete count r e few sized h =
-      let o : andThen (rowsFrom c 0 outside lines) complete ≡ complete (rowsOf kind one two count) = rw (rows-read c lines _ e) in
+      let o : andThen (rowsFrom c 0 outside lines) complete ≡ complete (rowsOf kind one two count) = rw (rows-read c lines words long _ e) in
       record {
-        outcome = ap (λ (x : Verdict). outcomeOf x kind one two) h ∙ complete-in kind one two start count (open-same c lines _ e) ∙ sym o;
-        starts = λ rs g. starts-same c lines _ e ∙ ap startsOf (complete-rows (rowsOf kind one two count) rs (sym o ∙ g));
+        outcome = ap (λ (x : Verdict). outcomeOf x kind one two) h ∙ complete-in kind one two start count (open-same c lines words long _ e) ∙ sym o;
+        starts = λ rs g. starts-same c lines words long _ e ∙ ap startsOf (complete-rows (rowsOf kind one two count) rs (sym o ∙ g));
         kept = subst (λ (x : Verdict). KeptOn (storeOf kind one two start) x) (sym h) (complete-kept kind one two start count (few, sized));
       }

@@ -1,5 +1,5 @@
 -- The twin's reading, with its table of starts, is the model's, with its list of opened sheets. Assumes nothing.
-use Prim.Native.Nat.{ℕ, suc, _+_, _<_}
+use Prim.Native.Nat.{ℕ, suc, _+_, _*_, _/_, _<_}
 use native.Mathlib.Nat.{zero-add}
 use native.Mathlib.Omega.{arith}
 use mathlib.Core.Path.{_≡_, refl, sym, _∙_, ap, subst}
@@ -10,19 +10,25 @@ use borrow.Author.Tests.{lt-ltb, le-ltb, eq-eqb, ne-eqb, ltb-true, eqb-true, eqb
 use lib.Dec.{eqb, ltb}
 use lib.ListN.{length, getD, set, replicate, length-set, length-replicate}
 use lib.Seq.{getD-set-same, getD-set-other, ext-getD}
-use Rattle.model.specs.Limits.{sheets, rowsMost}
+use Rattle.model.specs.Limits.{sheets, rowsMost, messagesMost}
 use Rattle.model.specs.Bounded.{among}
-use Rattle.model.specs.Refusal.{Out, ok, refusal, rowRefusal, placeRefusal}
+use Rattle.model.specs.Refusal.{Out, ok, refusal, rowRefusal, placeRefusal, circleRefusal}
 use Rattle.model.specs.Text.{Line, Columns}
 use Rattle.model.specs.Rows.{Row, sheet, message, order, block, call, rowOf}
-use Rattle.model.specs.Place.{Place, outside, messageFits, orderFits, moved, isSheet, placed, lineOf, judged, rowsFrom, opens}
+use Rattle.model.specs.Place.{Place, blockNext, outside, withMessage, messageFits, orderFits, moved, isSheet, placed, circleAt, lineOf, judged, rowsFrom, opens}
 use Rattle.model.specs.Expansion.{startOf}
 use Rattle.model.proofs.Bounded.{and-left, and-right, not-both}
 use Rattle.model.proofs.Lists.{replicate-at}
 use Rattle.model.proofs.Closure.{cells-length}
+use Rattle.model.proofs.Standing.{placed-moved}
+use Rattle.model.proofs.Clean.{Ordered, ordered-empty, judged-ordered}
 use Rattle.sheet.specs.Bridge.{startIn, startsOf}
 use Rattle.sheet.proofs.Bridge.{start-at}
-use Rattle.row.specs.Judged.{judgedBy}
+use Rattle.row.specs.Judged.{Reader, readerBehind, judgedBy}
+use Rattle.relation.specs.Width.{width}
+use Rattle.block_order.specs.Noted.{noted, circles}
+use Rattle.block_order.proofs.Held.{held-empty}
+use Rattle.block_order.proofs.Rows.{HeldAt, circle-same, held-behind}
 use Rattle.place.specs.Stand.{Stand, isOpen, mayOpen, movedTo, stoodAt}
 use Rattle.sheet.specs.Reading.{Kept, aheadOf, readFrom, fresh}
 
@@ -47,47 +53,50 @@ agree-set starts opened n i h l m = go (eqb m n) refl
     go false e = open-other starts n i m (eqb-false m n e) ∙ h m
 
 -- the place behind a row in the model, and where the twin stands: both are there, and agree, or neither is
+record Alike (p : Place) (s : Stand) : Type 0 where
+  pub agree : Agree (s .starts) (p .opened)
+  pub long : length (s .starts) ≡ sheets
+  pub events : s .events ≡ p .events
+
 data Moves : Option Place → Option Stand → Type 0 where
   neither : Moves none none
-  both : (opened starts events : List ℕ) → Agree starts opened → length starts ≡ sheets → (length opened ≡ 0 → ⊥)
-      → Moves (some (record { opened = opened; events = events })) (some (record { starts = starts; events = events }))
+  both : (p : Place) (s : Stand) → Alike p s → (length (p .opened) ≡ 0 → ⊥) → Moves (some p) (some s)
 
-module _ (opened starts events : List ℕ) (i : ℕ) (agree : Agree starts opened) (long : length starts ≡ sheets) where
-  move-sheet : (n : ℕ) → Moves (moved (record { opened = opened; events = events }) (sheet n)) (movedTo i (record { starts = starts; events = events }) (sheet n))
+module _ (opened starts events : List ℕ) (orders : List (ℕ × ℕ)) (i : ℕ) (agree : Agree starts opened) (long : length starts ≡ sheets) where
+  abbrev here : Place
+  here = record { opened = opened; events = events; orders = orders }
+
+  abbrev stand : Stand
+  stand = record { starts = starts; events = events }
+
+  move-sheet : (n : ℕ) → Moves (moved here (sheet n)) (movedTo i stand (sheet n))
   unfolding moved movedTo mayOpen
   move-sheet n = rw (← agree n) (go (ltb n sheets && not (isOpen starts n)) refl)
     where
       go : (t : Bool) → (ltb n sheets && not (isOpen starts n)) ≡ t
-          → Moves (cond t (some (record { opened = n ∷ opened; events = [] })) none) (cond t (some (record { starts = set starts n (i + 1); events = [] })) none)
+          → Moves (cond t (some (blockNext (n ∷ opened))) none) (cond t (some (record { starts = set starts n (i + 1); events = [] })) none)
       go true e =
           let l : n < length starts = rw long (ltb-true n sheets (and-left (ltb n sheets) (not (isOpen starts n)) e)) in
-          both (n ∷ opened) (set starts n (i + 1)) [] (agree-set starts opened n i agree l) (length-set starts n (i + 1) ∙ long) (λ z. omega arith)
+          both _ _ (record { agree = agree-set starts opened n i agree l; long = length-set starts n (i + 1) ∙ long; events = refl }) (λ z. omega arith)
       go false e = neither
 
   module _ (some-open : (length opened ≡ 0 → ⊥)) where
-    move : (r : Row) → Moves (moved (record { opened = opened; events = events }) r) (movedTo i (record { starts = starts; events = events }) r)
+    -- a row that is no S row, allowed or not: the sheets opened stay
+    moves : (t : Bool) (now : List ℕ) (more : List (ℕ × ℕ))
+        → Moves (cond t (some (record { opened = opened; events = now; orders = more })) none) (cond t (some (record { starts = starts; events = now })) none)
+    moves true now more = both _ _ (record { agree = agree; long = long; events = refl }) some-open
+    moves false now more = neither
+
+    move : (r : Row) → Moves (moved here r) (movedTo i stand r)
     unfolding moved movedTo
     move (sheet n) = move-sheet n
-    move (message a b) = go (messageFits events a b)
-      where
-        go : (t : Bool) → Moves (cond t (some (record { opened = opened; events = events ++ (a ∷ b ∷ []) })) none) (cond t (some (record { starts = starts; events = events ++ (a ∷ b ∷ []) })) none)
-        go true = both opened starts (events ++ (a ∷ b ∷ [])) agree long some-open
-        go false = neither
-    move (order x y) = go (orderFits events x y)
-      where
-        go : (t : Bool) → Moves (cond t (some (record { opened = opened; events = events })) none) (cond t (some (record { starts = starts; events = events })) none)
-        go true = both opened starts events agree long some-open
-        go false = neither
-    move block = both opened starts [] agree long some-open
-    move (call n) = go (ltb n sheets)
-      where
-        go : (t : Bool) → Moves (cond t (some (record { opened = opened; events = [] })) none) (cond t (some (record { starts = starts; events = [] })) none)
-        go true = both opened starts [] agree long some-open
-        go false = neither
+    move (message a b) = moves (messageFits events a b) (withMessage events a b) orders
+    move (order x y) = moves (orderFits events x y) events ((x, y) ∷ orders)
+    move block = moves true [] []
+    move (call n) = moves (ltb n sheets) [] []
 
   -- a sheet is open exactly behind the first row
-  place-first : (r : Row) → eqb (length opened) 0 ≡ true → ltb 0 i ≡ false
-      → Moves (placed (record { opened = opened; events = events }) r) (stoodAt i (record { starts = starts; events = events }) r)
+  place-first : (r : Row) → eqb (length opened) 0 ≡ true → ltb 0 i ≡ false → Moves (placed here r) (stoodAt i stand r)
   unfolding placed stoodAt isSheet
   place-first (sheet n) e f = move-sheet n
   place-first (message a b) e f = rw (e, f) neither
@@ -95,18 +104,27 @@ module _ (opened starts events : List ℕ) (i : ℕ) (agree : Agree starts opene
   place-first block e f = rw (e, f) neither
   place-first (call n) e f = rw (e, f) neither
 
-  place-later : (r : Row) → eqb (length opened) 0 ≡ false → ltb 0 i ≡ true
-      → Moves (placed (record { opened = opened; events = events }) r) (stoodAt i (record { starts = starts; events = events }) r)
+  place-later : (r : Row) → eqb (length opened) 0 ≡ false → ltb 0 i ≡ true → Moves (placed here r) (stoodAt i stand r)
   unfolding placed stoodAt
   place-later r e f = rw (e, f, or-true (isSheet r)) (move (eqb-false (length opened) 0 e) r)
 
-  place : (r : Row) → eqb (length opened) 0 ≡ eqb i 0
-      → Moves (placed (record { opened = opened; events = events }) r) (stoodAt i (record { starts = starts; events = events }) r)
+  place : (r : Row) → eqb (length opened) 0 ≡ eqb i 0 → Moves (placed here r) (stoodAt i stand r)
   place r h = go (eqb i 0) refl
     where
-      go : (t : Bool) → eqb i 0 ≡ t → Moves (placed (record { opened = opened; events = events }) r) (stoodAt i (record { starts = starts; events = events }) r)
+      go : (t : Bool) → eqb i 0 ≡ t → Moves (placed here r) (stoodAt i stand r)
       go true e = place-first r (h ∙ e) (le-ltb 0 i (let k : i ≡ 0 = eqb-true i 0 e in omega arith))
       go false e = place-later r (h ∙ e) (lt-ltb 0 i (let k : (i ≡ 0 → ⊥) = eqb-false i 0 e in omega arith))
+
+-- What the reader holds beside the model's place: the same sheets and events, and the open block's order in its words.
+record Same (p : Place) (s : Reader) : Type 0 where
+  pub alike : Alike p (s .stand)
+  pub ordered : Ordered (length (p .events)) (p .orders)
+  pub held : HeldAt p (s .words)
+
+place-same : (p : Place) (s : Stand) (i : ℕ) (r : Row) → Alike p s → eqb (length (p .opened)) 0 ≡ eqb i 0 → Moves (placed p r) (stoodAt i s r)
+place-same p s i r h z =
+    subst (λ (l : List ℕ). Moves (placed p r) (stoodAt i (record { starts = s .starts; events = l }) r)) (sym (h .events))
+    (place (p .opened) (s .starts) (p .events) (p .orders) i (h .agree) (h .long) r z)
 
 -- the rows of what the twin keeps
 rowsKept : Out Kept → Out (List Row)
@@ -114,29 +132,57 @@ rowsKept (ok k) = ok (k .rows)
 rowsKept (refusal number line) = refusal number line
 
 -- a row judged by both: refused alike, or placed alike
-data Judges : Out (Row × Place) → Out (Row × Stand) → Type 0 where
+data Judges : Out (Row × Place) → Out (Row × Reader) → Type 0 where
   refused : (number line : ℕ) → Judges (refusal number line) (refusal number line)
-  stands : (r : Row) (opened starts events : List ℕ) → Agree starts opened → length starts ≡ sheets → (length opened ≡ 0 → ⊥)
-      → Judges (ok (r, record { opened = opened; events = events })) (ok (r, record { starts = starts; events = events }))
+  stands : (r : Row) (p : Place) (s : Reader) → Same p s → (length (p .opened) ≡ 0 → ⊥) → Judges (ok (r, p)) (ok (r, s))
 
 module _ (c : Columns) where
-  judge : (i : ℕ) (line : Line) (opened starts events : List ℕ) → Agree starts opened → length starts ≡ sheets → eqb (length opened) 0 ≡ eqb i 0
-      → Judges (judged c i (record { opened = opened; events = events }) line) (judgedBy c i (record { starts = starts; events = events }) line)
+  judge : (i : ℕ) (line : Line) (p : Place) (s : Reader) → Same p s → eqb (length (p .opened)) 0 ≡ eqb i 0
+      → Judges (judged c i p line) (judgedBy c i s line)
   unfolding judged judgedBy
-  judge i line opened starts events h l z = form (cond (ltb i rowsMost) (rowOf c line) none)
+  judge i line p s h z = form (cond (ltb i rowsMost) (rowOf c line) none)
     where
-      stood : (r : Row) (p : Option Place) (q : Option Stand) → Moves p q
-          → Judges (elim p [ none ↦ refusal placeRefusal (lineOf i) | some x ↦ ok (r, x) ]) (elim q [ none ↦ refusal placeRefusal (lineOf i) | some x ↦ ok (r, x) ])
-      stood r none none neither = refused placeRefusal (lineOf i)
-      stood r (some x) (some y) (both o s e a b d) = stands r o s e a b d
+      behind : (r : Row) (q : Place) (t : Stand) → moved p r ≡ some q → Alike q t → (length (q .opened) ≡ 0 → ⊥) → (b : Bool) → circleAt r q ≡ b
+          → Judges (cond b (refusal circleRefusal (lineOf i)) (ok (r, q))) (cond b (refusal circleRefusal (lineOf i)) (ok (r, readerBehind s r t)))
+      behind r q t m a o true e = refused circleRefusal (lineOf i)
+      behind r q t m a o false e =
+          stands r q (readerBehind s r t)
+          (record {
+            alike = a;
+            ordered = judged-ordered p q r m e (h .ordered);
+            held = subst (λ (l : List ℕ). HeldAt q (noted (s .words) (length l / 2) r)) (sym (h .alike .events))
+                (held-behind p (s .words) (h .ordered) (h .held) r q m);
+          })
+          o
+
+      stood : (r : Row) (q : Option Place) (t : Option Stand) → Moves q t → placed p r ≡ q
+          → Judges (elim q [ none ↦ refusal placeRefusal (lineOf i) | some x ↦ cond (circleAt r x) (refusal circleRefusal (lineOf i)) (ok (r, x)) ])
+          (elim t [ none ↦ refusal placeRefusal (lineOf i) | some x ↦ cond (circles (s .words) r) (refusal circleRefusal (lineOf i)) (ok (r, readerBehind s r x)) ])
+      stood r none none neither e = refused placeRefusal (lineOf i)
+      stood r (some q) (some t) (both x y a o) e =
+          let m : moved p r ≡ some q = placed-moved p q r e in
+          subst
+          (λ (b : Bool). Judges (cond (circleAt r q) (refusal circleRefusal (lineOf i)) (ok (r, q))) (cond b (refusal circleRefusal (lineOf i)) (ok (r, readerBehind s r t))))
+          (circle-same p (s .words) (h .ordered) (h .held) r q m)
+          (behind r q t m a o (circleAt r q) refl)
 
       form : (o : Option Row)
-          → Judges (elim o [ none ↦ refusal rowRefusal (lineOf i) | some r ↦ elim (placed (record { opened = opened; events = events }) r) [ none ↦ refusal placeRefusal (lineOf i) | some q ↦ ok (r, q) ] ])
-          (elim o [ none ↦ refusal rowRefusal (lineOf i) | some r ↦ elim (stoodAt i (record { starts = starts; events = events }) r) [ none ↦ refusal placeRefusal (lineOf i) | some q ↦ ok (r, q) ] ])
+          → Judges (elim o [
+            | none ↦ refusal rowRefusal (lineOf i)
+            | some r ↦ elim (placed p r) [
+              | none ↦ refusal placeRefusal (lineOf i)
+              | some x ↦ cond (circleAt r x) (refusal circleRefusal (lineOf i)) (ok (r, x))
+            ]
+          ])
+          (elim o [
+            | none ↦ refusal rowRefusal (lineOf i)
+            | some r ↦ elim (stoodAt i (s .stand) r) [
+              | none ↦ refusal placeRefusal (lineOf i)
+              | some x ↦ cond (circles (s .words) r) (refusal circleRefusal (lineOf i)) (ok (r, readerBehind s r x))
+            ]
+          ])
       form none = refused rowRefusal (lineOf i)
-      form (some r) =
-          stood r (placed (record { opened = opened; events = events }) r) (stoodAt i (record { starts = starts; events = events }) r)
-          (place opened starts events i h l r z)
+      form (some r) = stood r (placed p r) (stoodAt i (s .stand) r) (place-same p (s .stand) i r (h .alike) z) refl
 
   -- a row and what is behind it, in the model and in the twin
   ahead-same : (r : Row) (o : Out Kept) (m : Out (List Row)) → m ≡ rowsKept o
@@ -145,26 +191,20 @@ module _ (c : Columns) where
   ahead-same r (ok k) m e = rw e
   ahead-same r (refusal number line) m e = rw e
 
-  rows-same : (ls : List Line) (i : ℕ) (opened starts events : List ℕ) → Agree starts opened → length starts ≡ sheets
-      → eqb (length opened) 0 ≡ eqb i 0
-      → rowsFrom c i (record { opened = opened; events = events }) ls ≡ rowsKept (readFrom c i (record { starts = starts; events = events }) ls)
+  rows-same : (ls : List Line) (i : ℕ) (p : Place) (s : Reader) → Same p s → eqb (length (p .opened)) 0 ≡ eqb i 0
+      → rowsFrom c i p ls ≡ rowsKept (readFrom c i s ls)
   unfolding rowsFrom readFrom rowsKept
-  rows-same [] i opened starts events h l z = refl
-  rows-same (line ∷ ls) i opened starts events h l z =
-      go (judged c i (record { opened = opened; events = events }) line) (judgedBy c i (record { starts = starts; events = events }) line)
-      (judge i line opened starts events h l z) refl refl (λ o s e. rows-same ls (suc i) o s e)
+  rows-same [] i p s h z = refl
+  rows-same (line ∷ ls) i p s h z = go (judged c i p line) (judgedBy c i s line) (judge i line p s h z) refl refl (λ q t. rows-same ls (suc i) q t)
     where
-      go : (x : Out (Row × Place)) (y : Out (Row × Stand)) → Judges x y
-          → judged c i (record { opened = opened; events = events }) line ≡ x → judgedBy c i (record { starts = starts; events = events }) line ≡ y
-          → ((o s e : List ℕ) → Agree s o → length s ≡ sheets → eqb (length o) 0 ≡ eqb (suc i) 0
-          → rowsFrom c (suc i) (record { opened = o; events = e }) ls ≡ rowsKept (readFrom c (suc i) (record { starts = s; events = e }) ls))
-          → rowsFrom c i (record { opened = opened; events = events }) (line ∷ ls)
-          ≡ rowsKept (readFrom c i (record { starts = starts; events = events }) (line ∷ ls))
+      go : (x : Out (Row × Place)) (y : Out (Row × Reader)) → Judges x y → judged c i p line ≡ x → judgedBy c i s line ≡ y
+          → ((q : Place) (t : Reader) → Same q t → eqb (length (q .opened)) 0 ≡ eqb (suc i) 0 → rowsFrom c (suc i) q ls ≡ rowsKept (readFrom c (suc i) t ls))
+          → rowsFrom c i p (line ∷ ls) ≡ rowsKept (readFrom c i s (line ∷ ls))
       go x y (refused number line′) e f rest = rw (e, f, rowsFrom, readFrom)
-      go x y (stands r o s v a b d) e f rest =
+      go x y (stands r q t a o) e f rest =
           rw (e, f, rowsFrom, readFrom)
-          (ahead-same r (readFrom c (suc i) (record { starts = s; events = v }) ls) (rowsFrom c (suc i) (record { opened = o; events = v }) ls)
-          (rest o s v a b (ne-eqb (length o) 0 d ∙ sym (ne-eqb (suc i) 0 (λ q. omega arith)))))
+          (ahead-same r (readFrom c (suc i) t ls) (rowsFrom c (suc i) q ls)
+          (rest q t a (ne-eqb (length (q .opened)) 0 o ∙ sym (ne-eqb (suc i) 0 (λ w. omega arith)))))
 
 -- The table behind rows i, i + 1, ..: what it held before, and the start of each sheet that they open.
 startAfter : ℕ → List ℕ → List Row → ℕ → ℕ
@@ -179,8 +219,8 @@ data Tabled (i : ℕ) (starts : List ℕ) : Row → List ℕ → Type 0 where
   opened : (n : ℕ) → n < length starts → isOpen starts n ≡ false → Tabled i starts (sheet n) (set starts n (i + 1))
   kept : (r : Row) → isSheet r ≡ false → Tabled i starts r starts
 
-Stood : ℕ → List ℕ → Out (Row × Stand) → Type 0
-Stood i starts (ok rq) = Tabled i starts (rq .0) (rq .1 .starts) × (length (rq .1 .starts) ≡ sheets)
+Stood : ℕ → List ℕ → Out (Row × Reader) → Type 0
+Stood i starts (ok rq) = Tabled i starts (rq .0) (rq .1 .stand .starts) × (length (rq .1 .stand .starts) ≡ sheets)
 Stood i starts (refusal number line) = Unit {0}
 
 module _ (i : ℕ) (starts events : List ℕ) (long : length starts ≡ sheets) where
@@ -222,16 +262,32 @@ module _ (i : ℕ) (starts events : List ℕ) (long : length starts ≡ sheets) 
       go true q h = h
       go false q h = tt
 
-  tabled-judged : (c : Columns) (line : Line) → Stood i starts (judgedBy c i (record { starts = starts; events = events }) line)
+  tabled-judged : (c : Columns) (words : List ℕ) (line : Line)
+      → Stood i starts (judgedBy c i (record { stand = record { starts = starts; events = events }; words = words }) line)
   unfolding judgedBy Table Stood
-  tabled-judged c line = form (cond (ltb i rowsMost) (rowOf c line) none)
+  tabled-judged c words line = form (cond (ltb i rowsMost) (rowOf c line) none)
     where
-      stood : (r : Row) (q : Option Stand) → Table r q → Stood i starts (elim q [ none ↦ refusal placeRefusal (lineOf i) | some x ↦ ok (r, x) ])
+      reader : Reader
+      reader = record { stand = record { starts = starts; events = events }; words = words }
+
+      circle : (r : Row) (q : Stand) → Table r (some q) → (b : Bool)
+          → Stood i starts (cond b (refusal circleRefusal (lineOf i)) (ok (r, readerBehind reader r q)))
+      circle r q h true = tt
+      circle r q h false = h
+
+      stood : (r : Row) (q : Option Stand) → Table r q
+          → Stood i starts (elim q [ none ↦ refusal placeRefusal (lineOf i) | some x ↦ cond (circles words r) (refusal circleRefusal (lineOf i)) (ok (r, readerBehind reader r x)) ])
       stood r none h = tt
-      stood r (some q) h = h
+      stood r (some q) h = circle r q h (circles words r)
 
       form : (o : Option Row)
-          → Stood i starts (elim o [ none ↦ refusal rowRefusal (lineOf i) | some r ↦ elim (stoodAt i (record { starts = starts; events = events }) r) [ none ↦ refusal placeRefusal (lineOf i) | some q ↦ ok (r, q) ] ])
+          → Stood i starts (elim o [
+            | none ↦ refusal rowRefusal (lineOf i)
+            | some r ↦ elim (stoodAt i (record { starts = starts; events = events }) r) [
+              | none ↦ refusal placeRefusal (lineOf i)
+              | some x ↦ cond (circles words r) (refusal circleRefusal (lineOf i)) (ok (r, readerBehind reader r x))
+            ]
+          ])
       form none = tt
       form (some r) = stood r (stoodAt i (record { starts = starts; events = events }) r) (tabled-stood r)
 
@@ -297,21 +353,19 @@ nothing-more i starts n = go (isOpen starts n) refl
     go true e = refl
     go false e = unopened starts n e
 
-finals : (c : Columns) (ls : List Line) (i : ℕ) (starts events : List ℕ) → length starts ≡ sheets
-    → Finals i starts (readFrom c i (record { starts = starts; events = events }) ls)
+finals : (c : Columns) (ls : List Line) (i : ℕ) (s : Reader) → length (s .stand .starts) ≡ sheets → Finals i (s .stand .starts) (readFrom c i s ls)
 unfolding readFrom Finals Stood
-finals c [] i starts events l = (l, λ n. nothing-more i starts n)
-finals c (line ∷ ls) i starts events l =
-    go (judgedBy c i (record { starts = starts; events = events }) line) (tabled-judged i starts events l c line) refl
-    (λ s e. finals c ls (suc i) s e)
+finals c [] i s l = (l, λ n. nothing-more i (s .stand .starts) n)
+finals c (line ∷ ls) i s l =
+    go (judgedBy c i s line) (tabled-judged i (s .stand .starts) (s .stand .events) l c (s .words) line) refl (λ t. finals c ls (suc i) t)
   where
-    go : (x : Out (Row × Stand)) → Stood i starts x → judgedBy c i (record { starts = starts; events = events }) line ≡ x
-        → ((s e : List ℕ) → length s ≡ sheets → Finals (suc i) s (readFrom c (suc i) (record { starts = s; events = e }) ls))
-        → Finals i starts (readFrom c i (record { starts = starts; events = events }) (line ∷ ls))
+    go : (x : Out (Row × Reader)) → Stood i (s .stand .starts) x → judgedBy c i s line ≡ x
+        → ((t : Reader) → length (t .stand .starts) ≡ sheets → Finals (suc i) (t .stand .starts) (readFrom c (suc i) t ls))
+        → Finals i (s .stand .starts) (readFrom c i s (line ∷ ls))
     go (refusal number line′) t e rest = rw (e, readFrom) tt
     go (ok rq) t e rest =
         rw (e, readFrom)
-        (finals-ahead i starts (rq .1 .starts) (rq .0) (readFrom c (suc i) (rq .1) ls) (t .0) (rest (rq .1 .starts) (rq .1 .events) (t .1)))
+        (finals-ahead i (s .stand .starts) (rq .1 .stand .starts) (rq .0) (readFrom c (suc i) (rq .1) ls) (t .0) (rest (rq .1) (t .1)))
 
 -- the table of the whole file
 fresh-open : (n : ℕ) → isOpen (replicate sheets 0) n ≡ false
@@ -362,21 +416,28 @@ unfolding among
 empty n = refl
 
 -- what the twin reads is what the model reads, and its table has the starts of the sheets that the rows open
-module _ (c : Columns) (ls : List Line) where
-  same-rows : rowsFrom c 0 outside ls ≡ rowsKept (readFrom c 0 fresh ls)
-  same-rows = rows-same c ls 0 [] (replicate sheets 0) [] (λ n. fresh-open n ∙ empty n) (length-replicate {A = ℕ} sheets 0) refl
+module _ (c : Columns) (ls : List Line) (words : List ℕ) (long : length words ≡ 2 * messagesMost * width) where
+  same-rows : rowsFrom c 0 outside ls ≡ rowsKept (readFrom c 0 (fresh words) ls)
+  same-rows =
+      rows-same c ls 0 outside (fresh words)
+      (record {
+        alike = record { agree = λ n. fresh-open n ∙ empty n; long = length-replicate {A = ℕ} sheets 0; events = refl };
+        ordered = ordered-empty;
+        held = held-empty words long;
+      })
+      refl
 
-  pub rows-refused : (number line : ℕ) → readFrom c 0 fresh ls ≡ refusal number line → rowsFrom c 0 outside ls ≡ refusal number line
+  pub rows-refused : (number line : ℕ) → readFrom c 0 (fresh words) ls ≡ refusal number line → rowsFrom c 0 outside ls ≡ refusal number line
   unfolding rowsKept
   rows-refused number line e = same-rows ∙ ap rowsKept e
 
-  module _ (k : Kept) (e : readFrom c 0 fresh ls ≡ ok k) where
+  module _ (k : Kept) (e : readFrom c 0 (fresh words) ls ≡ ok k) where
     pub rows-read : rowsFrom c 0 outside ls ≡ ok (k .rows)
     unfolding rowsKept
     rows-read = same-rows ∙ ap rowsKept e
 
     finals-of : Finals 0 (replicate sheets 0) (ok k)
-    finals-of = subst (λ (o : Out Kept). Finals 0 (replicate sheets 0) o) e (finals c ls 0 (replicate sheets 0) [] (length-replicate {A = ℕ} sheets 0))
+    finals-of = subst (λ (o : Out Kept). Finals 0 (replicate sheets 0) o) e (finals c ls 0 (fresh words) (length-replicate {A = ℕ} sheets 0))
 
     pub starts-same : k .starts ≡ startsOf (k .rows)
     starts-same = starts-of k finals-of

@@ -11,7 +11,7 @@ use Rattle.model.specs.Refusal.{Out, ok, refusal}
 use Rattle.model.specs.Rows.{Row}
 use Rattle.model.specs.Place.{opens, readOf}
 use Rattle.model.specs.Expansion.{startOf}
-use Rattle.model.specs.Order.{cells}
+use Rattle.model.specs.Closure.{cells}
 unfoldable pub use Rattle.place.specs.Letters.{rowFrom}
 use Rattle.sheet.specs.declared.Verdict.{Verdict}
 use Rattle.sheet.specs.declared.Verdict.the-variants.{Rows, Refused}

@@ -1,4 +1,5 @@
--- Code-shaped twin of the model's rows, with the table of starts in place of the list of sheets opened.
+-- Code-shaped twin of the model's rows, with the table of starts in place of the list of sheets opened, and words in place of the
+-- open block's P rows.
 -- Assumes nothing.
 use Prim.Native.Nat.{ℕ, suc}
 use mathlib.Core.List.{List, [], _∷_}
@@ -7,8 +8,7 @@ use Rattle.model.specs.Limits.{sheets}
 use Rattle.model.specs.Refusal.{Out, ok, refusal}
 use Rattle.model.specs.Text.{Line, Columns}
 use Rattle.model.specs.Rows.{Row}
-use Rattle.place.specs.Stand.{Stand}
-use Rattle.row.specs.Judged.{judgedBy}
+use Rattle.row.specs.Judged.{Reader, judgedBy}
 
 -- the rows read, and the table of starts behind them
 pub record Kept : Type 0 where
@@ -20,11 +20,11 @@ aheadOf r (ok k) = ok (record { rows = r ∷ k .rows; starts = k .starts })
 aheadOf r (refusal number line) = refusal number line
 
 -- the rows, read one by one; i is the number of the first
-unfoldable pub readFrom : Columns → ℕ → Stand → List Line → Out Kept
-readFrom c i s [] = ok (record { rows = []; starts = s .starts })
+unfoldable pub readFrom : Columns → ℕ → Reader → List Line → Out Kept
+readFrom c i s [] = ok (record { rows = []; starts = s .stand .starts })
 readFrom c i s (l ∷ ls) =
     elim (judgedBy c i s l) [ refusal number line ↦ refusal number line | ok rq ↦ aheadOf (rq .0) (readFrom c (suc i) (rq .1) ls) ]
 
--- a table with no sheet, ahead of the first row
-abbrev pub fresh : Stand
-fresh = record { starts = replicate sheets 0; events = [] }
+-- a table with no sheet, ahead of the first row, and words of any content
+abbrev pub fresh : List ℕ → Reader
+fresh words = record { stand = record { starts = replicate sheets 0; events = [] }; words = words }

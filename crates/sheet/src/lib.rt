@@ -1,18 +1,19 @@
-// The reader of sheet files: any bytes in; the rows, or refusal 3 to 7 with its line, out.
+// The reader of sheet files: any bytes in; the rows, or refusal 3 to 7 or 11 with its line, out.
 use heading::Columns;
 use heading::Heading;
 use model::EVENTS_MOST;
 use model::ROWS_MOST;
 use model::SHEETS;
+use presence::Presence;
 use row::Step;
 ghost use mathlib.Core.Path.{_≡_};
-ghost use Prim.Native.Nat.{_≤_, _<_};
-ghost use lib.ListN.{length, getD};
-ghost use Rattle.model.specs.Limits.{sheets, rowsMost};
+ghost use Prim.Native.Nat.{_*_, _≤_, _<_};
+ghost use lib.ListN.{length};
+ghost use Rattle.model.specs.Limits.{messagesMost};
+ghost use Rattle.relation.specs.Width.{width};
 ghost use Rattle.heading.specs.Names.{Below, columnsFrom};
-ghost use Rattle.place.specs.Stand.{isOpen};
 ghost use Rattle.sheet.specs.Bridge.{storeOf, Sized, ReadAs};
-ghost use Rattle.sheet.specs.Store.{isStray, completeIn, BodyAs};
+ghost use Rattle.sheet.specs.Store.{verdictOn, BodyAs};
 
 // So many rows; or the refusal's number and line.
 pub enum Verdict {
@@ -21,15 +22,17 @@ pub enum Verdict {
 }
 
 // Reads a text into three columns of `Rows(count)` rows, and notes at `start[n]` the number of the row behind `S n` (0: no sheet n).
-// Of the columns only these rows are written, so what they are lent with does not matter but for their lengths.
+// Of the columns only these rows are written, so what they are lent with does not matter but for their lengths. The words hold the open
+// block's order while it is read; what they hold at first does not matter, and nothing is said of what is left in them.
 pub fn read(
     text: &[u8],
     kind: &mut [u8; ROWS_MOST],
     one: &mut [u8; ROWS_MOST],
     two: &mut [u8; ROWS_MOST],
     start: &mut [u16; SHEETS],
+    words: &mut [u64],
 ) -> Verdict
-    requires { ⌜ Sized (storeOf (now kind) (now one) (now two) (now start)) ⌝ }
+    requires { ⌜ Sized (storeOf (now kind) (now one) (now two) (now start)) × (length (now words) ≡ 2 * messagesMost * width) ⌝ }
     ensures { λ r. ⌜ ReadAs (now (text .entry)) (now (kind .exit)) (now (one .exit)) (now (two .exit)) (now (start .exit)) r ⌝ }
 {
     if text.len() == 0 {
@@ -41,7 +44,7 @@ pub fn read(
     let Heading::Named(columns, first) = heading::heading_of(text) else {
         return Verdict::Refused(model::HEADING, 1);
     };
-    rows(text, first, columns, kind, one, two, start)
+    rows(text, first, columns, kind, one, two, start, words)
 }
 
 // All rows from `first` on, which is behind the heading.
@@ -53,8 +56,9 @@ fn rows(
     one: &mut [u8; ROWS_MOST],
     two: &mut [u8; ROWS_MOST],
     start: &mut [u16; SHEETS],
+    words: &mut [u64],
 ) -> Verdict
-    requires { ⌜ (first ≤ length (now text)) × Below columns × Sized (storeOf (now kind) (now one) (now two) (now start)) ⌝ }
+    requires { ⌜ (first ≤ length (now text)) × Below columns × Sized (storeOf (now kind) (now one) (now two) (now start)) × (length (now words) ≡ 2 * messagesMost * width) ⌝ }
     ensures { λ r. ⌜ BodyAs (columnsFrom columns) (now (text .entry)) first (storeOf (now (kind .exit)) (now (one .exit)) (now (two .exit)) (now (start .exit))) r ⌝ }
 {
     *start = [0u16; SHEETS];
@@ -63,7 +67,7 @@ fn rows(
     let mut row = 0;
     let mut messages = 0;
     while at < text.len() {
-        let s = row::take_row(text, at, row, messages, columns, start, &mut boards);
+        let s = row::take_row(text, at, row, messages, columns, start, &mut boards, words);
         match s {
             Step::Refused(number) => {
                 return Verdict::Refused(number, row + 2);
@@ -78,49 +82,15 @@ fn rows(
             }
         }
     }
-    complete(row, kind, one, start)
+    verdict_on(presence::complete(row, kind, one, start), row)
 }
 
-// Row i calls a sheet that is not there.
-fn is_stray(kind: &[u8; ROWS_MOST], one: &[u8; ROWS_MOST], start: &[u16; SHEETS], i: usize) -> bool
-    requires { ⌜ (i < rowsMost) × (length (now start) ≡ sheets) ⌝ }
-    ensures { λ r. ⌜ r ≡ isStray (getD (now (kind .entry)) i 0) (getD (now (one .entry)) i 0) (now (start .entry)) ⌝ }
+// The verdict on so many rows, by whether every sheet that they need is there.
+fn verdict_on(presence: Presence, count: usize) -> Verdict
+    ensures { λ r. ⌜ r ≡ verdictOn presence count ⌝ }
 {
-    if kind[i] == b'C' {
-        !is_open(start, one[i])
-    } else {
-        false
+    match presence {
+        Presence::Absent(line) => Verdict::Refused(model::ABSENT, line),
+        Presence::Complete => Verdict::Rows(count),
     }
-}
-
-// Sheet 0 is there, and so is every sheet that is called.
-fn complete(
-    count: usize,
-    kind: &[u8; ROWS_MOST],
-    one: &[u8; ROWS_MOST],
-    start: &[u16; SHEETS],
-) -> Verdict
-    requires { ⌜ (count ≤ rowsMost) × (length (now start) ≡ sheets) ⌝ }
-    ensures { λ r. ⌜ r ≡ completeIn (now (kind .entry)) (now (one .entry)) (now (start .entry)) count ⌝ }
-{
-    if !is_open(start, 0) {
-        return Verdict::Refused(model::ABSENT, 0);
-    }
-    let mut i = 0;
-    while i < count {
-        if is_stray(kind, one, start, i) {
-            return Verdict::Refused(model::ABSENT, i + 2);
-        }
-        i += 1;
-    }
-    Verdict::Rows(count)
-}
-
-// Sheet n is there.
-fn is_open(start: &[u16; SHEETS], n: u8) -> bool
-    requires { ⌜ length (now start) ≡ sheets ⌝ }
-    ensures { λ r. ⌜ r ≡ isOpen (now (start .entry)) n ⌝ }
-{
-    let k = n as usize;
-    if k < SHEETS { start[k] != 0 } else { false }
 }

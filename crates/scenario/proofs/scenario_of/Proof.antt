@@ -1,7 +1,7 @@
 -- `scenario::scenario_of` meets its contract. Assumes nothing.
-use borrow.Author.Needs.{needs}
 use Rattle.sheet.proofs.Bridge.{kind-long, one-long, two-long, start-long}
 use Rattle.scenario.proofs.Parts.{reading-refuses, rows-read, rows-expanded}
+use borrow.Author.Needs.{needs}
 use Rattle.scenario.proofs.scenario_of.Statement.{statement}
 use Rattle.scenario.proofs.scenario_of.Tie as tie
 
@@ -29,16 +29,19 @@ slice-aggregate-expand-4 c = search start-long
 expand-requires : tie.Need-expand-requires
 expand-requires c κs = (search rows-read, (search needs, search needs))
 
+same-length : tie.Need-same-length
+same-length c = search needs
+
 returns : tie.Need-returns
 returns c = search reading-refuses
 
-same-length : tie.Need-same-length
-same-length c = search needs
+same-length-2 : tie.Need-same-length-2
+same-length-2 c = search needs
 
 returns-2 : tie.Need-returns-2
 returns-2 c =
     let read = c .before .before .before .before .before .before .before .before .before .before in
-    rows-expanded _ _ _ _ _ _ (read .before .before .read .ensures) _ (read .verdict2 .given .1) _ _ _ (c .before .before .expand .ensures) (search needs) (search needs)
+    rows-expanded _ _ _ _ _ _ (read .before .before .before .before .read .ensures) _ (read .verdict2 .given .1) _ _ _ (c .before .before .expand .ensures) (search needs) (search needs)
 
 pub scenario-of-spec : {M : Type 1} → statement M
 scenario-of-spec =
@@ -52,6 +55,7 @@ scenario-of-spec =
     slice-aggregate-expand-3
     slice-aggregate-expand-4
     expand-requires
-    returns
     same-length
+    returns
+    same-length-2
     returns-2)

@@ -23,7 +23,10 @@ returns-3 : tie.Need-returns-3
 returns-3 c = search read-unnamed
 
 rows-requires : tie.Need-rows-requires
-rows-requires c κs = (search first-inside, search first-below, search needs)
+rows-requires c κs = (search first-inside, search first-below, search needs, search needs)
+
+same-length : tie.Need-same-length
+same-length c = search needs
 
 returns-4 : tie.Need-returns-4
 returns-4 c = search read-named
@@ -39,4 +42,5 @@ read-spec =
     enum-told
     returns-3
     rows-requires
+    same-length
     returns-4)

@@ -1,18 +1,18 @@
--- `rows` meets its contract. The loop's invariant: what is read of the rows so far, and where the reader stands. Assumes nothing.
-use borrow.Author.Needs.{needs}
+-- `rows` meets its contract. The loop's invariant: what is read of the rows so far, and what the reader holds. Assumes nothing.
 use Prim.Native.Nat.{_-_}
 use lib.ListN.{length}
 use Rattle.heading.specs.Names.{columnsFrom}
 use Rattle.sheet.proofs.Storing.{Looping, loop-begin, loop-refused, loop-room, loop-further, loop-more, loop-done}
+use borrow.Author.Needs.{needs}
 use Rattle.sheet.proofs.rows.Statement.{statement}
 use Rattle.sheet.proofs.rows.Tie as tie
 
 abbrev Inv-loop : tie.InvT-loop
-Inv-loop text first columns kind₀ one₀ two₀ start₀ boards₀ at₀ row₀ messages₀ kind one two start boards at row messages =
-    Looping (columnsFrom columns) text first at row messages kind one two start boards
+Inv-loop text first columns kind₀ one₀ two₀ start₀ words₀ boards₀ at₀ row₀ messages₀ kind one two start words boards at row messages =
+    Looping (columnsFrom columns) text first at row messages kind one two start boards words₀ words
 
 abbrev μ-loop : tie.MeasureT-loop
-μ-loop text first columns kind₀ one₀ two₀ start₀ boards₀ at₀ row₀ messages₀ kind one two start boards at row messages =
+μ-loop text first columns kind₀ one₀ two₀ start₀ words₀ boards₀ at₀ row₀ messages₀ kind one two start words boards at row messages =
     length text - at
 
 loop-holds : tie.Need-loop-holds Inv-loop μ-loop
@@ -24,8 +24,11 @@ take-row-requires c κs = search needs
 enum-known-s : tie.Need-enum-known-s Inv-loop μ-loop
 enum-known-s c = search needs
 
-add-t23 : tie.Need-add-t23 Inv-loop μ-loop
-add-t23 c = search needs
+add-t26 : tie.Need-add-t26 Inv-loop μ-loop
+add-t26 c = search needs
+
+same-length : tie.Need-same-length Inv-loop μ-loop
+same-length c = search needs
 
 returns : tie.Need-returns Inv-loop μ-loop
 returns c = search loop-refused
@@ -54,6 +57,12 @@ loop-again c = search loop-more
 complete-requires : tie.Need-complete-requires Inv-loop μ-loop
 complete-requires c κs = search needs
 
+verdict-on-requires : tie.Need-verdict-on-requires Inv-loop μ-loop
+verdict-on-requires c κs = search needs
+
+same-length-2 : tie.Need-same-length-2 Inv-loop μ-loop
+same-length-2 c = search needs
+
 returns-2 : tie.Need-returns-2 Inv-loop μ-loop
 returns-2 c = search loop-done
 
@@ -66,7 +75,8 @@ rows-spec =
     loop-holds
     take-row-requires
     enum-known-s
-    add-t23
+    add-t26
+    same-length
     returns
     enum-known-s-2
     element-write-kind
@@ -76,4 +86,6 @@ rows-spec =
     loop-less
     loop-again
     complete-requires
+    verdict-on-requires
+    same-length-2
     returns-2)

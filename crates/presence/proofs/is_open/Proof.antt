@@ -2,8 +2,8 @@
 use Rattle.place.specs.Stand.{isOpen}
 use Rattle.place.proofs.Standing.{open-beyond}
 use borrow.Author.Needs.{needs}
-use Rattle.sheet.proofs.is_open.Statement.{statement}
-use Rattle.sheet.proofs.is_open.Tie as tie
+use Rattle.presence.proofs.is_open.Statement.{statement}
+use Rattle.presence.proofs.is_open.Tie as tie
 
 mul-result : tie.Need-mul-result
 mul-result c = search needs

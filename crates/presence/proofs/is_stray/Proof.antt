@@ -1,8 +1,8 @@
 -- `is_stray` meets its contract. Assumes nothing.
-use Rattle.sheet.proofs.Body.{stray-call, stray-other}
+use Rattle.presence.proofs.Searching.{stray-call, stray-other}
 use borrow.Author.Needs.{needs}
-use Rattle.sheet.proofs.is_stray.Statement.{statement}
-use Rattle.sheet.proofs.is_stray.Tie as tie
+use Rattle.presence.proofs.is_stray.Statement.{statement}
+use Rattle.presence.proofs.is_stray.Tie as tie
 
 element-copy-out-if1 : tie.Need-element-copy-out-if1
 element-copy-out-if1 c = search needs

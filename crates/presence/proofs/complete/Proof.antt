@@ -1,9 +1,9 @@
 -- `complete` meets its contract. The loop's invariant: no call up to row `i` is stray. Assumes nothing.
 use borrow.Author.Needs.{needs}
 use Prim.Native.Nat.{_-_}
-use Rattle.sheet.proofs.Body.{Searching, search-zero, search-begin, search-more, search-found, search-none}
-use Rattle.sheet.proofs.complete.Statement.{statement}
-use Rattle.sheet.proofs.complete.Tie as tie
+use Rattle.presence.proofs.Searching.{Searching, search-zero, search-begin, search-more, search-found, search-none}
+use Rattle.presence.proofs.complete.Statement.{statement}
+use Rattle.presence.proofs.complete.Tie as tie
 
 abbrev Inv-loop : tie.InvT-loop
 Inv-loop count kind one start i₀ i = Searching kind one start count i

@@ -1,0 +1,64 @@
+-- The search for a call of a sheet that is not there. Assumes nothing.
+use Prim.Native.Nat.{ℕ, suc, _+_, _-_, _≤_, _<_}
+use Prim.Native.Char.{code}
+use native.Mathlib.Nat.{sub-zero}
+use native.Mathlib.Numerals.{add-one}
+use native.Mathlib.Omega.{arith}
+use mathlib.Core.Path.{_≡_, sym, _∙_}
+use mathlib.Core.Bool.{Bool, true, false, not, cond}
+use mathlib.Core.List.{List}
+use mathlib.Core.Option.{none, some}
+use borrow.Author.Tests.{ne-eqb, not-true, not-false}
+use lib.ListN.{getD}
+use Rattle.model.specs.Place.{lineOf}
+use Rattle.place.specs.Stand.{isOpen}
+use Rattle.presence.specs.Stray.{isStray, strayIn, absentAt, presenceIn}
+use Rattle.presence.specs.declared.Presence.the-variants.{Complete, Absent}
+
+-- calls of sheets that are not there
+pub stray-call : (k n : ℕ) (starts : List ℕ) (r : Bool) → r ≡ isOpen starts n → k ≡ code "C" → not r ≡ isStray k n starts
+unfolding isStray
+stray-call k n starts r p e = rw (e, p)
+
+pub stray-other : (k n : ℕ) (starts : List ℕ) → (k ≡ code "C" → ⊥) → false ≡ isStray k n starts
+unfolding isStray
+stray-other k n starts e = rw (ne-eqb k (code "C") e)
+
+-- no call up to row i is stray
+pub record Searching (kind one starts : List ℕ) (count i : ℕ) : Type 0 where
+  pub below : i ≤ count
+  pub zero : isOpen starts 0 ≡ true
+  pub same : strayIn kind one starts 0 count ≡ strayIn kind one starts i (count - i)
+
+pub search-zero : (kind one starts : List ℕ) (count : ℕ) (r : Bool) → r ≡ isOpen starts 0 → not r ≡ true → Absent 0 ≡ presenceIn kind one starts count
+unfolding presenceIn
+search-zero kind one starts count r e h = rw (← e, not-true r h)
+
+pub search-begin : (kind one starts : List ℕ) (count : ℕ) (r : Bool) → r ≡ isOpen starts 0 → not r ≡ false → Searching kind one starts count 0
+search-begin kind one starts count r e h = record { below = omega arith; zero = sym e ∙ not-false r h; same = rw (sub-zero count) }
+
+search-at : (kind one starts : List ℕ) (count i : ℕ) → Searching kind one starts count i → i < count
+    → strayIn kind one starts 0 count ≡ cond (isStray (getD kind i 0) (getD one i 0) starts) (some (lineOf i)) (strayIn kind one starts (i + 1) (count - (i + 1)))
+unfolding strayIn
+search-at kind one starts count i v h =
+    let e : count - i ≡ suc (count - (i + 1)) = omega arith in
+    v .same ∙ rw (e, add-one i)
+
+pub search-more : (kind one starts : List ℕ) (count i : ℕ) (r : Bool) → Searching kind one starts count i → i < count
+    → r ≡ isStray (getD kind i 0) (getD one i 0) starts → r ≡ false → Searching kind one starts count (i + 1)
+search-more kind one starts count i r v h e f =
+    record { below = omega arith; zero = v .zero; same = search-at kind one starts count i v h ∙ rw (← e, f) }
+
+pub search-found : (kind one starts : List ℕ) (count i : ℕ) (r : Bool) → Searching kind one starts count i → i < count
+    → r ≡ isStray (getD kind i 0) (getD one i 0) starts → r ≡ true → Absent (i + 2) ≡ presenceIn kind one starts count
+unfolding presenceIn absentAt
+search-found kind one starts count i r v h e f =
+    let s : strayIn kind one starts 0 count ≡ some (lineOf i) = search-at kind one starts count i v h ∙ rw (← e, f) in
+    rw (v .zero, s)
+
+pub search-none : (kind one starts : List ℕ) (count i : ℕ) → Searching kind one starts count i → count ≤ i → Complete ≡ presenceIn kind one starts count
+unfolding presenceIn absentAt strayIn
+search-none kind one starts count i v h =
+    let e : count - i ≡ 0 = omega arith in
+    let s : strayIn kind one starts 0 count ≡ none = v .same ∙ rw e in
+    rw (v .zero, s)

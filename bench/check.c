@@ -406,7 +406,7 @@ trace_check_answer careful_trace_check(const uint8_t *text, size_t text_len, uin
     if (scratch_len < 2048) return (trace_check_answer){4, 2, 0};
     trace_check_answer a = {4, 12, 0};
     if (trace_len % 2 == 0 && trace_len <= 768) {
-        refusal r = read(text, text_len, &s);
+        refusal r = read(text, text_len, &s, scratch);
         w.words = scratch;
         if (!r.number) r = expand(&s, &w);
         a = r.number ? (trace_check_answer){4, r.number, r.line} : replay(&w, channels[code], trace, trace_len);

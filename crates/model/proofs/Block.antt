@@ -77,7 +77,7 @@ module _ (n : ℕ) (orders : List (ℕ × ℕ)) where
   -- each source, and what a source is
   direct-given : (x y : ℕ) → listed x y orders ≡ true → blockDirect n orders x y ≡ true
   unfolding blockDirect
-  direct-given x y h = or-left (listed x y orders) (isOwnPair n x y) h
+  direct-given x y h = or-left (listed x y orders) _ h
 
   direct-paired : (x y : ℕ) → isOwnPair n x y ≡ true → blockDirect n orders x y ≡ true
   unfolding blockDirect

@@ -22,3 +22,4 @@ pub mod Jam
 pub mod Withholding
 pub mod Orders
 pub mod PointThree
+pub mod Senders

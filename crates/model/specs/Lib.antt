@@ -12,4 +12,5 @@ pub mod Race
 pub mod Schedule
 pub mod Answer
 pub mod Verdict
+pub mod Senders
 pub mod Marked

@@ -43,3 +43,9 @@ messagesRefusal = 10
 
 abbrev pub circleRefusal : ℕ
 circleRefusal = 11
+
+abbrev pub senderTableRefusal : ℕ
+senderTableRefusal = 18
+
+abbrev pub forbiddenRefusal : ℕ
+forbiddenRefusal = 19

@@ -29,6 +29,13 @@ pub const SCRATCH_LEAST: usize = 2048;
 
 pub const TRACE_LEAST: usize = 2 * (3 * MESSAGES_MOST);
 
+// The table of permitted senders: rules, the largest set of boards, the largest verdict.
+pub const RULES_MOST: usize = 64;
+
+pub const SET_MOST: usize = 65535;
+
+pub const VERDICT_MOST: usize = 1;
+
 // The refusals, by the numbers of the paper's table.
 pub const CHANNEL: u8 = 1;
 
@@ -51,3 +58,7 @@ pub const CALLS: u8 = 9;
 pub const MESSAGES: u8 = 10;
 
 pub const CIRCLE: u8 = 11;
+
+pub const SENDER_TABLE: u8 = 18;
+
+pub const FORBIDDEN: u8 = 19;

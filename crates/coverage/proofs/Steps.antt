@@ -1,7 +1,6 @@
 -- One rule of a search, as the code goes: a set, a pair, the receivers that are added, the rule that is noted. Assumes nothing.
 use Prim.Native.Nat.{ℕ, suc, _+_, _/_, _%_, _^_, _≤_, _<_}
 use native.Mathlib.Nat.{div-eq-of-lt, lt-of-lt-of-le}
-use native.Mathlib.Numerals.{add-one}
 use mathlib.Core.Path.{_≡_, refl, _∙_, ap}
 use mathlib.Core.Bool.{Bool, true, false, _&&_}
 use borrow.Author.Tests.{eq-eqb, ne-eqb}
@@ -59,9 +58,9 @@ noted-other s n h k = rw (ne-eqb (s .first) 0 h, ne-eqb (s .second) 0 k)
 -- a rule with the pair, and one without
 module _ (s t : Search) (number : ℕ) (rule : Rule) (c : Bool) (p : t ≡ joinedBy s (rule .from) (rule .to))
     (q : c ≡ (inSet (rule .from) (s .sender) && inSet (rule .to) (s .receiver))) where
-  pub met-with : (u : Search) → u ≡ notedBy t (number + 1) → c ≡ true → u ≡ metBy s number rule
+  pub met-with : (u : Search) → u ≡ notedBy t (number + 2) → c ≡ true → u ≡ metBy s number rule
   unfolding metBy
-  met-with u e h = e ∙ ap (λ (x : Search). notedBy x (number + 1)) p ∙ rw (← q, h, add-one number)
+  met-with u e h = e ∙ ap (λ (x : Search). notedBy x (number + 2)) p ∙ rw (← q, h)
 
   pub met-without : c ≡ false → t ≡ metBy s number rule
   unfolding metBy

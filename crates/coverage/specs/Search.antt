@@ -4,6 +4,7 @@ use mathlib.Core.Bool.{cond, _&&_}
 use mathlib.Core.List.{List, [], _∷_}
 use lib.Bits.{bitAnd, bitOr}
 use lib.Dec.{eqb}
+use Rattle.model.specs.Place.{lineOf}
 use Rattle.model.specs.Senders.{inSet}
 use Rattle.coverage.specs.declared.Rule.{Rule}
 use Rattle.coverage.specs.declared.Search.{Search}
@@ -26,20 +27,20 @@ joinedBy s from to =
     })
     s
 
--- a rule with the pair is noted if it is one of the first two
+-- a rule with the pair, at a line, is noted if it is one of the first two
 unfoldable pub notedBy : Search → ℕ → Search
-notedBy s number =
+notedBy s line =
     cond (eqb (s .first) 0)
-    (record { sender = s .sender; receiver = s .receiver; once = s .once; twice = s .twice; first = number; second = s .second })
+    (record { sender = s .sender; receiver = s .receiver; once = s .once; twice = s .twice; first = line; second = s .second })
     (cond (eqb (s .second) 0)
-    (record { sender = s .sender; receiver = s .receiver; once = s .once; twice = s .twice; first = s .first; second = number })
+    (record { sender = s .sender; receiver = s .receiver; once = s .once; twice = s .twice; first = s .first; second = line })
     s)
 
 -- the search behind the rule with the given number, from 0
 unfoldable pub metBy : Search → ℕ → Rule → Search
 metBy s number r =
     cond (inSet (r .from) (s .sender) && inSet (r .to) (s .receiver))
-    (notedBy (joinedBy s (r .from) (r .to)) (suc number)) (joinedBy s (r .from) (r .to))
+    (notedBy (joinedBy s (r .from) (r .to)) (lineOf number)) (joinedBy s (r .from) (r .to))
 
 -- the search over the rules; i is the number of the first
 unfoldable pub searched : ℕ → List Rule → Search → Search

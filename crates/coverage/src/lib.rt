@@ -16,8 +16,8 @@ pub struct Rule {
     pub verdict: u8,
 }
 
-// What a search over the rules has met, for one sender: the receivers that are in some rule with it, and those in two or more; and, of the rules
-// that the sender and the one receiver are in, the first two, numbered from 1. 0 is no rule.
+// What a search over the rules has met, for one sender: the receivers that are in some rule with it, and those in two or more; and the lines
+// of the first two rules that the sender and the one receiver are in. Line 0 is no rule's.
 pub struct Search {
     pub sender: u32,
     pub receiver: u32,
@@ -60,28 +60,28 @@ fn joined(mut s: Search, from: u16, to: u16) -> Search
     s
 }
 
-// The rule with the given number, from 1, is noted if it is one of the first two.
-fn noted(mut s: Search, number: usize) -> Search
-    ensures { λ r. ⌜ r ≡ notedBy s number ⌝ }
+// A rule with the pair, at the given line, is noted if it is one of the first two.
+fn noted(mut s: Search, line: usize) -> Search
+    ensures { λ r. ⌜ r ≡ notedBy s line ⌝ }
 {
     if s.first == 0 {
-        s.first = number;
+        s.first = line;
         return s;
     }
     if s.second == 0 {
-        s.second = number;
+        s.second = line;
     }
     s
 }
 
-// The search behind the rule with the given number, from 0.
+// The search behind the rule with the given number, from 0; rule 0 stands at line 2.
 fn met(s: Search, number: usize, rule: Rule) -> Search
-    requires { ⌜ number + 1 < 2 ^ 64 ⌝ }
+    requires { ⌜ number + 2 < 2 ^ 64 ⌝ }
     ensures { λ r. ⌜ r ≡ metBy s number rule ⌝ }
 {
     let t = joined(s, rule.from, rule.to);
     if is_covered(rule.from, rule.to, s.sender, s.receiver) {
-        noted(t, number + 1)
+        noted(t, number + 2)
     } else {
         t
     }

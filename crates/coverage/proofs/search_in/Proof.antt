@@ -155,7 +155,7 @@ module _ {M : Type 1} (𝓤 : URA M) (H : Heap 𝓤) (A : Atoms 𝓤) (W : Given
   abbrev to : Search → Val → ℕ → Rule → Met 𝓤 H A mem run .Ghost
   to t v k r = ((tt, tt, tt, (t, (k, (r, tt))), (v ∷ [], (vint w64 k ∷ [], (ruleVal r ∷ [], tt)))), tt)
 
-  asked : (t : Search) (v : Val) (k : ℕ) (r : Rule) → k + 1 < 2 ^ 64
+  asked : (t : Search) (v : Val) (k : ℕ) (r : Rule) → k + 2 < 2 ^ 64
       → ent 𝓤 (sep 𝓤 (sem 𝓤 H A (R.the-row .own r (ruleVal r ∷ []))) (sem 𝓤 H A (OwnS t v))) (Met 𝓤 H A mem run .pre (to t v k r))
   asked t v k r fits =
       qed W (‵ (R.the-row .own r (ruleVal r ∷ [])) ∷ ‵ (OwnS t v) ∷ []) ∵ says ! fits $
@@ -241,7 +241,7 @@ module _ {M : Type 1} (𝓤 : URA M) (H : Heap 𝓤) (A : Atoms 𝓤) (W : Given
           move ! (1 ∷ []) $ use1 W (‵ (OwnR (ruleAt i)) ⊛ ‵ (OwnR (ruleAt i))) (LL.copy R.the-type R′.the-copy 𝓤 H A W .twice (ruleAt i) (ruleVal (ruleAt i) ∷ [])) $ split ! $
           move ! (2 ∷ 0 ∷ 3 ∷ []) $ elem-back ! R.the-row q′ ys i no-rule (ruleVal (ruleAt i) ∷ []) b o small $
           -- [the rules; what the rule owns; what t owns; _3; …]
-          move ! (1 ∷ 2 ∷ []) $ use2 W (raw (Met 𝓤 H A mem run .pre (to t v i (ruleAt i)))) (asked t v i (ruleAt i) next-fits) $
+          move ! (1 ∷ 2 ∷ []) $ use2 W (raw (Met 𝓤 H A mem run .pre (to t v i (ruleAt i)))) (asked t v i (ruleAt i) (omega (arith, g .1))) $
           calls-at ! (fmOf 𝓤 H (W .laws) 𝓣) (Met 𝓤 H A mem run) known (to t v i (ruleAt i))
           (and-then ! (load ! (from ! (stop !)) (look ! 3 refl)) (and-then ! (load ! (from ! (stop !)) (look ! 2 refl)) (and-then ! (load ! (from ! (stop !)) (look ! 7 refl)) (no-more !)))) (λ u.
           use1 W (later (some (λ (r : Search). (‵ ftrue ⊛ ‵ (OwnS r u)) ⊛ raw (ensured 𝓤 H A met.ended (met.clauses 𝓤 H A mem run) tt (t, (i, (ruleAt i, tt))) tt r)))) (id⊢ 𝓤 _) $

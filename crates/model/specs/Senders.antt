@@ -25,11 +25,13 @@ pub record Rule : Type 0 where
   pub verdict : ℕ
 
 -- The table's text. Its names line, line 1, is `from to verdict`.
+unfoldable pub areNames : List (List ℕ) → Bool
+areNames fs = same (ascii "from") (getD fs 0 []) && same (ascii "to") (getD fs 1 []) && same (ascii "verdict") (getD fs 2 [])
+
 unfoldable pub isNamesLine : Line → Bool
 isNamesLine l =
     let fs = fieldsOf (l .bytes) in
-    l .ended && eqb (length fs) 3
-    && (same (ascii "from") (getD fs 0 []) && same (ascii "to") (getD fs 1 []) && same (ascii "verdict") (getD fs 2 []))
+    l .ended && eqb (length fs) 3 && areNames fs
 
 -- two sets and a verdict
 unfoldable pub ruleFrom : Option ℕ → Option ℕ → Option ℕ → Option Rule
@@ -38,12 +40,14 @@ ruleFrom (some a) none verdict = none
 ruleFrom (some a) (some b) none = none
 ruleFrom (some a) (some b) (some v) = some (record { from = a; to = b; verdict = v })
 
+unfoldable pub ruleIn : List (List ℕ) → Option Rule
+ruleIn fs = ruleFrom (numberUpTo setMost (getD fs 0 [])) (numberUpTo setMost (getD fs 1 [])) (numberUpTo verdictMost (getD fs 2 []))
+
 -- a line of a rule: three numbers, one space between, and its line end
 unfoldable pub ruleOf : Line → Option Rule
 ruleOf l =
     let fs = fieldsOf (l .bytes) in
-    cond (l .ended && eqb (length fs) 3)
-    (ruleFrom (numberUpTo setMost (getD fs 0 [])) (numberUpTo setMost (getD fs 1 [])) (numberUpTo verdictMost (getD fs 2 []))) none
+    cond (l .ended && eqb (length fs) 3) (ruleIn fs) none
 
 unfoldable pub aheadOfRule : Rule → Out (List Rule) → Out (List Rule)
 aheadOfRule r (ok rs) = ok (r ∷ rs)

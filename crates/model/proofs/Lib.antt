@@ -31,3 +31,4 @@ pub mod FinishedRuns
 pub mod Ahead
 pub mod Course
 pub mod Taps
+pub mod Senders

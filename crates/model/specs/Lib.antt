@@ -16,4 +16,5 @@ pub mod Verdict
 pub mod Replay
 pub mod Wired
 pub mod Taps
+pub mod Senders
 pub mod Marked

@@ -34,6 +34,13 @@ pub const TRACE_LEAST: usize = 2 * (3 * MESSAGES_MOST);
 // The output of the two taps.
 pub const TAP_NUMBERS_LEAST: usize = 512;
 
+// The table of permitted senders: rules, the largest set of boards, the largest verdict.
+pub const RULES_MOST: usize = 64;
+
+pub const SET_MOST: usize = 65535;
+
+pub const VERDICT_MOST: usize = 1;
+
 // The refusals, by the numbers of the paper's table.
 pub const CHANNEL: u8 = 1;
 
@@ -60,3 +67,7 @@ pub const CIRCLE: u8 = 11;
 pub const TRACE: u8 = 12;
 
 pub const TAP: u8 = 20;
+
+pub const SENDER_TABLE: u8 = 18;
+
+pub const FORBIDDEN: u8 = 19;

@@ -1,0 +1,252 @@
+-- The judgement of a table of permitted senders is the request's: sound exactly if each pair is in exactly one rule, else its lowest faulty
+-- pair, a gap in no rule, a clash with its first two rules. Assumes nothing.
+use Prim.Native.Nat.{ℕ, zero, suc, _+_, _-_, _<_, _≤_}
+use native.Mathlib.Nat.{add-zero, zero-add}
+use native.Mathlib.Omega.{arith}
+use mathlib.Core.Path.{_≡_, refl, sym, _∙_, ap, subst}
+use mathlib.Core.Logic.{_↔_, _⊎_, inl, inr, ⊎-elim}
+use mathlib.Core.Bool.{Bool, true, false, not, cond, _&&_}
+use mathlib.Core.List.{List, [], _∷_}
+use mathlib.Core.Option.{Option, none, some}
+use borrow.Author.Tests.{eq-eqb, eqb-true, eqb-false, not-true, not-false}
+use lib.Dec.{eqb, leb, ltb}
+use lib.ListN.{length, getD, drop, length-drop}
+use lib.Seq.{getD-drop}
+use Rattle.model.specs.Limits.{textMost, rulesMost, pairs}
+use Rattle.model.specs.Bounded.{lowest}
+use Rattle.model.specs.Refusal.{Out, ok, refusal, senderTableRefusal}
+use Rattle.model.specs.Text.{Line, linesOf}
+use Rattle.model.specs.Place.{lineOf}
+use Rattle.model.specs.Answer.{Numbers}
+use Rattle.model.specs.Senders.{Rule, isNamesLine, ruleOf, aheadOfRule, rulesFrom, rulesBehind, rulesOf, covers, rulesWith, isFaulty, Soundness, sound, gap, clash, malformed, faultOf, soundnessOf, judgedTable, tableAnswer, soundWord, gapWord, clashWord, tableRefusedWord, tableNumbers, noRule, isIn, InOne, NoneLower, Gap, Clash, TableJudged}
+use Rattle.model.proofs.Bounded.{not-both, apart, Found, IsLowest, lowest-found}
+use Rattle.model.proofs.Refusal.{not-refused}
+
+-- The rules that a pair is in: none; or the first, and those among the rules behind it.
+abbrev First : ℕ → ℕ → List Rule → List ℕ → Type 0
+First pair i rs [] = Gap rs pair
+First pair i rs (a ∷ ks) =
+    (k : ℕ) × (a ≡ i + k) × (k < length rs) × isIn rs pair k × ((j : ℕ) → j < k → isIn rs pair j → ⊥) × (ks ≡ rulesWith pair (suc a) (drop (suc k) rs))
+
+first-behind : (pair i : ℕ) (r : Rule) (rs : List Rule) (ks : List ℕ) → covers r pair ≡ false → First pair (suc i) rs ks → First pair i (r ∷ rs) ks
+first-behind pair i r rs [] e f = λ k l h. at k l h
+  where
+    at : (k : ℕ) → k < suc (length rs) → isIn (r ∷ rs) pair k → ⊥
+    at zero l h = not-both (covers r pair) h e
+    at (suc k) l h = f k (omega arith) h
+first-behind pair i r rs (a ∷ ks) e (k, p, l, h, before, rest) = (suc k, omega arith, omega arith, h, at, rest)
+  where
+    at : (j : ℕ) → j < suc k → isIn (r ∷ rs) pair j → ⊥
+    at zero m g = not-both (covers r pair) g e
+    at (suc j) m g = before j (omega arith) g
+
+first-with : (pair i : ℕ) (rs : List Rule) → First pair i rs (rulesWith pair i rs)
+unfolding rulesWith
+first-with pair i [] = λ k l h. omega arith
+first-with pair i (r ∷ rs) = go (covers r pair) refl (first-with pair (suc i) rs)
+  where
+    go : (b : Bool) → covers r pair ≡ b → First pair (suc i) rs (rulesWith pair (suc i) rs)
+        → First pair i (r ∷ rs) (cond b (i ∷ rulesWith pair (suc i) rs) (rulesWith pair (suc i) rs))
+    go true e f = (0, sym (add-zero i), omega arith, e, λ j l h. omega arith, refl)
+    go false e f = first-behind pair i r rs (rulesWith pair (suc i) rs) e f
+
+-- what the judgement of well-formed rules says of them
+abbrev Judged : List Rule → Soundness → Type 0
+Judged rules sound = (q : ℕ) → q < pairs → InOne rules q
+Judged rules (gap q) = NoneLower rules q × Gap rules q
+Judged rules (clash q a b) = NoneLower rules q × Clash rules q a b
+Judged rules (malformed number line) = ⊥
+
+module _ (rules : List Rule) (pair : ℕ) where
+  abbrev found : List ℕ
+  found = rulesWith pair 0 rules
+
+  first-of : (ks : List ℕ) → found ≡ ks → First pair 0 rules ks
+  first-of ks e = subst (λ (l : List ℕ). First pair 0 rules l) e (first-with pair 0 rules)
+
+  -- the rules behind the first, as rules of the table
+  behind : (k j : ℕ) → isIn (drop k rules) pair j → isIn rules pair (k + j)
+  behind k j h = rw (← getD-drop k rules j noRule) h
+
+  among-behind : (k j : ℕ) → k ≤ j → isIn rules pair j → isIn (drop k rules) pair (j - k)
+  among-behind k j l h = let e : k + (j - k) ≡ j = omega arith in rw (getD-drop k rules (j - k) noRule, e) h
+
+  gap-of : found ≡ [] → Gap rules pair
+  gap-of e = first-of [] e
+
+  -- one rule: none ahead of it, and none behind it
+  one-of : (a : ℕ) → found ≡ a ∷ [] → InOne rules pair
+  one-of a e = go (first-of (a ∷ []) e)
+    where
+      go : First pair 0 rules (a ∷ []) → InOne rules pair
+      go (k, p, l, h, ahead, rest) =
+          record {
+            rule = k;
+            there = l;
+            inIt = h;
+            alone = λ j m g. ⊎-elim (λ (q : j ≡ k). q)
+                (⊎-elim (λ (q : j < k). absurd (ahead j q g)) (λ (q : k < j). absurd (later j q m g))) (apart j k);
+          }
+        where
+          after : Gap (drop (suc k) rules) pair
+          after = subst (λ (l′ : List ℕ). First pair (suc a) (drop (suc k) rules) l′) (sym rest) (first-with pair (suc a) (drop (suc k) rules))
+
+          later : (j : ℕ) → k < j → j < length rules → isIn rules pair j → ⊥
+          later j q m g = after (j - suc k) (simp length-drop (omega arith)) (among-behind (suc k) j q g)
+
+  -- two rules: the first two
+  two-of : (a b : ℕ) (ks : List ℕ) → found ≡ a ∷ b ∷ ks → Clash rules pair (lineOf a) (lineOf b)
+  two-of a b ks e = go (first-of (a ∷ b ∷ ks) e)
+    where
+      second : (k : ℕ) → a ≡ 0 + k → isIn rules pair k → ((j : ℕ) → j < k → isIn rules pair j → ⊥) → First pair (suc a) (drop (suc k) rules) (b ∷ ks)
+          → Clash rules pair (lineOf a) (lineOf b)
+      second k p h ahead (n, p′, l′, h′, ahead′, rest) =
+          let e′ : suc k + n ≡ b = omega arith in
+          record {
+            first = a;
+            second = b;
+            lines = (refl, refl);
+            inOrder = (omega arith, omega (arith, length-drop (suc k) rules));
+            inBoth = (rw (p, zero-add k) h, rw (← e′) (behind (suc k) n h′));
+            firstTwo = λ j m g. ⊎-elim (λ (q : j ≡ k). omega arith)
+                (⊎-elim (λ (q : j < k). absurd (ahead j q g)) (λ (q : k < j). absurd (ahead′ (j - suc k) (omega arith) (among-behind (suc k) j q g)))) (apart j k);
+          }
+
+      go : First pair 0 rules (a ∷ b ∷ ks) → Clash rules pair (lineOf a) (lineOf b)
+      go (k, p, l, h, ahead, rest) =
+          second k p h ahead
+          (subst (λ (l′ : List ℕ). First pair (suc a) (drop (suc k) rules) l′) (sym rest) (first-with pair (suc a) (drop (suc k) rules)))
+
+  -- a pair in exactly one rule is neither a gap nor a clash
+  not-gap : InOne rules pair → Gap rules pair → ⊥
+  not-gap o g = g (o .rule) (o .there) (o .inIt)
+
+  not-clash : (a b : ℕ) → InOne rules pair → Clash rules pair a b → ⊥
+  not-clash a b o c =
+      let p : c .first ≡ o .rule = o .alone (c .first) (omega (arith, c .inOrder)) (c .inBoth .0) in
+      let q : c .second ≡ o .rule = o .alone (c .second) (c .inOrder .1) (c .inBoth .1) in
+      omega (arith, c .inOrder .0)
+
+  -- a pair is faulty exactly if it is not in exactly one rule
+  faultless : isFaulty rules pair ≡ false → InOne rules pair
+  unfolding isFaulty
+  faultless h = go found refl (eqb-true (length found) 1 (not-false (eqb (length found) 1) h))
+    where
+      go : (ks : List ℕ) → found ≡ ks → length ks ≡ 1 → InOne rules pair
+      go [] e l = absurd (omega arith)
+      go (a ∷ []) e l = one-of a e
+      go (a ∷ b ∷ ks) e l = absurd (omega arith)
+
+  fault-judged : NoneLower rules pair → isFaulty rules pair ≡ true → Judged rules (faultOf pair found)
+  unfolding isFaulty faultOf
+  fault-judged n h = go found refl (eqb-false (length found) 1 (not-true (eqb (length found) 1) h))
+    where
+      go : (ks : List ℕ) → found ≡ ks → (length ks ≡ 1 → ⊥) → Judged rules (faultOf pair ks)
+      go [] e l = (n, gap-of e)
+      go (a ∷ []) e l = absurd (l refl)
+      go (a ∷ b ∷ ks) e l = (n, two-of a b ks e)
+
+judged : (rules : List Rule) → Judged rules (soundnessOf rules)
+unfolding soundnessOf
+judged rules = go (lowest pairs (isFaulty rules)) (lowest-found pairs (isFaulty rules))
+  where
+    go : (o : Option ℕ) → Found pairs (isFaulty rules) o
+        → Judged rules (elim o [ none ↦ sound | some pair ↦ faultOf pair (rulesWith pair 0 rules) ])
+    go none f = λ q l. faultless rules q (f q l)
+    go (some pair) f = fault-judged rules pair (f .below, λ q l. faultless rules q (f .first q l)) (f .passes)
+
+-- a table is refused with 18 alone
+abbrev By18 : Out (List Rule) → Type 0
+By18 (ok rules) = Unit {0}
+By18 (refusal number line) = number ≡ senderTableRefusal
+
+by-18-ahead : (r : Rule) (o : Out (List Rule)) → By18 o → By18 (aheadOfRule r o)
+unfolding aheadOfRule
+by-18-ahead r (ok rs) h = tt
+by-18-ahead r (refusal number line) h = h
+
+by-18-cond : (t : Bool) (o p : Out (List Rule)) → By18 o → By18 p → By18 (cond t o p)
+by-18-cond true o p h k = h
+by-18-cond false o p h k = k
+
+by-18-from : (i : ℕ) (ls : List Line) → By18 (rulesFrom i ls)
+unfolding rulesFrom
+by-18-from i [] = tt
+by-18-from i (l ∷ ls) = go (cond (ltb i rulesMost) (ruleOf l) none) (by-18-from (suc i) ls)
+  where
+    go : (o : Option Rule) → By18 (rulesFrom (suc i) ls)
+        → By18 (elim o [ none ↦ refusal senderTableRefusal (lineOf i) | some r ↦ aheadOfRule r (rulesFrom (suc i) ls) ])
+    go none h = refl
+    go (some r) h = by-18-ahead r (rulesFrom (suc i) ls) h
+
+by-18 : (table : List ℕ) → By18 (rulesOf table)
+unfolding rulesOf rulesBehind
+by-18 table =
+    by-18-cond (ltb 0 (length table) && leb (length table) textMost) (rulesBehind (linesOf table)) (refusal senderTableRefusal 0) (go (linesOf table)) refl
+  where
+    go : (ls : List Line) → By18 (rulesBehind ls)
+    go [] = refl
+    go (h ∷ ls) = by-18-cond (isNamesLine h) (rulesFrom 0 ls) (refusal senderTableRefusal 1) (by-18-from 0 ls) refl
+
+-- What the numbers of an answer say, by the rules read, or the refusal, and their judgement.
+abbrev Answered : Out (List Rule) → Soundness → Type 0
+Answered (ok rules) s = Judged rules s
+Answered (refusal number line) s = (number ≡ senderTableRefusal) × (s ≡ malformed number line)
+
+abbrev AllOnce : List Rule → Type 0
+AllOnce rules = (pair : ℕ) → pair < pairs → InOne rules pair
+
+same-rules : (C : List Rule → Type 0) (rules ks : List Rule) → ok rules ≡ ok ks → C rules → C ks
+same-rules C rules ks e h = let d : rules ≡ ks = cc in subst C d h
+
+sound-when : (o : Out (List Rule)) (s : Soundness) → Answered o s → ((tableNumbers s) .word ≡ soundWord) ↔ ((rules : List Rule) × (o ≡ ok rules) × AllOnce rules)
+sound-when (ok rules) sound h = (λ w. (rules, refl, h), λ w. refl)
+sound-when (ok rules) (gap q) h =
+    (λ w. absurd (omega arith), λ (ks, e, all). absurd (not-gap ks q (all q (h .0 .0)) (same-rules (λ rs. Gap rs q) rules ks e (h .1))))
+sound-when (ok rules) (clash q a b) h = (λ w. absurd (omega arith), λ (ks, e, all). absurd (not-clash ks q a b (all q (h .0 .0)) (same-rules (λ rs. Clash rs q a b) rules ks e (h .1))))
+sound-when (ok rules) (malformed number line) h = absurd h
+sound-when (refusal number line) s (p, q) = rw q (λ w. absurd (omega arith), λ (ks, e, all). not-refused e)
+
+gap-named : (o : Out (List Rule)) (s : Soundness) → Answered o s → (rules : List Rule) → o ≡ ok rules → (tableNumbers s) .word ≡ gapWord
+    → NoneLower rules ((tableNumbers s) .one) × Gap rules ((tableNumbers s) .one)
+gap-named (ok rules) sound h ks e w = absurd (omega arith)
+gap-named (ok rules) (gap q) h ks e w = same-rules (λ rs. NoneLower rs q × Gap rs q) rules ks e h
+gap-named (ok rules) (clash q a b) h ks e w = absurd (omega arith)
+gap-named (ok rules) (malformed number line) h ks e w = absurd h
+gap-named (refusal number line) s h ks e w = not-refused e
+
+clash-named : (o : Out (List Rule)) (s : Soundness) → Answered o s → (rules : List Rule) → o ≡ ok rules → (tableNumbers s) .word ≡ clashWord
+    → NoneLower rules ((tableNumbers s) .one) × Clash rules ((tableNumbers s) .one) ((tableNumbers s) .two) ((tableNumbers s) .three)
+clash-named (ok rules) sound h ks e w = absurd (omega arith)
+clash-named (ok rules) (gap q) h ks e w = absurd (omega arith)
+clash-named (ok rules) (clash q a b) h ks e w = same-rules (λ rs. NoneLower rs q × Clash rs q a b) rules ks e h
+clash-named (ok rules) (malformed number line) h ks e w = absurd h
+clash-named (refusal number line) s h ks e w = not-refused e
+
+refused-when : (o : Out (List Rule)) (s : Soundness) → Answered o s
+    → ((tableNumbers s) .word ≡ tableRefusedWord) ↔ (o ≡ refusal senderTableRefusal ((tableNumbers s) .two))
+refused-when (ok rules) sound h = (λ w. absurd (omega arith), λ e. absurd (not-refused (sym e)))
+refused-when (ok rules) (gap q) h = (λ w. absurd (omega arith), λ e. absurd (not-refused (sym e)))
+refused-when (ok rules) (clash q a b) h = (λ w. absurd (omega arith), λ e. absurd (not-refused (sym e)))
+refused-when (ok rules) (malformed number line) h = absurd h
+refused-when (refusal number line) s (p, q) = rw (q, p) (λ w. refl, λ e. refl)
+
+module _ (table : List ℕ) where
+  answered : Answered (rulesOf table) (tableAnswer table)
+  unfolding tableAnswer judgedTable
+  answered = go (rulesOf table) (by-18 table)
+    where
+      go : (o : Out (List Rule)) → By18 o → Answered o (judgedTable o)
+      go (ok rules) h = judged rules
+      go (refusal number line) h = (h, refl)
+
+  pub table-judged : (r : Numbers) → r ≡ tableNumbers (tableAnswer table) → TableJudged table r
+  table-judged r e =
+      subst (λ (n : Numbers). TableJudged table n) (sym e)
+      (record {
+        answer = refl;
+        soundWhen = sound-when (rulesOf table) (tableAnswer table) answered;
+        gapNamed = gap-named (rulesOf table) (tableAnswer table) answered;
+        clashNamed = clash-named (rulesOf table) (tableAnswer table) answered;
+        refusedWhen = refused-when (rulesOf table) (tableAnswer table) answered;
+      })

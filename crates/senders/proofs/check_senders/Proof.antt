@@ -14,7 +14,7 @@ enum-known-verdict-2 : tie.Need-enum-known-verdict-2
 enum-known-verdict-2 c = search needs
 
 judge-requires : tie.Need-judge-requires
-judge-requires c κs = search judged-few
+judge-requires c κs = search (judged-few, needs)
 
 returns : tie.Need-returns
 returns c = search judged-malformed

@@ -7,7 +7,7 @@ ghost use Prim.Native.Nat.{_+_, _^_, _≤_, _<_};
 ghost use lib.ListN.{take};
 ghost use Rattle.model.specs.Limits.{rulesMost};
 ghost use Rattle.model.specs.Senders.{inSet};
-ghost use Rattle.coverage.specs.Search.{joinedBy, notedBy, metBy, searched};
+ghost use Rattle.coverage.specs.Search.{begun, joinedBy, notedBy, metBy, searched};
 
 // A rule: the boards that may send, or may not, to the boards of the other set. Bit k of a set is board k.
 pub struct Rule {
@@ -19,19 +19,33 @@ pub struct Rule {
 // What a search over the rules has met, for one sender: the receivers that are in some rule with it, and those in two or more; and the lines
 // of the first two rules that the sender and the one receiver are in. Line 0 is no rule's.
 pub struct Search {
-    pub sender: u32,
-    pub receiver: u32,
+    pub sender: usize,
+    pub receiver: usize,
     pub once: u16,
     pub twice: u16,
     pub first: usize,
     pub second: usize,
 }
 
+// A search for a sender and a receiver, ahead of the first rule.
+pub fn begin(sender: usize, receiver: usize) -> Search
+    ensures { λ r. ⌜ r ≡ begun sender receiver ⌝ }
+{
+    Search {
+        sender,
+        receiver,
+        once: 0,
+        twice: 0,
+        first: 0,
+        second: 0,
+    }
+}
+
 // The board is in the set.
-pub fn in_set(set: u16, board: u32) -> bool
+pub fn in_set(set: u16, board: usize) -> bool
     ensures { λ r. ⌜ r ≡ inSet set board ⌝ }
 {
-    if board < BOARDS as u32 {
+    if board < BOARDS {
         (set >> board) & 1 == 1
     } else {
         false
@@ -39,7 +53,7 @@ pub fn in_set(set: u16, board: u32) -> bool
 }
 
 // The single-rule test: the pair of sender and receiver is in the rule of these two sets.
-pub fn is_covered(from: u16, to: u16, sender: u32, receiver: u32) -> bool
+pub fn is_covered(from: u16, to: u16, sender: usize, receiver: usize) -> bool
     ensures { λ r. ⌜ r ≡ (inSet from sender && inSet to receiver) ⌝ }
 {
     if in_set(from, sender) {

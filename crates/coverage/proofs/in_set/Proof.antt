@@ -4,9 +4,6 @@ use borrow.Author.Needs.{needs}
 use Rattle.coverage.proofs.in_set.Statement.{statement}
 use Rattle.coverage.proofs.in_set.Tie as tie
 
-cast-if1 : tie.Need-cast-if1
-cast-if1 c = search needs
-
 cast-result : tie.Need-cast-result
 cast-result c = search needs
 
@@ -20,4 +17,4 @@ returns-2 : tie.Need-returns-2
 returns-2 c = search (no-board, needs)
 
 pub in-set-spec : {M : Type 1} → statement M
-in-set-spec = tie.close (tie.spec cast-if1 cast-result shr-result returns returns-2)
+in-set-spec = tie.close (tie.spec cast-result shr-result returns returns-2)

@@ -22,4 +22,6 @@ pub mod Jam
 pub mod Withholding
 pub mod Orders
 pub mod PointThree
+pub mod MessageLines
 pub mod Senders
+pub mod Permitted

@@ -22,6 +22,14 @@ use Rattle.model.specs.Senders.{Rule, isNamesLine, ruleOf, aheadOfRule, 
 use Rattle.model.proofs.Bounded.{not-both, apart, Found, IsLowest, lowest-found}
 use Rattle.model.proofs.Refusal.{not-refused}
 
+-- nothing is found below a bound where nothing there passes
+pub none-of : (n : ℕ) (p : ℕ → Bool) → ((k : ℕ) → k < n → p k ≡ false) → lowest n p ≡ none
+none-of n p h = go (lowest n p) (lowest-found n p)
+  where
+    go : (o : Option ℕ) → Found n p o → o ≡ none
+    go none f = refl
+    go (some k) f = not-both (p k) (f .passes) (h k (f .below))
+
 -- The rules that a pair is in: none; or the first, and those among the rules behind it.
 abbrev First : ℕ → ℕ → List Rule → List ℕ → Type 0
 First pair i rs [] = Gap rs pair

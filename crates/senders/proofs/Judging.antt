@@ -14,7 +14,7 @@ use Rattle.model.specs.Refusal.{ok, refusal, senderTableRefusal}
 use Rattle.model.specs.Place.{lineOf}
 use Rattle.model.specs.Senders.{pairOf, rulesWith, isFaulty, Soundness, sound, gap, clash, malformed, faultOf, soundnessOf, rulesOf, judgedTable, tableAnswer, tableNumbers, TableJudged}
 use Rattle.model.proofs.Bounded.{lowest-none, lowest-hit, not-both}
-use Rattle.model.proofs.Senders.{table-judged}
+use Rattle.model.proofs.Senders.{none-of, table-judged}
 use Rattle.coverage.specs.Rules.{rulesAs}
 use Rattle.coverage.specs.Search.{begun, searched}
 use Rattle.coverage.specs.declared.Rule.{Rule}
@@ -27,7 +27,7 @@ use Rattle.sender_table.specs.declared.Verdict.the-variants as verdict
 use Rattle.senders.specs.Judgement.{judgementAs, numbersFor, isFault, lowestFault}
 use Rattle.senders.specs.declared.Judgement.{Judgement}
 use Rattle.senders.specs.declared.Judgement.the-variants.{Sound, Gap, Clash, Refused}
-use Rattle.senders.proofs.Receivers.{none-of, fault-first, fault-nowhere}
+use Rattle.senders.proofs.Receivers.{fault-first, fault-nowhere}
 
 -- no pair of the senders passed is faulty
 pub record Judging (rs : List Rule) (sender : ℕ) : Type 0 where

@@ -3,7 +3,7 @@
 use Prim.Native.Nat.{ℕ, zero, suc, _+_, _*_, _<_}
 use native.Mathlib.Nat.{zero-add, add-zero, eq-or-lt-of-le, le-of-suc-le-suc, not-suc-le-zero}
 use native.Mathlib.Omega.{arith}
-use mathlib.Core.Path.{_≡_, refl, sym, _∙_, ap, subst}
+use mathlib.Core.Path.{_≡_, refl, sym, _∙_, ap}
 use mathlib.Core.Logic.{⊎-elim}
 use mathlib.Core.Bool.{Bool, true, false}
 use mathlib.Core.List.{List, [], _∷_, _++_}
@@ -11,7 +11,7 @@ use lib.Dec.{eqb, ltb}
 use lib.ListN.{length, getD, drop, length-append, List·getD-append}
 use lib.Seq.{getD-drop, getD-at, getD-append-add, drop-drop}
 use Rattle.model.specs.Limits.{messagesMost, levels, callsMost}
-use Rattle.model.specs.Refusal.{Out, ok, refusal, andThen, depthRefusal, callsRefusal, messagesRefusal}
+use Rattle.model.specs.Refusal.{Out, ok, refusal, andThen, callsRefusal, messagesRefusal}
 use Rattle.model.specs.Rows.{Row, sheet, message, order, block, call}
 use Rattle.model.specs.Place.{lineOf}
 use Rattle.model.specs.Expansion.{Walk, freshWalk, Progress, startOf, blockOpened, callMade, messageMet, orderMet, walkRows, callAt, expand}

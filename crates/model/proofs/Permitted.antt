@@ -1,8 +1,8 @@
 -- The sheet check with a table of permitted senders: the check's outcome with a sound table, unless a message is forbidden. Assumes nothing.
 use Prim.Native.Nat.{ℕ, _+_, _*_, _<_}
 use mathlib.Core.Path.{_≡_, refl, sym, _∙_, ap, subst, subst⁻¹}
-use mathlib.Core.Bool.{Bool, true, false, not, cond, _&&_, _||_}
-use mathlib.Core.List.{List, [], _∷_}
+use mathlib.Core.Bool.{Bool, true, false, cond, _&&_, _||_}
+use mathlib.Core.List.{List, []}
 use mathlib.Core.Option.{Option, none, some}
 use lib.Dec.{leb, ltb}
 use lib.ListN.{length, getD}
@@ -10,18 +10,18 @@ use Rattle.model.specs.Limits.{textMost, channels, scratchLeast, traceLe
 use Rattle.model.specs.Bounded.{lowest}
 use Rattle.model.specs.Refusal.{Out, ok, refusal, andThen, channelRefusal, benchRefusal, lengthRefusal, senderTableRefusal, forbiddenRefusal}
 use Rattle.model.specs.Text.{linesOf}
-use Rattle.model.specs.Rows.{Row, block, message}
+use Rattle.model.specs.Rows.{message}
 use Rattle.model.specs.Place.{bodyOf, readOf}
 use Rattle.model.specs.Expansion.{Progress, expand}
-use Rattle.model.specs.Order.{Met, nothingMet, metOps, Scenario, exchangeOf, scenarioOf}
+use Rattle.model.specs.Order.{Met, Scenario, exchangeOf, scenarioOf}
 use Rattle.model.specs.Answer.{refused, Numbers, sheetOf, acceptedOf, answerFor, answerOf, numbersOf, scratchBehind, traceAfter}
 use Rattle.model.specs.Verdict.{Meets, Verdict}
 use Rattle.model.specs.Senders.{Rule, soundTable, isForbidden, withLines, lineOps, linesMet, permitted, permittedOf, MessageRow, FirstForbidden, PermittedCheck}
-use Rattle.model.proofs.Bounded.{which, not-both, lowest-none, lowest-hit}
+use Rattle.model.proofs.Bounded.{lowest-hit}
 use Rattle.model.proofs.Refusal.{not-refused, and-then-ok, cond-ok, cond-refused}
 use Rattle.model.proofs.Accepted.{SheetParts, sheet-parts, accepted-parts, sheet-meets}
 use Rattle.model.proofs.PointThree.{point-three}
-use Rattle.model.proofs.MessageLines.{AtRow, Alike, Both, expand-alike}
+use Rattle.model.proofs.MessageLines.{AtRow, Both, expand-alike}
 use Rattle.model.proofs.Senders.{none-of}
 
 -- a sheet of another length than 1 to 8,192 bytes is refused, 3

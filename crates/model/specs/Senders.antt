@@ -14,7 +14,7 @@ use Rattle.model.specs.Refusal.{Out, ok, refusal, andThen, channelRefusa
 use Rattle.model.specs.Text.{ascii, Line, linesOf, fieldsOf, numberUpTo}
 use Rattle.model.specs.Rows.{Row, sheet, message, order, block, call}
 use Rattle.model.specs.Place.{lineOf, readOf}
-use Rattle.model.specs.Expansion.{Ops, Progress, expand}
+use Rattle.model.specs.Expansion.{Ops, expand}
 use Rattle.model.specs.Order.{Scenario}
 use Rattle.model.specs.Answer.{refused, Numbers, sheetOf, acceptedOf, answerFor, numbersOf, scratchBehind, traceAfter}
 use Rattle.model.specs.Verdict.{Meets, Verdict}

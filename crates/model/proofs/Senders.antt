@@ -10,16 +10,16 @@ use mathlib.Core.List.{List, [], _∷_}
 use mathlib.Core.Option.{Option, none, some}
 use borrow.Author.Tests.{eqb-true, eqb-false, ltb-true, not-true, not-false}
 use lib.Dec.{eqb, leb, ltb}
-use lib.ListN.{length, drop, length-drop}
+use lib.ListN.{length, getD, drop, length-drop}
 use lib.Seq.{getD-drop}
 use Rattle.model.specs.Limits.{textMost, rulesMost, pairs}
-use Rattle.model.specs.Bounded.{lowest}
+use Rattle.model.specs.Bounded.{every, lowest}
 use Rattle.model.specs.Refusal.{Out, ok, refusal, senderTableRefusal}
 use Rattle.model.specs.Text.{Line, linesOf}
 use Rattle.model.specs.Place.{lineOf}
 use Rattle.model.specs.Answer.{Numbers}
-use Rattle.model.specs.Senders.{Rule, isNamesLine, ruleOf, aheadOfRule, rulesFrom, rulesBehind, rulesOf, covers, rulesWith, isFaulty, Soundness, sound, gap, clash, malformed, faultOf, soundnessOf, judgedTable, tableAnswer, soundWord, gapWord, clashWord, tableRefusedWord, tableNumbers, noRule, isIn, InOne, NoneLower, Gap, Clash, TableJudged}
-use Rattle.model.proofs.Bounded.{not-both, apart, Found, lowest-found}
+use Rattle.model.specs.Senders.{Rule, isNamesLine, ruleOf, aheadOfRule, rulesFrom, rulesBehind, rulesOf, covers, rulesWith, isFaulty, Soundness, sound, gap, clash, malformed, faultOf, soundnessOf, judgedTable, tableAnswer, soundWord, gapWord, clashWord, tableRefusedWord, tableNumbers, noRule, isIn, InOne, NoneLower, Gap, Clash, TableJudged, soundRules, permits}
+use Rattle.model.proofs.Bounded.{not-both, apart, Found, lowest-found, every-at, every-from, not-is-true, which}
 use Rattle.model.proofs.Refusal.{not-refused}
 
 -- nothing is found below a bound where nothing there passes
@@ -277,3 +277,50 @@ module _ (table : List ℕ) where
         clashNamed = clash-named (rulesOf table) (tableAnswer table) answered;
         refusedWhen = refused-when (rulesOf table) (tableAnswer table) answered;
       })
+
+-- The check with a table and the judgement of a table agree: its rules, or 18 without a line, as the judgement is sound or not.
+abbrev pub Agrees : List Rule → Soundness → Type 0
+Agrees rules sound = soundRules rules ≡ ok rules
+Agrees rules (gap q) = soundRules rules ≡ refusal senderTableRefusal 0
+Agrees rules (clash q a b) = soundRules rules ≡ refusal senderTableRefusal 0
+Agrees rules (malformed number line) = ⊥
+
+module _ (rules : List Rule) where
+  unsound : (pair : ℕ) → pair < pairs → isFaulty rules pair ≡ true → soundRules rules ≡ refusal senderTableRefusal 0
+  unfolding soundRules
+  unsound pair l h = go (every pairs (λ q. not (isFaulty rules q))) refl
+    where
+      go : (b : Bool) → every pairs (λ q. not (isFaulty rules q)) ≡ b → cond b (ok rules) (refusal senderTableRefusal 0) ≡ refusal senderTableRefusal 0
+      go true e = not-both (isFaulty rules pair) h (not-true (isFaulty rules pair) (every-at pairs (λ q. not (isFaulty rules q)) e pair l))
+      go false e = refl
+
+  fault-agrees : (pair : ℕ) (ks : List ℕ) → soundRules rules ≡ refusal senderTableRefusal 0 → (length ks ≡ 1 → ⊥) → Agrees rules (faultOf pair ks)
+  unfolding faultOf
+  fault-agrees pair [] e n = e
+  fault-agrees pair (i ∷ []) e n = absurd (n refl)
+  fault-agrees pair (i ∷ j ∷ ks) e n = e
+
+  pub agrees : Agrees rules (soundnessOf rules)
+  unfolding soundnessOf soundRules isFaulty
+  agrees = go (lowest pairs (isFaulty rules)) (lowest-found pairs (isFaulty rules))
+    where
+      go : (o : Option ℕ) → Found pairs (isFaulty rules) o
+          → Agrees rules (elim o [ none ↦ sound | some pair ↦ faultOf pair (rulesWith pair 0 rules) ])
+      go none f = rw (every-from pairs (λ q. not (isFaulty rules q)) (λ q l. not-is-true (isFaulty rules q) (f q l)))
+      go (some pair) f =
+          fault-agrees pair (rulesWith pair 0 rules) (unsound pair (f .below) (f .passes))
+          (eqb-false (length (rulesWith pair 0 rules)) 1 (not-true (eqb (length (rulesWith pair 0 rules)) 1) (f .passes)))
+
+-- In a sound table a pair is permitted as the one rule says that it is in.
+permits-first : (rs : List Rule) (pair k : ℕ) → k < length rs → isIn rs pair k → ((j : ℕ) → j < k → isIn rs pair j → ⊥)
+    → permits rs pair ≡ eqb ((getD rs k noRule) .verdict) 1
+unfolding permits
+permits-first [] pair k l h before = absurd (omega arith)
+permits-first (r ∷ rs) pair zero l h before = rw h
+permits-first (r ∷ rs) pair (suc k) l h before =
+    let e : covers r pair ≡ false = ⊎-elim (λ (t : covers r pair ≡ true). absurd (before 0 (omega arith) t)) (λ f. f) (which (covers r pair)) in
+    rw e (permits-first rs pair k (omega arith) h (λ j m g. before (suc j) (omega arith) g))
+
+pub permits-rule : (rules : List Rule) (pair : ℕ) (o : InOne rules pair) → permits rules pair ≡ eqb ((getD rules (o .rule) noRule) .verdict) 1
+permits-rule rules pair o =
+    permits-first rules pair (o .rule) (o .there) (o .inIt) (λ j l g. let e : j ≡ o .rule = o .alone j (omega (arith, o .there)) g in omega arith)

@@ -1,9 +1,10 @@
 -- The sheet check with a table of permitted senders: the check's outcome with a sound table, unless a message is forbidden. Assumes nothing.
-use Prim.Native.Nat.{ℕ, _+_, _*_, _<_}
+use Prim.Native.Nat.{ℕ, _+_, _*_, _<_, _≤_}
 use mathlib.Core.Path.{_≡_, refl, sym, _∙_, ap, subst, subst⁻¹}
 use mathlib.Core.Bool.{Bool, true, false, cond, _&&_, _||_}
 use mathlib.Core.List.{List, []}
 use mathlib.Core.Option.{Option, none, some}
+use borrow.Author.Tests.{lt-ltb, le-ltb, le-leb}
 use lib.Dec.{leb, ltb}
 use lib.ListN.{length, getD}
 use Rattle.model.specs.Limits.{textMost, channels, scratchLeast, traceLeast}
@@ -90,10 +91,12 @@ module _ (text : List ℕ) (code scratchLength traceLength : ℕ) (table : List 
       let b = cond-refused (ltb scratchLength scratchLeast || ltb traceLength traceLeast) _ _ _ S (a .1) in
       rw (a .0, b .0, read-fits text S (b .1), b .1)
 
-  -- 18 for the table
-  pub permitted-unsound : (line : ℕ) → soundTable table ≡ refusal senderTableRefusal line → (S : Scenario) → check ≡ ok S → outcome ≡ refusal senderTableRefusal line
-  unfolding andThen
-  permitted-unsound line s S e = outcome-is S e ∙ rw s
+  -- 18 for the table, behind 1 to 3
+  pub permitted-unsound : (line : ℕ) → soundTable table ≡ refusal senderTableRefusal line → code < channels → scratchLeast ≤ scratchLength → traceLeast ≤ traceLength
+      → 0 < length text → length text ≤ textMost → outcome ≡ refusal senderTableRefusal line
+  unfolding permittedOf andThen
+  permitted-unsound line s c w t l h =
+      rw (lt-ltb code channels c, le-ltb scratchLength scratchLeast w, le-ltb traceLength traceLeast t, lt-ltb 0 (length text) l, le-leb (length text) textMost h, s)
 
   -- 19 for the first forbidden message
   pub permitted-forbidden : (rules : List Rule) (S : Scenario) (m : ℕ) → soundTable table ≡ ok rules → check ≡ ok S → FirstForbidden rules S m
@@ -138,7 +141,7 @@ permitted-check text code scratch scratchExit trace traceExit table r a s t =
       asTheCheck = λ rules u h. permitted-same text code (length scratch) (length trace) table rules u h;
       forbidden = λ rules S m u e f. forbidden S m (permitted-forbidden text code (length scratch) (length trace) table rules S m u e f)
           (line-met text S (accepted-parts text code (length scratch) (length trace) S e .sheet) m (f .met));
-      unsound = λ line u S e. a ∙ ap (λ (o : Out Scenario). numbersOf (answerFor o code)) (permitted-unsound text code (length scratch) (length trace) table line u S e);
+      unsound = λ line u c w l h i. a ∙ ap (λ (o : Out Scenario). numbersOf (answerFor o code)) (permitted-unsound text code (length scratch) (length trace) table line u c w l h i);
     }
   where
     accepted : (S : Scenario) → permittedOf text code (length scratch) (length trace) table ≡ ok S → acceptedOf text code (length scratch) (length trace) ≡ ok S

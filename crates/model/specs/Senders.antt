@@ -1,6 +1,6 @@
 -- Request (l): the table of permitted senders, its soundness, and a sheet check with such a table.
 -- Assumes nothing.
-use Prim.Native.Nat.{ℕ, suc, _+_, _*_, _/_, _%_, _^_, _<_}
+use Prim.Native.Nat.{ℕ, suc, _+_, _*_, _/_, _%_, _^_, _<_, _≤_}
 use mathlib.Core.Path.{_≡_}
 use mathlib.Core.Logic.{_↔_}
 use mathlib.Core.Bool.{Bool, true, false, not, cond, _&&_, _||_}
@@ -262,6 +262,7 @@ pub record PermittedCheck (text : List ℕ) (code : ℕ) (scratch scratchExit tr
   pub forbidden : (rules : List Rule) (S : Scenario) (m : ℕ) → soundTable table ≡ ok rules
       → acceptedOf text code (length scratch) (length trace) ≡ ok S → FirstForbidden rules S m
       → (r ≡ numbersOf (refused forbiddenRefusal (r .two))) × MessageRow text (r .two) (S .source m) (S .target m)
-  -- a table that is malformed or unsound is refused, 18, behind 1 to 3: with the first bad line, 0 for its length or an unsound one
-  pub unsound : (line : ℕ) → soundTable table ≡ refusal senderTableRefusal line → (S : Scenario) → acceptedOf text code (length scratch) (length trace) ≡ ok S
-      → r ≡ numbersOf (refused senderTableRefusal line)
+  -- a table that is malformed or unsound is refused, 18, behind 1 to 3 and whatever the sheet: with the first bad line, 0 for its length or an
+  -- unsound one
+  pub unsound : (line : ℕ) → soundTable table ≡ refusal senderTableRefusal line → code < channels → scratchLeast ≤ length scratch → traceLeast ≤ length trace
+      → 0 < length text → length text ≤ textMost → r ≡ numbersOf (refused senderTableRefusal line)

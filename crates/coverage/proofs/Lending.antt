@@ -11,7 +11,7 @@ use base.Logic.{SProp, ent, sep, ex, exI}
 use base.Fml.{GName, Lft, Fml, fsep, flent, fdead}
 use prog.Wp.{Heap}
 use ghost.Atoms.{Atoms, sem}
-use types.Kit.{Given, ‵, _⊛_, some, later, _$_, !, qed, by, move, drop, use1, use2, split, pick, rewrite, fsplit, fjoin, feqL, feqI, await, updating, now as at-once, done}
+use types.Kit.{Given, ‵, _⊛_, some, later, _$_, !, qed, by, move, drop, use1, use2, split, pick, rewrite, fsplit, fjoin, feqI, await, updating, now as at-once}
 use types.SemTy.{cells}
 use types.Share.{arr-parts}
 use types.Tokens.{lent-back}

@@ -1,5 +1,4 @@
 -- The rules that are lent, as the model's. Assumes nothing.
-use Prim.Native.Nat.{ℕ}
 use mathlib.Core.List.{List, map}
 use Rattle.model.specs.Senders as senders
 use Rattle.coverage.specs.declared.Rule.{Rule}

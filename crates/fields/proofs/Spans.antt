@@ -17,7 +17,6 @@ use Rattle.line.specs.Parts.{Cut, fieldsIn}
 use Rattle.line.specs.declared.Cuts.{Cuts}
 use Rattle.fields.specs.Fields.{spanOf, letterOf, numberFrom, numeralFrom}
 use Rattle.fields.specs.declared.Span.{Span}
-use Rattle.fields.specs.declared.Number.{Number}
 use Rattle.fields.specs.declared.Number.the-variants as narrow
 use Rattle.fields.specs.declared.Numeral.{Numeral}
 use Rattle.fields.specs.declared.Numeral.the-variants as wide

@@ -31,4 +31,6 @@ pub mod FinishedRuns
 pub mod Ahead
 pub mod Course
 pub mod Taps
+pub mod MessageLines
 pub mod Senders
+pub mod Permitted

@@ -3,24 +3,32 @@
 use Prim.Native.Nat.{ℕ, zero, suc, _+_, _-_, _<_, _≤_}
 use native.Mathlib.Nat.{add-zero, zero-add}
 use native.Mathlib.Omega.{arith}
-use mathlib.Core.Path.{_≡_, refl, sym, _∙_, ap, subst}
-use mathlib.Core.Logic.{_↔_, _⊎_, inl, inr, ⊎-elim}
+use mathlib.Core.Path.{_≡_, refl, sym, subst}
+use mathlib.Core.Logic.{_↔_, _⊎_, ⊎-elim}
 use mathlib.Core.Bool.{Bool, true, false, not, cond, _&&_}
 use mathlib.Core.List.{List, [], _∷_}
 use mathlib.Core.Option.{Option, none, some}
-use borrow.Author.Tests.{eq-eqb, eqb-true, eqb-false, not-true, not-false}
+use borrow.Author.Tests.{eqb-true, eqb-false, ltb-true, not-true, not-false}
 use lib.Dec.{eqb, leb, ltb}
 use lib.ListN.{length, getD, drop, length-drop}
 use lib.Seq.{getD-drop}
 use Rattle.model.specs.Limits.{textMost, rulesMost, pairs}
-use Rattle.model.specs.Bounded.{lowest}
+use Rattle.model.specs.Bounded.{every, lowest}
 use Rattle.model.specs.Refusal.{Out, ok, refusal, senderTableRefusal}
 use Rattle.model.specs.Text.{Line, linesOf}
 use Rattle.model.specs.Place.{lineOf}
 use Rattle.model.specs.Answer.{Numbers}
-use Rattle.model.specs.Senders.{Rule, isNamesLine, ruleOf, aheadOfRule, rulesFrom, rulesBehind, rulesOf, covers, rulesWith, isFaulty, Soundness, sound, gap, clash, malformed, faultOf, soundnessOf, judgedTable, tableAnswer, soundWord, gapWord, clashWord, tableRefusedWord, tableNumbers, noRule, isIn, InOne, NoneLower, Gap, Clash, TableJudged}
-use Rattle.model.proofs.Bounded.{not-both, apart, Found, IsLowest, lowest-found}
+use Rattle.model.specs.Senders.{Rule, isNamesLine, ruleOf, aheadOfRule, rulesFrom, rulesBehind, rulesOf, covers, rulesWith, isFaulty, Soundness, sound, gap, clash, malformed, faultOf, soundnessOf, judgedTable, tableAnswer, soundWord, gapWord, clashWord, tableRefusedWord, tableNumbers, noRule, isIn, InOne, NoneLower, Gap, Clash, TableJudged, soundRules, permits}
+use Rattle.model.proofs.Bounded.{not-both, apart, Found, lowest-found, every-at, every-from, not-is-true, which}
 use Rattle.model.proofs.Refusal.{not-refused}
+
+-- nothing is found below a bound where nothing there passes
+pub none-of : (n : ℕ) (p : ℕ → Bool) → ((k : ℕ) → k < n → p k ≡ false) → lowest n p ≡ none
+none-of n p h = go (lowest n p) (lowest-found n p)
+  where
+    go : (o : Option ℕ) → Found n p o → o ≡ none
+    go none f = refl
+    go (some k) f = not-both (p k) (f .passes) (h k (f .below))
 
 -- The rules that a pair is in: none; or the first, and those among the rules behind it.
 abbrev First : ℕ → ℕ → List Rule → List ℕ → Type 0
@@ -155,38 +163,44 @@ judged rules = go (lowest pairs (isFaulty rules)) (lowest-found pairs (isFaulty 
     go none f = λ q l. faultless rules q (f q l)
     go (some pair) f = fault-judged rules pair (f .below, λ q l. faultless rules q (f .first q l)) (f .passes)
 
--- a table is refused with 18 alone
-abbrev By18 : Out (List Rule) → Type 0
-By18 (ok rules) = Unit {0}
-By18 (refusal number line) = number ≡ senderTableRefusal
+-- What reading hands on: at most 64 rules, or 18 and a line, at most that of rule 65.
+abbrev Read : ℕ → Out (List Rule) → Type 0
+Read i (ok rules) = i + length rules ≤ rulesMost
+Read i (refusal number line) = (number ≡ senderTableRefusal) × (line ≤ lineOf rulesMost)
 
-by-18-ahead : (r : Rule) (o : Out (List Rule)) → By18 o → By18 (aheadOfRule r o)
+read-ahead : (i : ℕ) (r : Rule) (o : Out (List Rule)) → Read (suc i) o → Read i (aheadOfRule r o)
 unfolding aheadOfRule
-by-18-ahead r (ok rs) h = tt
-by-18-ahead r (refusal number line) h = h
+read-ahead i r (ok rs) h = omega arith
+read-ahead i r (refusal number line) h = h
 
-by-18-cond : (t : Bool) (o p : Out (List Rule)) → By18 o → By18 p → By18 (cond t o p)
-by-18-cond true o p h k = h
-by-18-cond false o p h k = k
+read-cond : (i : ℕ) (t : Bool) (o p : Out (List Rule)) → Read i o → Read i p → Read i (cond t o p)
+read-cond i true o p h k = h
+read-cond i false o p h k = k
 
-by-18-from : (i : ℕ) (ls : List Line) → By18 (rulesFrom i ls)
+read-from : (i : ℕ) (ls : List Line) → i ≤ rulesMost → Read i (rulesFrom i ls)
 unfolding rulesFrom
-by-18-from i [] = tt
-by-18-from i (l ∷ ls) = go (cond (ltb i rulesMost) (ruleOf l) none) (by-18-from (suc i) ls)
+read-from i [] h = omega arith
+read-from i (l ∷ ls) h = room (ltb i rulesMost) refl (λ u. read-from (suc i) ls u)
   where
-    go : (o : Option Rule) → By18 (rulesFrom (suc i) ls)
-        → By18 (elim o [ none ↦ refusal senderTableRefusal (lineOf i) | some r ↦ aheadOfRule r (rulesFrom (suc i) ls) ])
-    go none h = refl
-    go (some r) h = by-18-ahead r (rulesFrom (suc i) ls) h
+    form : i < rulesMost → (o : Option Rule) → Read (suc i) (rulesFrom (suc i) ls)
+        → Read i (elim o [ none ↦ refusal senderTableRefusal (lineOf i) | some r ↦ aheadOfRule r (rulesFrom (suc i) ls) ])
+    form u none w = (refl, omega arith)
+    form u (some r) w = read-ahead i r (rulesFrom (suc i) ls) w
 
-by-18 : (table : List ℕ) → By18 (rulesOf table)
+    room : (b : Bool) → ltb i rulesMost ≡ b → (suc i ≤ rulesMost → Read (suc i) (rulesFrom (suc i) ls))
+        → Read i (elim (cond b (ruleOf l) none) [ none ↦ refusal senderTableRefusal (lineOf i) | some r ↦ aheadOfRule r (rulesFrom (suc i) ls) ])
+    room true e later = form (ltb-true i rulesMost e) (ruleOf l) (later (ltb-true i rulesMost e))
+    room false e later = (refl, omega arith)
+
+read-table : (table : List ℕ) → Read 0 (rulesOf table)
 unfolding rulesOf rulesBehind
-by-18 table =
-    by-18-cond (ltb 0 (length table) && leb (length table) textMost) (rulesBehind (linesOf table)) (refusal senderTableRefusal 0) (go (linesOf table)) refl
+read-table table =
+    read-cond 0 (ltb 0 (length table) && leb (length table) textMost) (rulesBehind (linesOf table)) (refusal senderTableRefusal 0) (go (linesOf table))
+    (refl, omega arith)
   where
-    go : (ls : List Line) → By18 (rulesBehind ls)
-    go [] = refl
-    go (h ∷ ls) = by-18-cond (isNamesLine h) (rulesFrom 0 ls) (refusal senderTableRefusal 1) (by-18-from 0 ls) refl
+    go : (ls : List Line) → Read 0 (rulesBehind ls)
+    go [] = (refl, omega arith)
+    go (h ∷ ls) = read-cond 0 (isNamesLine h) (rulesFrom 0 ls) (refusal senderTableRefusal 1) (read-from 0 ls (omega arith)) (refl, omega arith)
 
 -- What the numbers of an answer say, by the rules read, or the refusal, and their judgement.
 abbrev Answered : Out (List Rule) → Soundness → Type 0
@@ -234,11 +248,24 @@ refused-when (refusal number line) s (p, q) = rw (q, p) (λ w. refl, λ e. refl)
 module _ (table : List ℕ) where
   answered : Answered (rulesOf table) (tableAnswer table)
   unfolding tableAnswer judgedTable
-  answered = go (rulesOf table) (by-18 table)
+  answered = go (rulesOf table) (read-table table)
     where
-      go : (o : Out (List Rule)) → By18 o → Answered o (judgedTable o)
+      go : (o : Out (List Rule)) → Read 0 o → Answered o (judgedTable o)
       go (ok rules) h = judged rules
-      go (refusal number line) h = (h, refl)
+      go (refusal number line) h = (h .0, refl)
+
+  -- the numbers behind the word: a pair or 18, and lines of the table, at most that of rule 65
+  pub table-within : ((tableNumbers (tableAnswer table)) .one < pairs) × ((tableNumbers (tableAnswer table)) .two ≤ lineOf rulesMost)
+      × ((tableNumbers (tableAnswer table)) .three ≤ lineOf rulesMost)
+  table-within = go (rulesOf table) (tableAnswer table) (read-table table) answered
+    where
+      go : (o : Out (List Rule)) (s : Soundness) → Read 0 o → Answered o s
+          → ((tableNumbers s) .one < pairs) × ((tableNumbers s) .two ≤ lineOf rulesMost) × ((tableNumbers s) .three ≤ lineOf rulesMost)
+      go (ok rules) sound h a = (omega arith, omega arith, omega arith)
+      go (ok rules) (gap q) h a = (a .0 .0, omega arith, omega arith)
+      go (ok rules) (clash q i j) h a = (a .0 .0, omega (arith, a .1 .lines, a .1 .inOrder), omega (arith, a .1 .lines, a .1 .inOrder))
+      go (ok rules) (malformed number line) h a = absurd a
+      go (refusal number line) s h a = rw (a .1) (omega (arith, a .0), h .1, omega arith)
 
   pub table-judged : (r : Numbers) → r ≡ tableNumbers (tableAnswer table) → TableJudged table r
   table-judged r e =
@@ -250,3 +277,50 @@ module _ (table : List ℕ) where
         clashNamed = clash-named (rulesOf table) (tableAnswer table) answered;
         refusedWhen = refused-when (rulesOf table) (tableAnswer table) answered;
       })
+
+-- The check with a table and the judgement of a table agree: its rules, or 18 without a line, as the judgement is sound or not.
+abbrev pub Agrees : List Rule → Soundness → Type 0
+Agrees rules sound = soundRules rules ≡ ok rules
+Agrees rules (gap q) = soundRules rules ≡ refusal senderTableRefusal 0
+Agrees rules (clash q a b) = soundRules rules ≡ refusal senderTableRefusal 0
+Agrees rules (malformed number line) = ⊥
+
+module _ (rules : List Rule) where
+  unsound : (pair : ℕ) → pair < pairs → isFaulty rules pair ≡ true → soundRules rules ≡ refusal senderTableRefusal 0
+  unfolding soundRules
+  unsound pair l h = go (every pairs (λ q. not (isFaulty rules q))) refl
+    where
+      go : (b : Bool) → every pairs (λ q. not (isFaulty rules q)) ≡ b → cond b (ok rules) (refusal senderTableRefusal 0) ≡ refusal senderTableRefusal 0
+      go true e = not-both (isFaulty rules pair) h (not-true (isFaulty rules pair) (every-at pairs (λ q. not (isFaulty rules q)) e pair l))
+      go false e = refl
+
+  fault-agrees : (pair : ℕ) (ks : List ℕ) → soundRules rules ≡ refusal senderTableRefusal 0 → (length ks ≡ 1 → ⊥) → Agrees rules (faultOf pair ks)
+  unfolding faultOf
+  fault-agrees pair [] e n = e
+  fault-agrees pair (i ∷ []) e n = absurd (n refl)
+  fault-agrees pair (i ∷ j ∷ ks) e n = e
+
+  pub agrees : Agrees rules (soundnessOf rules)
+  unfolding soundnessOf soundRules isFaulty
+  agrees = go (lowest pairs (isFaulty rules)) (lowest-found pairs (isFaulty rules))
+    where
+      go : (o : Option ℕ) → Found pairs (isFaulty rules) o
+          → Agrees rules (elim o [ none ↦ sound | some pair ↦ faultOf pair (rulesWith pair 0 rules) ])
+      go none f = rw (every-from pairs (λ q. not (isFaulty rules q)) (λ q l. not-is-true (isFaulty rules q) (f q l)))
+      go (some pair) f =
+          fault-agrees pair (rulesWith pair 0 rules) (unsound pair (f .below) (f .passes))
+          (eqb-false (length (rulesWith pair 0 rules)) 1 (not-true (eqb (length (rulesWith pair 0 rules)) 1) (f .passes)))
+
+-- In a sound table a pair is permitted as the one rule says that it is in.
+permits-first : (rs : List Rule) (pair k : ℕ) → k < length rs → isIn rs pair k → ((j : ℕ) → j < k → isIn rs pair j → ⊥)
+    → permits rs pair ≡ eqb ((getD rs k noRule) .verdict) 1
+unfolding permits
+permits-first [] pair k l h before = absurd (omega arith)
+permits-first (r ∷ rs) pair zero l h before = rw h
+permits-first (r ∷ rs) pair (suc k) l h before =
+    let e : covers r pair ≡ false = ⊎-elim (λ (t : covers r pair ≡ true). absurd (before 0 (omega arith) t)) (λ f. f) (which (covers r pair)) in
+    rw e (permits-first rs pair k (omega arith) h (λ j m g. before (suc j) (omega arith) g))
+
+pub permits-rule : (rules : List Rule) (pair : ℕ) (o : InOne rules pair) → permits rules pair ≡ eqb ((getD rules (o .rule) noRule) .verdict) 1
+permits-rule rules pair o =
+    permits-first rules pair (o .rule) (o .there) (o .inIt) (λ j l g. let e : j ≡ o .rule = o .alone j (omega (arith, o .there)) g in omega arith)

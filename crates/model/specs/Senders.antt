@@ -1,6 +1,6 @@
 -- Request (l): the table of permitted senders, its soundness, and a sheet check with such a table.
 -- Assumes nothing.
-use Prim.Native.Nat.{ℕ, suc, _+_, _*_, _/_, _%_, _^_, _<_}
+use Prim.Native.Nat.{ℕ, suc, _+_, _*_, _/_, _%_, _^_, _<_, _≤_}
 use mathlib.Core.Path.{_≡_}
 use mathlib.Core.Logic.{_↔_}
 use mathlib.Core.Bool.{Bool, true, false, not, cond, _&&_, _||_}
@@ -14,9 +14,10 @@ use Rattle.model.specs.Refusal.{Out, ok, refusal, andThen, channelRefusa
 use Rattle.model.specs.Text.{ascii, Line, linesOf, fieldsOf, numberUpTo}
 use Rattle.model.specs.Rows.{Row, sheet, message, order, block, call}
 use Rattle.model.specs.Place.{lineOf, readOf}
-use Rattle.model.specs.Expansion.{Ops, Progress, expand}
+use Rattle.model.specs.Expansion.{Ops, expand}
 use Rattle.model.specs.Order.{Scenario}
-use Rattle.model.specs.Answer.{Answer, Numbers, sheetOf, answerFor}
+use Rattle.model.specs.Answer.{refused, Numbers, sheetOf, acceptedOf, answerFor, numbersOf, scratchBehind, traceAfter}
+use Rattle.model.specs.Verdict.{Meets, Verdict}
 
 -- A rule: two sets of boards, bit k of each being board k, and 1 for permitted or 0.
 pub record Rule : Type 0 where
@@ -179,3 +180,89 @@ pub record TableJudged (table : List ℕ) (r : Numbers) : Type 0 where
       → NoneLower rules (r .one) × Clash rules (r .one) (r .two) (r .three)
   -- refused exactly if the table is malformed, with its first bad line
   pub refusedWhen : (r .word ≡ tableRefusedWord) ↔ (rulesOf table ≡ refusal senderTableRefusal (r .two))
+
+-- The sheet check with a table. A table is sound if no pair is faulty; an unsound one is refused, 18, without a line.
+unfoldable pub soundRules : List Rule → Out (List Rule)
+soundRules rules = cond (every pairs (λ pair. not (isFaulty rules pair))) (ok rules) (refusal senderTableRefusal 0)
+
+unfoldable pub soundTable : List ℕ → Out (List Rule)
+soundTable table = andThen (rulesOf table) soundRules
+
+-- the pair is permitted by the rule that it is in
+unfoldable pub permits : List Rule → ℕ → Bool
+permits [] pair = false
+permits (r ∷ rs) pair = cond (covers r pair) (eqb (r .verdict) 1) (permits rs pair)
+
+abbrev pub isForbidden : List Rule → Scenario → ℕ → Bool
+isForbidden rules S m = not (permits rules (pairOf (S .source m) (S .target m)))
+
+-- The line of each message's M row. A walk does not read the boards of a message, so it is walked with the M row's line in the sender's place;
+-- i is the number of the first row.
+unfoldable pub lined : ℕ → Row → Row
+lined line (sheet n) = sheet n
+lined line (message a b) = message line b
+lined line (order x y) = order x y
+lined line block = block
+lined line (call n) = call n
+
+unfoldable pub withLines : ℕ → List Row → List Row
+withLines i [] = []
+withLines i (r ∷ rs) = lined (lineOf i) r ∷ withLines (suc i) rs
+
+unfoldable pub lineOps : Ops (List ℕ)
+lineOps = record { withMessage = λ w line b lines. lines ++ (line ∷ []); withOrder = λ w x y lines. lines; withBlock = λ w lines. lines }
+
+-- the lines of the messages that the walk of a text meets, in walk order
+unfoldable pub linesMet : List ℕ → List ℕ
+linesMet text =
+    elim (andThen (readOf text) (λ file. expand lineOps (withLines 0 file) [])) [ ok s ↦ s .kept | refusal number line ↦ [] ]
+
+-- the scenario, once the walk has ended, unless a message is forbidden: 19 for the first, with its line
+unfoldable pub permitted : List Rule → List ℕ → Scenario → Out Scenario
+permitted rules lines S =
+    elim (lowest (S .count) (isForbidden rules S)) [ none ↦ ok S | some m ↦ refusal forbiddenRefusal (getD lines m 0) ]
+
+-- A sheet is accepted with a table if no refusal applies: 1, 2, 3, then 18, then 4 to 11 as in the check, then 19.
+unfoldable pub permittedOf : List ℕ → ℕ → ℕ → ℕ → List ℕ → Out Scenario
+permittedOf text code scratchLength traceLength table =
+    cond (ltb code channels)
+    (cond (ltb scratchLength scratchLeast || ltb traceLength traceLeast) (refusal benchRefusal 0)
+    (cond (ltb 0 (length text) && leb (length text) textMost)
+    (andThen (soundTable table) (λ rules. andThen (sheetOf text) (permitted rules (linesMet text))))
+    (refusal lengthRefusal 0)))
+    (refusal channelRefusal 0)
+
+-- The line is that of a row `M a b` of the text, row i.
+pub record MessageRow (text : List ℕ) (line a b : ℕ) : Type 0 where
+  pub file : List Row
+  pub read : readOf text ≡ ok file
+  pub row : ℕ
+  pub atLine : line ≡ lineOf row
+  pub isMessage : getD file row block ≡ message a b
+
+-- message m is the first forbidden one
+pub record FirstForbidden (rules : List Rule) (S : Scenario) (m : ℕ) : Type 0 where
+  pub met : m < S .count
+  pub forbidden : isForbidden rules S m ≡ true
+  pub first : (k : ℕ) → k < m → isForbidden rules S k ≡ false
+
+-- What a call gives, with the table lent behind what the check is lent.
+pub record PermittedCheck (text : List ℕ) (code : ℕ) (scratch scratchExit trace traceExit table : List ℕ) (r : Numbers) : Type 0 where
+  pub answer : r ≡ numbersOf (answerFor (permittedOf text code (length scratch) (length trace) table) code)
+  pub scratchLeft : scratchExit ≡ scratchBehind (permittedOf text code (length scratch) (length trace) table) scratch
+  pub traceLeft : traceExit ≡ traceAfter (answerFor (permittedOf text code (length scratch) (length trace) table) code) trace
+  -- a sheet that no refusal applies to, 18 and 19 among them, is accepted by the check too, and has point 3
+  pub accepted : (S : Scenario) → permittedOf text code (length scratch) (length trace) table ≡ ok S
+      → (acceptedOf text code (length scratch) (length trace) ≡ ok S) × Meets text S × Verdict S code r traceExit
+  -- with a sound table the outcome is the check's, unless a message met by the walk is forbidden
+  pub asTheCheck : (rules : List Rule) → soundTable table ≡ ok rules
+      → ((S : Scenario) → sheetOf text ≡ ok S → (m : ℕ) → m < S .count → isForbidden rules S m ≡ false)
+      → permittedOf text code (length scratch) (length trace) table ≡ acceptedOf text code (length scratch) (length trace)
+  -- and then it is 19 for the first, with the line of its M row
+  pub forbidden : (rules : List Rule) (S : Scenario) (m : ℕ) → soundTable table ≡ ok rules
+      → acceptedOf text code (length scratch) (length trace) ≡ ok S → FirstForbidden rules S m
+      → (r ≡ numbersOf (refused forbiddenRefusal (r .two))) × MessageRow text (r .two) (S .source m) (S .target m)
+  -- a table that is malformed or unsound is refused, 18, behind 1 to 3 and whatever the sheet: with the first bad line, 0 for its length or an
+  -- unsound one
+  pub unsound : (line : ℕ) → soundTable table ≡ refusal senderTableRefusal line → code < channels → scratchLeast ≤ length scratch → traceLeast ≤ length trace
+      → 0 < length text → length text ≤ textMost → r ≡ numbersOf (refused senderTableRefusal line)

@@ -1,11 +1,11 @@
 -- The loop over the rules keeps to the model: each line read, and stored. Assumes nothing.
-use Prim.Native.Nat.{ℕ, zero, suc, _+_, _-_, _≤_, _<_}
+use Prim.Native.Nat.{ℕ, suc, _+_, _-_, _≤_, _<_}
 use native.Mathlib.Numerals.{add-one}
 use native.Mathlib.Omega.{arith}
 use mathlib.Core.Path.{_≡_, refl, sym, _∙_, ap, subst}
 use mathlib.Core.Bool.{cond}
 use mathlib.Core.List.{List, [], _∷_, _++_}
-use mathlib.Core.Option.{Option, none, some}
+use mathlib.Core.Option.{none, some}
 use borrow.Author.Tests.{lt-ltb, le-ltb}
 use lib.Dec.{ltb}
 use lib.ListN.{length, take, drop, set, length-set, drop-of-length-le}
@@ -17,7 +17,6 @@ use Rattle.model.specs.Place.{lineOf}
 use Rattle.model.specs.Senders.{ruleOf, aheadOfRule, rulesFrom}
 use Rattle.model.specs.Senders as senders
 use Rattle.line.specs.Scan.{firstLine, behindLine}
-use Rattle.line.specs.Parts.{Onward}
 use Rattle.line.proofs.Lines.{lines-at}
 use Rattle.coverage.specs.Rules.{ruleAs, rulesAs}
 use Rattle.coverage.specs.declared.Rule.{Rule}

@@ -1,20 +1,19 @@
 -- The judgement, sender by sender: the lowest faulty pair, and what it is. Assumes nothing.
-use Prim.Native.Nat.{ℕ, zero, suc, _+_, _-_, _*_, _/_, _%_, _≤_, _<_}
+use Prim.Native.Nat.{ℕ, _+_, _-_, _*_, _≤_, _<_}
 use native.Mathlib.Omega.{arith}
 use mathlib.Core.Path.{_≡_, refl, sym, _∙_, ap, subst}
 use mathlib.Core.Bool.{Bool, true, false, not}
 use mathlib.Core.List.{List, [], _∷_}
-use mathlib.Core.Option.{Option, none, some}
+use mathlib.Core.Option.{none, some}
 use borrow.Author.Tests.{leb-true, leb-false}
 use lib.Dec.{eqb, leb}
 use lib.ListN.{length, take}
 use Rattle.model.specs.Limits.{boards, rulesMost, pairs}
 use Rattle.model.specs.Bounded.{lowest}
 use Rattle.model.specs.Refusal.{ok, refusal, senderTableRefusal}
-use Rattle.model.specs.Place.{lineOf}
-use Rattle.model.specs.Senders.{pairOf, rulesWith, isFaulty, Soundness, sound, gap, clash, malformed, faultOf, soundnessOf, rulesOf, judgedTable, tableAnswer, tableNumbers, TableJudged}
+use Rattle.model.specs.Senders.{pairOf, rulesWith, isFaulty, gap, clash, faultOf, soundnessOf, rulesOf, judgedTable, tableAnswer, tableNumbers, TableJudged}
 use Rattle.model.proofs.Bounded.{lowest-none, lowest-hit, not-both}
-use Rattle.model.proofs.Senders.{table-judged}
+use Rattle.model.proofs.Senders.{none-of, table-judged}
 use Rattle.coverage.specs.Rules.{rulesAs}
 use Rattle.coverage.specs.Search.{begun, searched}
 use Rattle.coverage.specs.declared.Rule.{Rule}
@@ -27,7 +26,7 @@ use Rattle.sender_table.specs.declared.Verdict.the-variants as verdict
 use Rattle.senders.specs.Judgement.{judgementAs, numbersFor, isFault, lowestFault}
 use Rattle.senders.specs.declared.Judgement.{Judgement}
 use Rattle.senders.specs.declared.Judgement.the-variants.{Sound, Gap, Clash, Refused}
-use Rattle.senders.proofs.Receivers.{none-of, fault-first, fault-nowhere}
+use Rattle.senders.proofs.Receivers.{fault-first, fault-nowhere}
 
 -- no pair of the senders passed is faulty
 pub record Judging (rs : List Rule) (sender : ℕ) : Type 0 where

@@ -1,16 +1,17 @@
 -- The search for the lowest faulty receiver. Assumes nothing.
-use Prim.Native.Nat.{ℕ, zero, suc, _+_, _≤_, _<_}
+use Prim.Native.Nat.{ℕ, _+_, _≤_, _<_}
 use native.Mathlib.Numerals.{add-one}
 use native.Mathlib.Omega.{arith}
-use mathlib.Core.Path.{_≡_, refl, sym, _∙_, ap}
-use mathlib.Core.Bool.{Bool, true, false, not, _||_}
+use mathlib.Core.Path.{_≡_, refl, sym, _∙_}
+use mathlib.Core.Bool.{Bool, true, false}
 use mathlib.Core.Option.{Option, none, some}
 use Rattle.relation.specs.Rows.{has}
 use Rattle.relation.proofs.Bits.{has-zero}
 use Rattle.model.specs.Limits.{boards, setMost}
 use Rattle.model.specs.Bounded.{every, lowest}
 use Rattle.model.specs.Senders.{inSet}
-use Rattle.model.proofs.Bounded.{every-at, Found, lowest-found, lowest-hit, lowest-miss, not-both}
+use Rattle.model.proofs.Bounded.{every-at, Found, lowest-found, lowest-hit, lowest-miss}
+use Rattle.model.proofs.Senders.{none-of}
 use Rattle.senders.specs.Judgement.{isFault, lowestFault}
 
 -- one receiver
@@ -21,14 +22,6 @@ fault-in once twice b r r′ p h q = rw (← p, h, q)
 pub fault-out : (once twice b : ℕ) (r : Bool) → r ≡ inSet once b → r ≡ false → true ≡ isFault once twice b
 unfolding isFault
 fault-out once twice b r p h = rw (← p, h)
-
--- no receiver below the bound is faulty
-pub none-of : (n : ℕ) (p : ℕ → Bool) → ((k : ℕ) → k < n → p k ≡ false) → lowest n p ≡ none
-none-of n p h = go (lowest n p) (lowest-found n p)
-  where
-    go : (o : Option ℕ) → Found n p o → o ≡ none
-    go none f = refl
-    go (some k) f = not-both (p k) (f .passes) (h k (f .below))
 
 -- all boards once, and none twice
 all-boards : every boards (λ b. inSet setMost b) ≡ true

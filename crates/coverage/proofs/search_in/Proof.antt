@@ -1,14 +1,14 @@
 -- `search_in` meets its contract: a walk of its MIR, by hand. The slice is looked into once, ahead of the loop, and shut behind it; a turn takes
 -- one rule out, puts it back and calls `met` on its numbers. All that the proof knows of `met` is that it meets its contract.
 -- Assumes nothing.
-use mathlib.Core.Path.{_≡_, refl, sym, _∙_, ap, subst}
-use mathlib.Core.Bool.{Bool, true, false}
+use mathlib.Core.Path.{_≡_, refl, sym, _∙_, subst}
+use mathlib.Core.Bool.{Bool, true}
 use mathlib.Core.List.{List, [], _∷_}
 use Prim.Native.Nat.{ℕ, zero, suc, _+_, _*_, _<_, _≤_, _^_}
-use native.Mathlib.Nat.{add-zero, zero-add, add-suc, suc-add, lt-suc-self, lt-irrefl}
+use native.Mathlib.Nat.{zero-add, lt-suc-self}
 use native.Mathlib.Numerals.{add-one}
 use native.Mathlib.Omega.{arith}
-use lib.Dec.{T as Holds, ltb, lit<}
+use lib.Dec.{T as Holds, lit<}
 use lib.ListN.{length, getD, drop as drop-list, drop-of-length-le}
 use lib.Seq.{drop-cons}
 use lib.WfN.{Nat·lt-wfRel}
@@ -25,7 +25,7 @@ use prog.Routine.{Routine}
 use prog.Wp.{Heap, Out, Env, afterSeq, afterBlock, afterTurn, Calls, Loops, Wp, atReturn, WpFn, Tables}
 use ghost.Atoms.{Atoms, sem}
 use sound.Loop.{loop-rule}
-use sound.WpLaws.{FmC, fmOf, WpFn-mono}
+use sound.WpLaws.{fmOf, WpFn-mono}
 use contract.Monad.{Fun, fact}
 use contract.Running.{givenOf, tables, tablesOf}
 use types.Kit.{Given, Item, ‵, raw, _⊛_, ⋆, some, later, anyQ, atRet, _$_, _∵_, !, qed, by, move, keep, drop, use1, use2, split, join, pick, rewrite, fsplit, fjoin, suffices, frame, await, done}
@@ -34,9 +34,9 @@ use types.Run.{look, store, init, forget, stop, hop, fld, from, load, lit, of-op
 use types.Share.{arr-parts}
 use denote.RattleType.{owns}
 use denote.Laws.{Is, shows}
-use denote.Memory.{shares, pointee}
+use denote.Memory.{mem as inMemory, shares, pointee}
 use denote.Plain.{uint-makes}
-use denote.Builtin.{u16, usize}
+use denote.Builtin.{usize}
 use denote.Ref.{RefT}
 use denote.Signature.{plain}
 use denote.Slice.{sliceTy, sliceVal, ShrSlice, Room, slice-vals, shr-slice-tells, shr-slice-copy}
@@ -77,6 +77,10 @@ ruleVal r = LL.tuple-val R.the-type R′.the-laws (R.the-type .to r)
 
 abbrev searchVal : Search → Val
 searchVal s = LL.tuple-val S.the-type S′.the-laws (S.the-type .to s)
+
+-- the bytes of a rule
+abbrev size : ℕ
+size = inMemory R.the-row .size
 
 abbrev no-rule : Rule
 no-rule = record { from = 0; to = 0; verdict = 0 }
@@ -232,12 +236,12 @@ module _ {M : Type 1} (𝓤 : URA M) (H : Heap 𝓤) (A : Atoms 𝓤) (W : Given
           stays ! (load ! (from ! (stop !)) (look ! 5 refl)) $
           assigns ! (bin ! (load ! (from ! (stop !)) (look ! 2 refl)) (lit ! tt) (record { fits = place-fits })) (from ! (stop !)) (store ! 4 refl (tt, record { fits = place-fits })) $
           assigns ! (bin ! (load ! (from ! (fld ! refl (stop !))) (look-in ! 8 (sub ! 0 refl (whole !)))) (load ! (from ! (stop !)) (look ! 4 refl)) tt) (from ! (stop !)) (init ! 6 refl (tt, tt)) $
-          rewrite ! 6 (λ (p : ℕ). ‵ (fat fullShare tyPtr l₆ 0 (vptr b p))) (sym (place-is 6 o i)) refl $
+          rewrite ! 6 (λ (p : ℕ). ‵ (fat fullShare tyPtr l₆ 0 (vptr b p))) (sym (place-is size o i)) refl $
           move ! (1 ∷ []) $ elem-out ! R.the-row (Is R.the-row) (shows 𝓤 H A R.the-row) (LL.vals R.the-type R′.the-laws) (LL.tells R.the-type R′.the-laws) q′ ys i no-rule b o small (λ is.
           -- [the rule; what it owns; the others; what t owns; _3; _2; _4; _5; _6; _7; _1; …]: the rule is read at its own type, and what it owns is had twice
-          use1 W (‵ (fat q′ R′.mir b (place 6 o i) (ruleVal (ruleAt i)))) (W .laws .raw-at q′ R′.mir b (place 6 o i) (ruleVal (ruleAt i))) $
+          use1 W (‵ (fat q′ R′.mir b (place size o i) (ruleVal (ruleAt i)))) (W .laws .raw-at q′ R′.mir b (place size o i) (ruleVal (ruleAt i))) $
           assigns ! (of-opd ! (load ! (from ! (hop ! (look ! 8 refl) (stop !))) (look ! 0 refl))) (from ! (stop !)) (init ! 9 refl (rule-typed (ruleAt i) is)) $
-          use1 W (‵ (fat q′ (raw-type R′.mir) b (place 6 o i) (ruleVal (ruleAt i)))) (W .laws .at-raw q′ R′.mir b (place 6 o i) (ruleVal (ruleAt i))) $
+          use1 W (‵ (fat q′ (raw-type R′.mir) b (place size o i) (ruleVal (ruleAt i)))) (W .laws .at-raw q′ R′.mir b (place size o i) (ruleVal (ruleAt i))) $
           move ! (1 ∷ []) $ use1 W (‵ (OwnR (ruleAt i)) ⊛ ‵ (OwnR (ruleAt i))) (LL.copy R.the-type R′.the-copy 𝓤 H A W .twice (ruleAt i) (ruleVal (ruleAt i) ∷ [])) $ split ! $
           move ! (2 ∷ 0 ∷ 3 ∷ []) $ elem-back ! R.the-row q′ ys i no-rule (ruleVal (ruleAt i) ∷ []) b o small $
           -- [the rules; what the rule owns; what t owns; _3; …]
@@ -253,7 +257,7 @@ module _ {M : Type 1} (𝓤 : URA M) (H : Heap 𝓤) (A : Atoms 𝓤) (W : Given
           rewrite ! 2 (λ (j : ℕ). ‵ (fat fullShare word l₃ 0 (vint w64 j))) (add-one i) refl $
           forget ! 4 refl $ forget ! 5 refl $ forget ! 6 refl $ forget ! 7 refl $ by ! (k r u e))))))
         where
-          place-fits : i * 6 < 2 ^ 64
+          place-fits : i * size < 2 ^ 64
           place-fits = omega (arith, g .1)
 
           next-fits : i + 1 < 2 ^ 64

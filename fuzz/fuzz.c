@@ -1,6 +1,7 @@
 /* The fuzz target over the C face. Each input is tried on the library as it is shipped, on the same proved code compiled with
  * coverage counters, which guides the search, and on the careful C program of bench/, and all must agree in answer, trace,
- * scratch and text. Input: a byte for the code, one for the buffers' lengths, then the text. */
+ * scratch and text. Input: a byte for the code, one for the buffers' lengths, then the text. Where the second byte is over 127 the call is
+ * trace_check: a byte for a third of the trace's length follows, then the trace, then the text. */
 #define _GNU_SOURCE
 #include "../bench/check.h"
 #include <stdio.h>
@@ -9,6 +10,7 @@
 #include <sys/mman.h>
 
 channel_check_answer guided_check(const uint8_t *, size_t, uint32_t, uint64_t *, size_t, uint8_t *, size_t);
+trace_check_answer guided_trace_check(const uint8_t *, size_t, uint32_t, uint64_t *, size_t, const uint8_t *, size_t);
 int LLVMFuzzerTestOneInput(const uint8_t *data, size_t size);
 
 enum { WORDS = CHANNEL_CHECK_SCRATCH_WORDS, BYTES = CHANNEL_CHECK_TRACE_BYTES, PAINT = 0xa5, AHEAD = 64, ROOM = 1 << 16, GUARD = 1 << 16 };
@@ -69,6 +71,29 @@ static void promised(const call *a) {
         if (a->trace[i] != PAINT) stop("trace bytes behind the steps", a);
 }
 
+/* trace_check: the verdict and the scratch of all three, and the header's promise of the scratch */
+static void try_trace(const uint8_t *text, size_t len, uint32_t code, size_t words, const uint8_t *trace, size_t bytes) {
+    uint8_t *exact_text = memcpy(malloc(len), text, len), *exact_trace = memcpy(malloc(bytes), trace, bytes);
+    uint64_t *exact = memset(malloc(words * 8), PAINT, words * 8);
+    trace_check_answer c = careful_trace_check(exact_text, len, code, exact, words, exact_trace, bytes);
+    for (int is_guided = 0; is_guided < 2; is_guided++) {
+        call a = {.text_len = len, .words = words, .bytes = bytes};
+        a.text = memcpy(guarded(0, len), text, len);
+        a.scratch = guarded(1, words * 8);
+        a.trace = memcpy(guarded(2, bytes), trace, bytes);
+        trace_check_answer t = (is_guided ? guided_trace_check : trace_check)(a.text, len, code, (uint64_t *)a.scratch, words, a.trace, bytes);
+        size_t cleared = t.word == 4 && t.one <= 2 ? 0 : 8 * WORDS;
+        a.answer = (channel_check_answer){t.word, t.one, t.two, 0};
+        if (memcmp(&t, &c, sizeof t) != 0) stop("trace verdict", &a);
+        if (memcmp(a.scratch, exact, words * 8) != 0) stop("scratch behind a trace", &a);
+        if (memcmp(a.text, text, len) != 0 || memcmp(a.trace, trace, bytes) != 0) stop("what was lent to be read was written to", &a);
+        if (!ahead_painted(a.text) || !ahead_painted(a.scratch) || !ahead_painted(a.trace)) stop("bytes ahead of a buffer", &a);
+        for (size_t i = 0; i < 8 * words; i++)
+            if (a.scratch[i] != (i < cleared ? 0 : PAINT)) stop("scratch bytes behind a trace", &a);
+    }
+    free(exact_text), free(exact_trace), free(exact);
+}
+
 int LLVMFuzzerTestOneInput(const uint8_t *data, size_t size) {
     static const uint32_t codes[8] = {0, 1, 2, 3, 4, 5, 6, UINT32_MAX};
     static const size_t words[8] = {WORDS, WORDS, WORDS, WORDS + 1, WORDS + 9, WORDS, WORDS - 1, 0};
@@ -76,6 +101,12 @@ int LLVMFuzzerTestOneInput(const uint8_t *data, size_t size) {
     if (size < 2) return -1;
     call c = {.text_len = size - 2, .words = words[data[1] % 8], .bytes = bytes[data[1] / 8 % 8]}, a = c;
     uint32_t code = codes[data[0] % 8];
+    if (data[1] > 127) {
+        if (size < 3) return -1;
+        size_t most = 3 * (size_t)data[2] + data[1] / 64 % 2, length = most < size - 3 ? most : size - 3;
+        try_trace(data + 3 + length, size - 3 - length, code, c.words, data + 3, length);
+        return 0;
+    }
     careful(&c, data + 2, code);
     for (int is_guided = 0; is_guided < 2; is_guided++) {
         proved(&a, data + 2, code, is_guided);

@@ -1,19 +1,25 @@
 -- A field by its span: it lies in the text, and holds the letter, the number or the name of its bytes. Assumes nothing.
-use Prim.Native.Nat.{ℕ, zero, suc, _+_, _-_, _≤_, _<_}
+use Prim.Native.Nat.{ℕ, zero, suc, _+_, _-_, _^_, _≤_, _<_}
 use native.Mathlib.Omega.{arith}
 use mathlib.Core.Path.{_≡_, refl, sym, _∙_, ap}
-use mathlib.Core.Bool.{Bool}
+use mathlib.Core.Bool.{Bool, true, false, cond, _&&_}
 use mathlib.Core.List.{List, [], _∷_}
-use borrow.Author.Tests.{ne-eqb}
+use mathlib.Core.Option.{none, some}
+use borrow.Author.Tests.{ne-eqb, leb-true}
+use lib.Dec.{leb}
 use lib.ListN.{length, getD}
 use lib.Seq.{slice, slice-cons, slice-empty, length-slice}
+use Rattle.model.specs.Limits.{numberMost}
 use Rattle.model.specs.Bounded.{same}
-use Rattle.model.specs.Text.{numberOf}
+use Rattle.model.proofs.Bounded.{and-right}
+use Rattle.model.specs.Text.{wellBegun, digitsOnly, decimal, numberUpTo}
 use Rattle.line.specs.Parts.{Cut, fieldsIn}
 use Rattle.line.specs.declared.Cuts.{Cuts}
-use Rattle.fields.specs.Fields.{spanOf, letterOf, numberFrom}
+use Rattle.fields.specs.Fields.{spanOf, letterOf, numberFrom, numeralFrom}
 use Rattle.fields.specs.declared.Span.{Span}
-use Rattle.fields.specs.declared.Number.{Number}
+use Rattle.fields.specs.declared.Number.the-variants as narrow
+use Rattle.fields.specs.declared.Numeral.{Numeral}
+use Rattle.fields.specs.declared.Numeral.the-variants as wide
 
 -- the three spans, by the tests of the code
 pub span-first : (c : Cuts) (place : ℕ) → place ≡ 0 → record { from = c .at; to = c .first } ≡ spanOf c place
@@ -74,8 +80,31 @@ module _ (text : List ℕ) (c : Cuts) (place : ℕ) (s : Span) (h : Cut text c) 
       go (a ∷ d ∷ f) k = refl
 
   -- a number or a name is that of the bytes
-  pub number-field : (n : Number) → numberFrom n ≡ numberOf (slice (s .from) (s .to) text) → numberFrom n ≡ numberOf (getD (fieldsIn text c) place [])
-  number-field n p = p ∙ ap numberOf span-bytes
+  pub number-field : (most : ℕ) (n : Numeral) → numeralFrom n ≡ numberUpTo most (slice (s .from) (s .to) text) → numeralFrom n ≡ numberUpTo most (getD (fieldsIn text c) place [])
+  number-field most n p = p ∙ ap (numberUpTo most) span-bytes
 
   pub name-field : (name : List ℕ) (r : Bool) → r ≡ same name (slice (s .from) (s .to) text) → r ≡ same name (getD (fieldsIn text c) place [])
   name-field name r p = p ∙ ap (same name) span-bytes
+
+-- a number read is at most the largest
+pub number-most : (most n : ℕ) (f : List ℕ) → some n ≡ numberUpTo most f → n ≤ most
+unfolding numberUpTo
+number-most most n f e = go (wellBegun f && digitsOnly f && leb (decimal 0 f) most) refl e
+  where
+    go : (b : Bool) → (wellBegun f && digitsOnly f && leb (decimal 0 f) most) ≡ b → some n ≡ cond b (some (decimal 0 f)) none → n ≤ most
+    go true h d =
+        let l : decimal 0 f ≤ most = leb-true (decimal 0 f) most (and-right (wellBegun f && digitsOnly f) (leb (decimal 0 f) most) h) in
+        let k : n ≡ decimal 0 f = cc in
+        omega arith
+    go false h d = let z : _≡_ {A = ℕ} 0 1 = cc in absurd (omega arith)
+
+-- a number of a sheet file is one of a byte
+module _ (f : List ℕ) (n : Numeral) (p : numeralFrom n ≡ numberUpTo numberMost f) where
+  pub byte-fits : (v : ℕ) → n ≡ wide.Is v → v < 2 ^ 8
+  byte-fits v e = omega (arith, number-most numberMost v f (sym (ap numeralFrom e) ∙ p))
+
+  pub byte-is : (v : ℕ) → n ≡ wide.Is v → numberFrom (narrow.Is v) ≡ numberUpTo numberMost f
+  byte-is v e = sym (ap numeralFrom e) ∙ p
+
+  pub byte-bad : n ≡ wide.Bad → numberFrom narrow.Bad ≡ numberUpTo numberMost f
+  byte-bad e = sym (ap numeralFrom e) ∙ p

@@ -4,12 +4,13 @@ use mathlib.Core.Bool.{cond, _&&_}
 use mathlib.Core.List.{List, [], _∷_}
 use mathlib.Core.Option.{Option, none, some}
 use lib.Dec.{eqb, leb}
-use Rattle.model.specs.Limits.{numberMost}
 use Rattle.model.specs.Text.{digitsOnly, decimal}
 use Rattle.line.specs.declared.Cuts.{Cuts}
 use Rattle.fields.specs.declared.Span.{Span}
 use Rattle.fields.specs.declared.Number.{Number}
 use Rattle.fields.specs.declared.Number.the-variants.{Is, Bad}
+use Rattle.fields.specs.declared.Numeral.{Numeral}
+use Rattle.fields.specs.declared.Numeral.the-variants as wide
 
 -- the span of the field with the given number
 unfoldable pub spanOf : Cuts → ℕ → Span
@@ -23,10 +24,14 @@ letterOf [] = 0
 letterOf (b ∷ []) = b
 letterOf (b ∷ c ∷ s) = 0
 
--- the number of the digits, behind digits of value n
-unfoldable pub numeral : ℕ → List ℕ → Option ℕ
-numeral n ds = cond (digitsOnly ds && leb (decimal n ds) numberMost) (some (decimal n ds)) none
+-- the number of the digits, up to the largest, behind digits of value n
+unfoldable pub numeral : ℕ → ℕ → List ℕ → Option ℕ
+numeral most n ds = cond (digitsOnly ds && leb (decimal n ds) most) (some (decimal n ds)) none
 
 abbrev pub numberFrom : Number → Option ℕ
 numberFrom (Is n) = some n
 numberFrom Bad = none
+
+abbrev pub numeralFrom : Numeral → Option ℕ
+numeralFrom (wide.Is n) = some n
+numeralFrom wide.Bad = none

@@ -2,13 +2,13 @@
 use line::Cuts;
 ghost use mathlib.Core.Path.{_≡_};
 ghost use mathlib.Core.List.{[]};
-ghost use Prim.Native.Nat.{_≤_, _<_};
+ghost use Prim.Native.Nat.{_^_, _≤_, _<_};
 ghost use lib.ListN.{length, getD};
 ghost use lib.Seq.{slice};
 ghost use Rattle.model.specs.Bounded.{same};
-ghost use Rattle.model.specs.Text.{numberOf};
+ghost use Rattle.model.specs.Text.{numberOf, numberUpTo};
 ghost use Rattle.line.specs.Parts.{Cut, fieldsIn};
-ghost use Rattle.fields.specs.Fields.{spanOf, letterOf, numeral, numberFrom};
+ghost use Rattle.fields.specs.Fields.{spanOf, letterOf, numeral, numberFrom, numeralFrom};
 
 // A field: the bytes from `from` up to `to`.
 struct Span {
@@ -16,8 +16,15 @@ struct Span {
     pub to: usize,
 }
 
+// A number of a sheet file.
 pub enum Number {
     Is(u8),
+    Bad,
+}
+
+// A number up to a largest that is given.
+pub enum Numeral {
+    Is(u16),
     Bad,
 }
 
@@ -54,53 +61,65 @@ pub fn letter_in(text: &[u8], cuts: Cuts, place: usize) -> u8
     if span.to - from == 1 { text[from] } else { 0 }
 }
 
-// The number that a field holds: decimal, without leading zeros.
+// The number that a field of a sheet file holds.
 pub fn number_in(text: &[u8], cuts: Cuts, place: usize) -> Number
     requires { ⌜ Cut (now text) cuts × (place < 3) ⌝ }
     ensures { λ r. ⌜ numberFrom r ≡ numberOf (getD (fieldsIn (now (text .entry)) cuts) place []) ⌝ }
 {
+    let n = number_up_to(text, cuts, place, model::NUMBER_MOST);
+    match n {
+        Numeral::Is(value) => Number::Is(value as u8),
+        Numeral::Bad => Number::Bad,
+    }
+}
+
+// The number that a field holds, at most `most`: decimal, without leading zeros.
+pub fn number_up_to(text: &[u8], cuts: Cuts, place: usize, most: usize) -> Numeral
+    requires { ⌜ Cut (now text) cuts × (place < 3) × (most < 2 ^ 16) ⌝ }
+    ensures { λ r. ⌜ numeralFrom r ≡ numberUpTo most (getD (fieldsIn (now (text .entry)) cuts) place []) ⌝ }
+{
     let span = field(cuts, place);
-    number_at(text, span.from, span.to)
+    number_at(text, span.from, span.to, most)
 }
 
 // The number of the bytes from `from` up to `to`.
-fn number_at(text: &[u8], from: usize, to: usize) -> Number
-    requires { ⌜ (from ≤ to) × (to ≤ length (now text)) ⌝ }
-    ensures { λ r. ⌜ numberFrom r ≡ numberOf (slice from to (now (text .entry))) ⌝ }
+fn number_at(text: &[u8], from: usize, to: usize, most: usize) -> Numeral
+    requires { ⌜ (from ≤ to) × (to ≤ length (now text)) × (most < 2 ^ 16) ⌝ }
+    ensures { λ r. ⌜ numeralFrom r ≡ numberUpTo most (slice from to (now (text .entry))) ⌝ }
 {
     if from == to {
-        return Number::Bad;
+        return Numeral::Bad;
     }
     if text[from] == b'0' {
         if from + 1 < to {
-            return Number::Bad;
+            return Numeral::Bad;
         }
     }
-    digits(text, from, to)
+    digits(text, from, to, most)
 }
 
 // The value of the digits from `from` up to `to`.
-fn digits(text: &[u8], from: usize, to: usize) -> Number
-    requires { ⌜ (from ≤ to) × (to ≤ length (now text)) ⌝ }
-    ensures { λ r. ⌜ numberFrom r ≡ numeral 0 (slice from to (now (text .entry))) ⌝ }
+fn digits(text: &[u8], from: usize, to: usize, most: usize) -> Numeral
+    requires { ⌜ (from ≤ to) × (to ≤ length (now text)) × (most < 2 ^ 16) ⌝ }
+    ensures { λ r. ⌜ numeralFrom r ≡ numeral most 0 (slice from to (now (text .entry))) ⌝ }
 {
     let mut value = 0;
     let mut i = from;
     while i < to {
         let b = text[i];
         if b < 48 {
-            return Number::Bad;
+            return Numeral::Bad;
         }
         if 57 < b {
-            return Number::Bad;
+            return Numeral::Bad;
         }
         value = value * 10 + (b - 48) as usize;
-        if model::NUMBER_MOST < value {
-            return Number::Bad;
+        if most < value {
+            return Numeral::Bad;
         }
         i += 1;
     }
-    Number::Is(value as u8)
+    Numeral::Is(value as u16)
 }
 
 // A field is the given name.

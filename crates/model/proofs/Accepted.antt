@@ -41,7 +41,7 @@ sheet-parts text S e =
     let f = cond-refused (hasCircle (scenarioOf (exchangeOf (d .0)))) _ _ _ S (d .2) in
     record { rows = c .0; read = c .1; walked = d .0; expanded = d .1; scenario = cc (f .1); noCircle = f .0 }
 
-or-false : (a b : Bool) → (a || b) ≡ false → (a ≡ false) × (b ≡ false)
+pub or-false : (a b : Bool) → (a || b) ≡ false → (a ≡ false) × (b ≡ false)
 or-false true b h = not-both true refl h
 or-false false b h = (refl, h)
 

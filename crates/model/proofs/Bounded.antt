@@ -166,3 +166,28 @@ lowest-miss k p e f = rw (e, lowest, f)
 -- one number that fails is enough
 pub every-fails : (n : ℕ) (p : ℕ → Bool) (k : ℕ) → k < n → p k ≡ false → every n p ≡ false
 every-fails n p k l h = ⊎-elim (λ t. not-both (p k) (every-at n p t k l) h) (λ f. f) (which (every n p))
+
+-- two tests that pass on the same numbers below the bound have the same lowest
+pub lowest-same : (n : ℕ) (p q : ℕ → Bool) → ((k : ℕ) → k < n → p k ≡ true → q k ≡ true) → ((k : ℕ) → k < n → q k ≡ true → p k ≡ true)
+    → lowest n p ≡ lowest n q
+lowest-same n p q f g = go (lowest n p) (lowest n q) (lowest-found n p) (lowest-found n q)
+  where
+    go : (o u : Option ℕ) → Found n p o → Found n q u → o ≡ u
+    go none none a b = refl
+    go none (some k) a b = not-both (p k) (g k (b .below) (b .passes)) (a k (b .below))
+    go (some j) none a b = not-both (q j) (f j (a .below) (a .passes)) (b j (a .below))
+    go (some j) (some k) a b =
+        ap some
+        (⊎-elim (λ (i : j ≡ k). i)
+        (⊎-elim
+        (λ (h : j < k). not-both (q j) (f j (a .below) (a .passes)) (b .first j h))
+        (λ (h : k < j). not-both (p k) (g k (b .below) (b .passes)) (a .first k h)))
+        (apart j k))
+
+-- no number below the bound passes
+pub lowest-nowhere : (n : ℕ) (p : ℕ → Bool) → ((k : ℕ) → k < n → p k ≡ false) → lowest n p ≡ none
+lowest-nowhere n p f = go (lowest n p) (lowest-found n p)
+  where
+    go : (o : Option ℕ) → Found n p o → o ≡ none
+    go none h = refl
+    go (some k) h = not-both (p k) (h .passes) (f k (h .below))

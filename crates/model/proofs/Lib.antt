@@ -15,6 +15,7 @@ pub mod Lines
 pub mod Least
 pub mod Phases
 pub mod Rank
+pub mod Occurrences
 pub mod Trace
 pub mod Rules
 pub mod Invariants
@@ -25,3 +26,11 @@ pub mod Withholding
 pub mod Orders
 pub mod PointThree
 pub mod Replay
+pub mod Wired
+pub mod FinishedRuns
+pub mod Ahead
+pub mod Course
+pub mod Taps
+pub mod MessageLines
+pub mod Senders
+pub mod Permitted

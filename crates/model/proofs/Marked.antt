@@ -3,7 +3,7 @@ use mathlib.Core.Path.{_≡_, refl}
 use Rattle.model.specs.Bounded.{every, any, lowest, among, same}
 use Rattle.model.specs.Closure.{listed, cells, tabled, reads, linked}
 use Rattle.model.specs.Refusal.{andThen}
-use Rattle.model.specs.Text.{ascii, linesOf, aheadOfLine, fieldsOf, aheadOfField, digitsOnly, decimal, wellBegun, numberOf, placeOf, columnsOf, areColumns, headingOf}
+use Rattle.model.specs.Text.{ascii, linesOf, aheadOfLine, fieldsOf, aheadOfField, digitsOnly, decimal, wellBegun, numberUpTo, placeOf, columnsOf, areColumns, headingOf}
 use Rattle.model.specs.Rows.{formed, fromFields, rowOf}
 use Rattle.model.specs.Place.{messageFits, orderFits, moved, isSheet, placed, isOwnPair, blockDirect, blockTable, blockCircle, circleAt, judged, rowsFrom, opens, strayCall, complete, bodyOf, readOf}
 use Rattle.model.specs.Expansion.{startOf, blockOpened, callMade, messageMet, orderMet, walkRows, callAt, expand}
@@ -16,7 +16,7 @@ use Rattle.model.specs.Marked.{marked, answersFrom, computed}
 
 pub marked-hold : computed marked ≡ marked
 unfolding
-    every any lowest among same andThen ascii linesOf aheadOfLine fieldsOf aheadOfField digitsOnly decimal wellBegun numberOf placeOf columnsOf
+    every any lowest among same andThen ascii linesOf aheadOfLine fieldsOf aheadOfField digitsOnly decimal wellBegun numberUpTo placeOf columnsOf
     areColumns headingOf formed fromFields rowOf messageFits orderFits moved isSheet placed isOwnPair blockDirect blockTable blockCircle circleAt judged rowsFrom opens strayCall complete bodyOf readOf
     startOf blockOpened callMade messageMet orderMet walkRows callAt expand number event messageOf boardOf isEvent isOwn isEarlier cells tabled
     reads linked direct beforeTable scenarioOf atOrBefore hasCircle metOps listed exchangeOf with withDone withHeld next everyEvent isAhead ready

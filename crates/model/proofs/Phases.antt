@@ -42,25 +42,25 @@ bump-cases φ m k =
     (equal-or-not k m)
 
 -- the numbers of two events are the same where the events are
-same-sends : (k m : ℕ) → eqb (number (sendOf k)) (number (sendOf m)) ≡ eqb k m
+pub same-sends : (k m : ℕ) → eqb (number (sendOf k)) (number (sendOf m)) ≡ eqb k m
 unfolding number
 same-sends k m =
     ⊎-elim (λ (e : k ≡ m). rw (e, eq-eqb (2 * m) (2 * m) refl, eq-eqb m m refl))
     (λ (h : k ≡ m → ⊥). rw (ne-eqb k m h, ne-eqb (2 * k) (2 * m) (λ e. h (omega arith))))
     (equal-or-not k m)
 
-same-receives : (k m : ℕ) → eqb (number (receiveOf k)) (number (receiveOf m)) ≡ eqb k m
+pub same-receives : (k m : ℕ) → eqb (number (receiveOf k)) (number (receiveOf m)) ≡ eqb k m
 unfolding number
 same-receives k m =
     ⊎-elim (λ (e : k ≡ m). rw (e, eq-eqb (2 * m + 1) (2 * m + 1) refl, eq-eqb m m refl))
     (λ (h : k ≡ m → ⊥). rw (ne-eqb k m h, ne-eqb (2 * k + 1) (2 * m + 1) (λ e. h (omega arith))))
     (equal-or-not k m)
 
-send-no-receive : (k m : ℕ) → eqb (number (sendOf k)) (number (receiveOf m)) ≡ false
+pub send-no-receive : (k m : ℕ) → eqb (number (sendOf k)) (number (receiveOf m)) ≡ false
 unfolding number
 send-no-receive k m = ne-eqb (2 * k) (2 * m + 1) (λ e. omega arith)
 
-receive-no-send : (k m : ℕ) → eqb (number (receiveOf k)) (number (sendOf m)) ≡ false
+pub receive-no-send : (k m : ℕ) → eqb (number (receiveOf k)) (number (sendOf m)) ≡ false
 unfolding number
 receive-no-send k m = ne-eqb (2 * k + 1) (2 * m) (λ e. omega arith)
 

@@ -133,7 +133,7 @@ module _ (S : Scenario) (C : Causal S) (code : ℕ) (known : code < channels) wh
     isFree : ((e : ℕ) (x : Event) → e < S .count → isRace S (raceRuleOf code) e x ≡ true → ⊥) → Decided free
     isLocked : {e x : ℕ} → LowestRace S code e x → Decided (locked e x (schedule S (channelOf code) e))
 
-  decided : Decided (verdictOf S code)
+  pub decided : Decided (verdictOf S code)
   unfolding verdictOf
   decided = go (lowestRace S (raceRuleOf code)) refl
     where

@@ -39,3 +39,21 @@ scratchLeast = 2048
 
 abbrev pub traceLeast : ℕ
 traceLeast = 2 * (3 * messagesMost)
+
+-- The output lent for the course of two taps: 512 numbers.
+abbrev pub tapNumbersLeast : ℕ
+tapNumbersLeast = 512
+
+-- The table of permitted senders: at most 64 rules; a set of boards is a number 0 to 65,535; 16 times 16 pairs of boards.
+abbrev pub rulesMost : ℕ
+rulesMost = 64
+
+abbrev pub setMost : ℕ
+setMost = 65535
+
+abbrev pub pairs : ℕ
+pairs = boards * boards
+
+-- a verdict is 1, permitted, or 0
+abbrev pub verdictMost : ℕ
+verdictMost = 1

@@ -47,3 +47,13 @@ circleRefusal = 11
 -- request (a): a trace of odd length, or too long
 abbrev pub traceRefusal : ℕ
 traceRefusal = 12
+
+-- an event that the sheet has not, or twice in one list of a tap
+abbrev pub tapRefusal : ℕ
+tapRefusal = 20
+
+abbrev pub senderTableRefusal : ℕ
+senderTableRefusal = 18
+
+abbrev pub forbiddenRefusal : ℕ
+forbiddenRefusal = 19

@@ -65,9 +65,13 @@ wellBegun [] = false
 wellBegun (d ∷ []) = true
 wellBegun (d ∷ e ∷ ds) = not (eqb d 48)
 
--- the number that a field holds, 0 to 255
-unfoldable pub numberOf : List ℕ → Option ℕ
-numberOf f = cond (wellBegun f && digitsOnly f && leb (decimal 0 f) numberMost) (some (decimal 0 f)) none
+-- the number that a field holds, 0 to the largest
+unfoldable pub numberUpTo : ℕ → List ℕ → Option ℕ
+numberUpTo most f = cond (wellBegun f && digitsOnly f && leb (decimal 0 f) most) (some (decimal 0 f)) none
+
+-- a number of a sheet file, 0 to 255
+abbrev pub numberOf : List ℕ → Option ℕ
+numberOf f = numberUpTo numberMost f
 
 -- The heading: which field of each row is its kind, its one and its two.
 pub record Columns : Type 0 where

@@ -30,6 +30,18 @@ pub const SCRATCH_LEAST: usize = 2048;
 pub const TRACE_LEAST: usize = 2 * (3 * MESSAGES_MOST);
 
 // The refusals, by the numbers of the paper's table and of the requests.
+
+// The output of the two taps.
+pub const TAP_NUMBERS_LEAST: usize = 512;
+
+// The table of permitted senders: rules, the largest set of boards, the largest verdict.
+pub const RULES_MOST: usize = 64;
+
+pub const SET_MOST: usize = 65535;
+
+pub const VERDICT_MOST: usize = 1;
+
+// The refusals, by the numbers of the paper's table.
 pub const CHANNEL: u8 = 1;
 
 pub const BENCH: u8 = 2;
@@ -53,3 +65,9 @@ pub const MESSAGES: u8 = 10;
 pub const CIRCLE: u8 = 11;
 
 pub const TRACE: u8 = 12;
+
+pub const TAP: u8 = 20;
+
+pub const SENDER_TABLE: u8 = 18;
+
+pub const FORBIDDEN: u8 = 19;

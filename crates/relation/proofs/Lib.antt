@@ -10,3 +10,4 @@ pub mod Closed
 pub mod Scenario
 pub mod Loops
 pub mod Words
+pub mod Lowest

@@ -93,6 +93,22 @@ trailing-clear (suc k) n i h = go (n % 2) refl i h (λ j g. trailing-clear k (n 
     go zero e (suc j) h rest = half n j ∙ rest j (le-of-suc-le-suc h)
     go (suc d) e i h rest = absurd (not-suc-le-zero h)
 
+-- and the bit at them is, unless the word is zero
+lowest-set : (n : ℕ) → n % 2 ≡ 1 → has n 0 ≡ true
+unfolding has
+lowest-set n e = rw (div-one, e)
+
+pub trailing-set : (k n : ℕ) → n < 2 ^ k → (n ≡ 0 → ⊥) → has n (trailingZeros k n) ≡ true
+unfolding trailingZeros
+trailing-set zero n h z = absurd (z (lt-one h))
+trailing-set (suc k) n h z =
+    let e : 2 ^ suc k ≡ 2 ^ k * 2 = pow-suc 2 k in
+    go (n % 2) refl (λ zero-digit. trailing-set k (n / 2) (omega arith) (λ y. z (omega arith)))
+  where
+    go : (d : ℕ) → n % 2 ≡ d → (n % 2 ≡ 0 → has (n / 2) (trailingZeros k (n / 2)) ≡ true) → has n (under d (trailingZeros k (n / 2))) ≡ true
+    go zero e rest = half n (trailingZeros k (n / 2)) ∙ rest e
+    go (suc d) e rest = lowest-set n (omega arith)
+
 -- a row by itself begins at word 0
 pub alone-row : (W : ℕ) (row : List ℕ) (k : ℕ) → holds W row 0 k ≡ has (getD row (k / wordBits) 0) (k % wordBits)
 unfolding holds

@@ -3,7 +3,9 @@ ghost use mathlib.Core.Path.{_≡_};
 ghost use Prim.Native.Nat.{_+_, _*_, _<_, _≤_};
 ghost use lib.ListN.{length};
 ghost use Rattle.relation.specs.Width.{width, wordBits};
+ghost use Rattle.model.specs.Bounded.{lowest};
 ghost use Rattle.relation.specs.Rows.{holds, marked, joined, joinedFrom, copiedFrom, inserted, cleared, anyOwn};
+ghost use Rattle.relation.specs.Own.{foundIn, isOwn};
 
 // The words of a row. The specs say it once more, as `width`; no other line depends on it.
 pub const WIDTH: usize = 4;
@@ -119,4 +121,23 @@ pub fn circle(words: &[u64], rows: usize) -> bool
         }
     }
     false
+}
+
+// The lowest event that is its own predecessor, if one is.
+pub enum Found {
+    Event(usize),
+    Nothing,
+}
+
+pub fn lowest_own(words: &[u64], rows: usize) -> Found
+    requires { ⌜ rows * width ≤ length (now words) ⌝ }
+    requires { ⌜ rows ≤ wordBits * width ⌝ }
+    ensures { λ r. ⌜ foundIn r ≡ lowest rows (isOwn width (now (words .entry))) ⌝ }
+{
+    for event in 0..rows {
+        if test(words, event, event) {
+            return Found::Event(event);
+        }
+    }
+    Found::Nothing
 }

@@ -1,4 +1,4 @@
--- `digits` meets its contract. The loop's invariant: the digits up to `i` have the value so far, at most 255. Assumes nothing.
+-- `digits` meets its contract. The loop's invariant: the digits up to `i` have the value so far, at most the largest. Assumes nothing.
 use borrow.Author.Needs.{needs}
 use Prim.Native.Nat.{_-_}
 use Rattle.fields.proofs.Scan.{Valued, digits-begin, digits-more, digits-low, digits-high, digits-large, digits-end}
@@ -6,10 +6,10 @@ use Rattle.fields.proofs.digits.Statement.{statement}
 use Rattle.fields.proofs.digits.Tie as tie
 
 abbrev Inv-loop : tie.InvT-loop
-Inv-loop text from to value₀ i₀ value i = Valued text from to value i
+Inv-loop text from to most value₀ i₀ value i = Valued most text from to value i
 
 abbrev μ-loop : tie.MeasureT-loop
-μ-loop text from to value₀ i₀ value i = to - i
+μ-loop text from to most value₀ i₀ value i = to - i
 
 loop-holds : tie.Need-loop-holds Inv-loop μ-loop
 loop-holds c = search digits-begin
@@ -44,8 +44,8 @@ loop-less c = search needs
 loop-again : tie.Need-loop-again Inv-loop μ-loop
 loop-again c = search (digits-more, needs)
 
-cast-t12 : tie.Need-cast-t12 Inv-loop μ-loop
-cast-t12 c = search needs
+cast-t13 : tie.Need-cast-t13 Inv-loop μ-loop
+cast-t13 c = search needs
 
 returns-4 : tie.Need-returns-4 Inv-loop μ-loop
 returns-4 c = search digits-end
@@ -67,5 +67,5 @@ digits-spec =
     add-i
     loop-less
     loop-again
-    cast-t12
+    cast-t13
     returns-4)

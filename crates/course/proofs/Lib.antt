@@ -1,0 +1,4 @@
+pub mod Lists
+pub mod Taking
+pub mod Written
+pub mod Closing

@@ -1,0 +1,3 @@
+pub mod Lines
+pub mod Storing
+pub mod Whole

@@ -3,6 +3,7 @@ mod arguments;
 mod steps;
 mod traces;
 
+use arguments::Code;
 use libc::STDERR_FILENO;
 use libc::STDIN_FILENO;
 
@@ -23,24 +24,35 @@ fn print_usage() {
     );
 }
 
+// The words that name a channel code behind them.
+fn answer_on(word: &[u8], code: u32) {
+    let mut text = [0u8; MOST];
+    if check::same(word, b"steps") {
+        let n = io::read_full(STDIN_FILENO, &mut text);
+        steps::print(&text[..n], code);
+    } else if check::same(word, b"trace") {
+        let n = io::read_full(STDIN_FILENO, &mut text);
+        steps::write(&text[..n], code);
+    } else if check::same(word, b"replay") {
+        let n = io::read_full(STDIN_FILENO, &mut text);
+        traces::print(&text[..n], code);
+    } else {
+        print_usage();
+    }
+}
+
 fn main() {
     let mut space = [0u8; arguments::WORD_MOST];
     let length = os::arg(1, &mut space);
-    let mut text = [0u8; MOST];
     let word = &space[..length];
     if check::same(word, b"check") {
+        let mut text = [0u8; MOST];
         let n = io::read_full(STDIN_FILENO, &mut text);
         report::print_channels(&text[..n]);
-    } else if check::same(word, b"steps") {
-        let n = io::read_full(STDIN_FILENO, &mut text);
-        steps::print(&text[..n], arguments::code(2));
-    } else if check::same(word, b"trace") {
-        let n = io::read_full(STDIN_FILENO, &mut text);
-        steps::write(&text[..n], arguments::code(2));
-    } else if check::same(word, b"replay") {
-        let n = io::read_full(STDIN_FILENO, &mut text);
-        traces::print(&text[..n], arguments::code(2));
     } else {
-        print_usage();
+        match arguments::code_in(2) {
+            Code::Missing => print_usage(),
+            Code::Is(code) => answer_on(word, code),
+        }
     }
 }

@@ -12,6 +12,8 @@ pub mod Clean
 pub mod Causal
 pub mod Accepted
 pub mod Lines
+pub mod Asking
+pub mod ChoiceLists
 pub mod Least
 pub mod Phases
 pub mod Rank

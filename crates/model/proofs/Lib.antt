@@ -27,6 +27,7 @@ pub mod Jam
 pub mod Withholding
 pub mod Orders
 pub mod PointThree
+pub mod Choices
 pub mod Replay
 pub mod Wired
 pub mod FinishedRuns

@@ -174,7 +174,7 @@ module _ (S : Scenario) (C : Causal S) (code : ℕ) (known : code < channels) wh
       (stuck-unfinished S c (view S (R .phases)) h) in
       stuck-forbids S (R .phases) c C h (p .0) (p .1)
 
-  verdict-for : (a : Answer) → Decided a → (trace : List ℕ) → Verdict S code (numbersOf a) (traceAfter a trace)
+  pub verdict-for : (a : Answer) → Decided a → (trace : List ℕ) → Verdict S code (numbersOf a) (traceAfter a trace)
   unfolding traceAfter
   verdict-for a (isFree quiet) trace =
       record {

@@ -216,7 +216,7 @@ module _ (file : List Row) where
   abbrev pub walkOn : List Bool → Out (Progress Met)
   walkOn l = expand metOps l file nothingMet
 
-  asks-walk : (l : List Bool) → isAsked (exchangeWith l file) ≡ isAsked (walkOn l)
+  pub asks-walk : (l : List Bool) → isAsked (exchangeWith l file) ≡ isAsked (walkOn l)
   unfolding exchangeWith
   asks-walk l = exchange-asked (walkOn l)
 

@@ -28,6 +28,7 @@ pub mod Withholding
 pub mod Orders
 pub mod PointThree
 pub mod Choices
+pub mod WithoutChoices
 pub mod Replay
 pub mod Wired
 pub mod FinishedRuns

@@ -29,6 +29,7 @@ pub mod Orders
 pub mod PointThree
 pub mod Choices
 pub mod WithoutChoices
+pub mod ChoiceBounds
 pub mod Replay
 pub mod Wired
 pub mod FinishedRuns

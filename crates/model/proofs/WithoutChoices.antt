@@ -21,7 +21,7 @@ use Rattle.model.specs.Race.{raceRuleOf, lowestRace}
 use Rattle.model.specs.Schedule.{schedule}
 use Rattle.model.specs.Answer.{scratchCleared, Answer, free, locked, refused, expandedWith, sheetOf, acceptedOf, answerFor, answerOf, verdictOf, numbersOf, scratchBehind, traceAfter}
 use Rattle.model.specs.Verdict.{Checked}
-use Rattle.model.specs.Choice.{isAsked, asks, listsFrom, listsOf, ChoiceAnswer, eachFree, firstLocked, firstRefused, refusalIn, lockIn, judgedOver, choosable, choiceAnswerFor, choiceAnswerOf, choicesNumber, ChoiceNumbers, choiceNumbers, firstFour, traceChosen, isChoice, readsAsChoice, anyChoice, choicesBehind, hasChoices, ChoiceVerdict, ChoiceChecked}
+use Rattle.model.specs.Choice.{isAsked, asks, listsFrom, listsOf, ChoiceAnswer, eachFree, firstLocked, firstRefused, refusalIn, lockIn, judgedOver, choosable, choiceAnswerFor, choiceAnswerOf, choicesNumber, ChoiceNumbers, choiceNumbers, firstFour, traceChosen, isChoice, Plain, readsAsChoice, anyChoice, choicesBehind, hasChoices, ChoiceVerdict, ChoiceChecked}
 use Rattle.model.proofs.Bounded.{not-both}
 use Rattle.model.proofs.Refusal.{not-refused, passed}
 use Rattle.model.proofs.Standing.{read-parts}
@@ -154,11 +154,6 @@ body-same (h ∷ ls) e = go (headingOf h) e
 pub read-same : (text : List ℕ) → hasChoices text ≡ false → readWith true text ≡ readOf text
 unfolding readWith hasChoices
 read-same text e = rw (body-same (linesOf text) e)
-
--- no row is an A row
-abbrev pub Plain : List Row → Type 0
-Plain [] = Unit {0}
-Plain (r ∷ rs) = (isChoice r ≡ false) × Plain rs
 
 judged-plain : (c : Columns) (i : ℕ) (p : Place) (l : Line) (rp : Row × Place) → judged false c i p l ≡ ok rp → isChoice (rp .0) ≡ false
 unfolding judged

@@ -161,6 +161,11 @@ isChoice block = false
 isChoice (call n) = false
 isChoice (choice m n) = true
 
+-- no row is an A row
+abbrev pub Plain : List Row → Type 0
+Plain [] = Unit {0}
+Plain (r ∷ rs) = (isChoice r ≡ false) × Plain rs
+
 unfoldable pub readsAsChoice : Columns → Line → Bool
 readsAsChoice c l = elim (rowOf true c l) [ none ↦ false | some r ↦ isChoice r ]
 

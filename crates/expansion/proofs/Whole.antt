@@ -4,7 +4,7 @@ use Prim.Native.Nat.{ℕ, _+_, _-_, _*_, _<_, _≤_}
 use native.Mathlib.Omega.{arith}
 use mathlib.Core.Path.{_≡_, refl, sym, _∙_, ap, subst}
 use mathlib.Core.Bool.{Bool, true, false, cond}
-use mathlib.Core.List.{List, [], _++_, append-nil}
+use mathlib.Core.List.{List, _++_, append-nil}
 use lib.ListN.{length, getD, replicate, length-replicate, drop-of-length-le}
 use Rattle.model.specs.Limits.{boards, messagesMost, levels}
 use Rattle.model.specs.Refusal.{Out, ok, refusal, andThen, circleRefusal}
@@ -12,12 +12,9 @@ use Rattle.model.specs.Rows.{Row}
 use Rattle.model.specs.Place.{lineOf}
 use Rattle.model.specs.Expansion.{Progress, startOf, walkRows, callAt}
 use Rattle.model.specs.Expansion.{expand as expandRows}
-use Rattle.model.specs.Order.{Scenario, Met, metOps, nothingMet, exchangeOf, scenarioOf}
-use Rattle.model.specs.Answer.{withoutCircle, expandedWith}
+use Rattle.model.specs.Order.{Scenario}
 use Rattle.model.proofs.Lists.{replicate-at}
 use Rattle.model.proofs.Standing.{read-fits}
-use Rattle.model.specs.Choice.{Plain}
-use Rattle.model.proofs.WithoutChoices.{expanded-plain}
 use Rattle.relation.specs.Width.{width}
 use Rattle.relation.specs.Rows.{cleared, anyOwn}
 use Rattle.relation.specs.Scenario.{scenarioIn}
@@ -190,37 +187,3 @@ module _ (options : ℕ) (kind one two : List ℕ) (count : ℕ) where
               };
               room = subst (λ (n : ℕ). Room n (u .count) t′) (behind .empty) (l .room);
             }
-
--- Without the A rows met: the scenario of the rows on a list of options, and of rows without an A row.
-uncounted-same : (options : List Bool) (rows : List Row) → expandedWith options rows ≡ andThen (countedWith options rows) (λ p. ok (p .0))
-unfolding expandedWith countedWith andThen
-uncounted-same options rows = go (expandRows metOps options rows nothingMet)
-  where
-    ended : (o : Out Scenario) (n : ℕ) → o ≡ andThen (andThen {B = Scenario × ℕ} o (λ S. ok (S, n))) (λ p. ok (p .0))
-    ended (ok S) n = refl
-    ended (refusal number line) n = refl
-
-    go : (o : Out (Progress Met)) → andThen o (λ s. withoutCircle (scenarioOf (exchangeOf s)))
-        ≡ andThen (andThen {B = Scenario × ℕ} o (λ s. andThen (withoutCircle (scenarioOf (exchangeOf s))) (λ S. ok (S, s .walk .choices)))) (λ p. ok (p .0))
-    go (ok u) = ended (withoutCircle (scenarioOf (exchangeOf u))) (u .walk .choices)
-    go (refusal number line) = refl
-
-module _ (boards words : List ℕ) (r : Counted) (options : List Bool) (rows : List Row) (h : countedOf r boards words ≡ countedWith options rows) where
-  listed : (o : Out (Scenario × ℕ)) → countedOf r boards words ≡ o → andThen o (λ p. ok (p .0)) ≡ expandedWith options rows
-  listed o e = ap (λ (q : Out (Scenario × ℕ)). andThen q (λ p. ok (p .0))) (sym e ∙ h) ∙ sym (uncounted-same options rows)
-
-  pub listed-refused : (number line : ℕ) → r ≡ counted.Refused number line → refusal number line ≡ expandedWith options rows
-  unfolding andThen
-  listed-refused number line i = listed (refusal number line) (ap (λ (c : Counted). countedOf c boards words) i)
-
-  pub listed-messages : (count choices : ℕ) → r ≡ counted.Messages count choices → ok (scenarioIn count boards words) ≡ expandedWith options rows
-  unfolding andThen
-  listed-messages count choices i = listed (ok (scenarioIn count boards words, choices)) (ap (λ (c : Counted). countedOf c boards words) i)
-
-  -- rows without an A row
-  module _ (plain : Plain rows) where
-    pub plain-refused : (number line : ℕ) → r ≡ counted.Refused number line → refusal number line ≡ expandedWith [] rows
-    plain-refused number line i = listed-refused number line i ∙ expanded-plain rows plain options
-
-    pub plain-messages : (count choices : ℕ) → r ≡ counted.Messages count choices → ok (scenarioIn count boards words) ≡ expandedWith [] rows
-    plain-messages count choices i = listed-messages count choices i ∙ expanded-plain rows plain options

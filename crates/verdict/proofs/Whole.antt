@@ -1,5 +1,5 @@
 -- The whole promise, from what the parts of the check hand on. Assumes nothing.
-use mathlib.Core.Path.{_≡_, refl, sym, _∙_, ap, subst⁻¹}
+use mathlib.Core.Path.{_≡_, refl, _∙_}
 use mathlib.Core.Bool.{or-true}
 use mathlib.Core.List.{List, _++_}
 use Prim.Native.Nat.{ℕ, _<_, _≤_}
@@ -8,12 +8,10 @@ use borrow.Author.Tests.{lt-ltb, le-ltb, le-leb}
 use lib.Dec.{ltb}
 use lib.ListN.{length, drop}
 use Rattle.model.specs.Limits.{channels, scratchLeast, traceLeast}
-use Rattle.model.specs.Refusal.{Out, refusal, channelRefusal, benchRefusal}
-use Rattle.model.specs.Order.{Scenario}
-use Rattle.model.specs.Answer.{Numbers, refusedWord, sheetOf, acceptedOf, answerFor, answerOf, numbersOf, scratchBehind, traceAfter}
-use Rattle.model.specs.Verdict.{PointThree, Checked}
-use Rattle.model.proofs.Accepted.{accepted-parts, sheet-meets}
-use Rattle.model.proofs.PointThree.{point-three}
+use Rattle.model.specs.Refusal.{refusal, channelRefusal, benchRefusal}
+use Rattle.model.specs.Answer.{refusedWord, sheetOf, acceptedOf, answerFor, scratchBehind, traceAfter}
+use Rattle.model.specs.Verdict.{Checked}
+use Rattle.model.proofs.PointThree.{checked-from}
 use Rattle.relation.specs.Rows.{cleared}
 use Rattle.scenario.proofs.Laws.{scratch-behind}
 use Rattle.verdict.specs.declared.Answer.{Answer}

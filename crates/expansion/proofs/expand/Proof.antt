@@ -1,6 +1,6 @@
 -- `expansion::expand` meets its contract: rows without an A row ask for no option. Assumes nothing.
 use borrow.Author.Needs.{needs}
-use Rattle.expansion.proofs.Whole.{plain-refused, plain-messages}
+use Rattle.expansion.proofs.Listed.{plain-refused, plain-messages}
 use Rattle.expansion.proofs.expand.Statement.{statement}
 use Rattle.expansion.proofs.expand.Tie as tie
 

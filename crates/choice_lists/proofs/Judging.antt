@@ -113,7 +113,7 @@ module _ (file : List Row) (code : ℕ) (l : List Bool) (ls : List (List Bool)) 
   lock-here S e x ts h i = lock-by S (locked e x ts) h i
 
 -- a verdict by its race
-verdict-by : (S : Scenario) (code : ℕ) (o : Option (ℕ × ℕ)) → lowestRace S (raceRuleOf code) ≡ o
+pub verdict-by : (S : Scenario) (code : ℕ) (o : Option (ℕ × ℕ)) → lowestRace S (raceRuleOf code) ≡ o
     → verdictOf S code ≡ elim o [ none ↦ free | some race ↦ locked (race .0) (race .1) (schedule S (channelOf code) (race .0)) ]
 unfolding verdictOf
 verdict-by S code o e = ap (λ (p : Option (ℕ × ℕ)). elim p [ none ↦ free | some race ↦ locked (race .0) (race .1) (schedule S (channelOf code) (race .0)) ]) e

@@ -21,6 +21,10 @@ pub record Numbering (list met number k : ℕ) : Type 0 where
   pub inside : k ≤ met
   pub is : number ≡ choicesNumber (drop k (take met (optionsOf list)))
 
+-- a number known by another name
+pub numbering-as : {list met number joined k : ℕ} → joined ≡ number → Numbering list met number k → Numbering list met joined k
+numbering-as e j = record { inside = j .inside; is = e ∙ j .is }
+
 module _ (list met : ℕ) (short : met ≤ choicesMost) where
   abbrev options : List Bool
   options = take met (optionsOf list)

@@ -246,8 +246,8 @@ module _ (file : List Row) (fits : Fits [] file) (code : ℕ) (known : code < ch
             lockedWhen = (
               λ i. absurd (omega arith),
               λ k. let l = k .1 .0 in
-              let g = f l (A .each l .1 (k .1 .1)) in
-              absurd (free-not-stuck l (g .0) (g .1) (g .2) (k .1 .2)),
+                  let g = f l (A .each l .1 (k .1 .1)) in
+                  absurd (free-not-stuck l (g .0) (g .1) (g .2) (k .1 .2)),
             );
             lockedFirst = λ i. absurd (omega arith);
             freeWhen = (λ i l c. let g = f l (A .each l .1 c) in free-finishes l (g .0) (g .1) (g .2), λ h. refl);

@@ -1,5 +1,5 @@
 -- What each part of the call is to show, from what its own parts handed on. Assumes nothing.
-use Prim.Native.Nat.{ℕ, _*_, _<_, _≤_}
+use Prim.Native.Nat.{ℕ, _*_, _≤_}
 use native.Mathlib.Omega.{arith}
 use mathlib.Core.Path.{_≡_, refl, sym, _∙_, ap, subst, subst⁻¹}
 use mathlib.Core.Bool.{Bool, true}
@@ -7,15 +7,14 @@ use mathlib.Core.List.{List, [], _∷_}
 use mathlib.Core.Option.{Option, none, some}
 use lib.ListN.{length, take}
 use Rattle.model.specs.Limits.{choicesMost, listsMost, messagesMost}
-use Rattle.model.specs.Refusal.{Out, ok, refusal}
+use Rattle.model.specs.Refusal.{Out, ok}
 use Rattle.model.specs.Rows.{Row}
 use Rattle.model.specs.Place.{readWith}
 use Rattle.model.specs.Order.{Scenario}
 use Rattle.model.specs.Race.{raceRuleOf, lowestRace}
-use Rattle.model.specs.Run.{Step}
 use Rattle.model.specs.Answer as model
 use Rattle.model.specs.Answer.{expandedWith, verdictOf, answerFor, traceAfter}
-use Rattle.model.specs.Choice.{ChoiceAnswer, firstLocked, firstRefused, listsOf, refusalIn, lockIn, judgedOver, choiceAnswerFor, choicesNumber, choiceNumbers, traceChosen}
+use Rattle.model.specs.Choice.{ChoiceAnswer, firstRefused, listsOf, refusalIn, lockIn, judgedOver, choiceAnswerFor, choicesNumber, traceChosen}
 use Rattle.model.proofs.Asking.{beginning-most}
 use Rattle.model.proofs.Refusal.{not-refused}
 use Rattle.relation.specs.Width.{width}

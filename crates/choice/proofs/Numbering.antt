@@ -1,10 +1,9 @@
 -- The number of a list, option by option from the last on. Assumes nothing.
 use Prim.Native.Nat.{ℕ, suc, _+_, _-_, _*_, _^_, _<_, _≤_}
-use native.Mathlib.Numerals.{add-one}
 use native.Mathlib.Omega.{arith}
-use mathlib.Core.Path.{_≡_, refl, sym, _∙_, ap}
+use mathlib.Core.Path.{_≡_, sym, _∙_, ap}
 use mathlib.Core.Bool.{Bool, true, false, cond}
-use mathlib.Core.List.{List, [], _∷_}
+use mathlib.Core.List.{List, _∷_}
 use lib.ListN.{length, take, drop, getD, drop-of-length-le, length-drop}
 use lib.Pow.{pow-mono}
 use lib.Seq.{drop-cons, getD-take, length-take-le}
@@ -20,6 +19,10 @@ use Rattle.levels.proofs.Choosing.{options-length}
 pub record Numbering (list met number k : ℕ) : Type 0 where
   pub inside : k ≤ met
   pub is : number ≡ choicesNumber (drop k (take met (optionsOf list)))
+
+-- a number known by another name
+pub numbering-as : {list met number joined k : ℕ} → joined ≡ number → Numbering list met number k → Numbering list met joined k
+numbering-as e j = record { inside = j .inside; is = e ∙ j .is }
 
 module _ (list met : ℕ) (short : met ≤ choicesMost) where
   abbrev options : List Bool

@@ -11,7 +11,7 @@ use Rattle.model.specs.Limits.{channels, scratchLeast, traceLeast}
 use Rattle.model.specs.Refusal.{Out, ok, refusal, channelRefusal, benchRefusal}
 use Rattle.model.specs.Rows.{Row}
 use Rattle.model.specs.Place.{readWith}
-use Rattle.model.specs.Answer.{refusedWord, scratchBehind}
+use Rattle.model.specs.Answer.{scratchBehind}
 use Rattle.model.specs.Choice.{choosable, choiceAnswerFor, choiceAnswerOf, ChoiceNumbers, choiceNumbers, traceChosen, ChoiceChecked}
 use Rattle.model.proofs.Lines.{Reads, read-well}
 use Rattle.model.proofs.WithoutChoices.{choice-checked-from}

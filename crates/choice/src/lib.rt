@@ -40,11 +40,11 @@ fn choices_of(list: usize, met: usize) -> usize
     let mut number = 0;
     let mut k = met;
     while 0 < k {
-        k -= 1;
         number = 2 * number;
-        if levels::takes_second(list, k) {
+        if levels::takes_second(list, k - 1) {
             number += 1;
         }
+        k -= 1;
     }
     number
 }
@@ -66,9 +66,7 @@ fn decide_list(
     let answer = verdict::decide(words, boards, count, code, trace);
     match answer {
         Answer::Free => Choice::Free,
-        Answer::Locked(e, x, steps) => {
-            Choice::Locked(e, x, steps, met, choices_of(list, met))
-        }
+        Answer::Locked(e, x, steps) => { Choice::Locked(e, x, steps, met, choices_of(list, met)) }
         Answer::Refused(number, line) => Choice::Refused(number, line),
     }
 }
@@ -125,7 +123,18 @@ fn judge_lists(
             if first == choice_lists::LISTS {
                 return decide_list(words, boards, messages, list, met, code, trace);
             }
-            lock_list(kind, one, two, count, start, first, code, boards, words, trace)
+            lock_list(
+                kind,
+                one,
+                two,
+                count,
+                start,
+                first,
+                code,
+                boards,
+                words,
+                trace,
+            )
         }
     }
 }
@@ -145,7 +154,17 @@ fn judge(text: &[u8], code: usize, words: &mut [u64], trace: &mut [u8]) -> Choic
     match verdict {
         Verdict::Refused(number, line) => Choice::Refused(number, line),
         Verdict::Rows(count) => {
-            judge_lists(&kind, &one, &two, count, &start, code, &mut boards, words, trace)
+            judge_lists(
+                &kind,
+                &one,
+                &two,
+                count,
+                &start,
+                code,
+                &mut boards,
+                words,
+                trace,
+            )
         }
     }
 }

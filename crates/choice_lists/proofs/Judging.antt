@@ -4,14 +4,12 @@ use Prim.Native.Nat.{ℕ, _+_, _-_, _*_, _^_, _<_, _≤_}
 use native.Mathlib.Omega.{arith}
 use mathlib.Core.Path.{_≡_, refl, sym, _∙_, ap, subst}
 use mathlib.Core.Bool.{Bool, true, false, cond}
-use mathlib.Core.List.{List, [], _∷_, _++_}
+use mathlib.Core.List.{List, [], _∷_}
 use mathlib.Core.Option.{Option, none, some}
-use borrow.Author.Tests.{eqb-true, eqb-false, eq-eqb, ne-eqb}
+use borrow.Author.Tests.{eqb-true, eqb-false, ne-eqb}
 use lib.Dec.{eqb}
 use lib.ListN.{length}
 use lib.Pow.{pow-pos}
-use mir.Syntax.{w64}
-use mir.Val.{Fits as FitsWord}
 use Rattle.model.specs.Limits.{choicesMost, listsMost, messagesMost}
 use Rattle.model.specs.Refusal.{Out, ok, refusal, andThen}
 use Rattle.model.specs.Rows.{Row}
@@ -43,7 +41,7 @@ use Rattle.expansion.specs.declared.Counted.{Counted}
 use Rattle.expansion.specs.declared.Counted.the-variants.{Messages, Refused}
 use Rattle.expansion.proofs.Listed.{listed-refused, listed-messages}
 use Rattle.choice_lists.specs.Places.{placeOf, Tiles}
-use Rattle.choice_lists.specs.Walked.{firstFrom, LockAt, LastList, WalkedAs}
+use Rattle.choice_lists.specs.Walked.{firstFrom, LockAt, LastList}
 use Rattle.choice_lists.proofs.Places.{place-below, padding, options-at, padded-length, tiles-all}
 
 -- The walk of the list at a place, as the code hands it on.

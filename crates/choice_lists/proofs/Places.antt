@@ -15,7 +15,7 @@ use native.Mathlib.Nat.{mod-eq-of-lt}
 use lib.Seq.{take-at}
 use Rattle.model.specs.Limits.{choicesMost, listsMost}
 use Rattle.model.specs.Rows.{Row}
-use Rattle.model.specs.Choice.{asks, Beginning, nothing, more, ChoiceList, listsFrom, listsOf}
+use Rattle.model.specs.Choice.{asks, Beginning, nothing, more, listsFrom, listsOf}
 use Rattle.model.proofs.Asking.{asked-short}
 use Rattle.levels.specs.Options.{optionsIn, optionsOf}
 use Rattle.choice_lists.specs.Places.{placeIn, placeOf, Tiles}

@@ -1,12 +1,12 @@
 -- What the way through all lists of a file hands on. Assumes nothing.
-use Prim.Native.Nat.{ℕ, _<_, _≤_}
+use Prim.Native.Nat.{ℕ}
 use mathlib.Core.Path.{_≡_}
 use mathlib.Core.Bool.{Bool, cond}
 use mathlib.Core.List.{List, [], _∷_}
 use mathlib.Core.Option.{Option, none, some}
 use lib.Dec.{eqb}
 use lib.ListN.{length}
-use Rattle.model.specs.Limits.{choicesMost, listsMost}
+use Rattle.model.specs.Limits.{listsMost}
 use Rattle.model.specs.Refusal.{ok}
 use Rattle.model.specs.Rows.{Row}
 use Rattle.model.specs.Order.{Scenario}

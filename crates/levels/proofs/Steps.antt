@@ -9,12 +9,12 @@ use mathlib.Core.List.{List, _∷_}
 use lib.Dec.{eqb, leb, ltb}
 use lib.ListN.{length, getD, set}
 use lib.Seq.{getD-set-same, getD-set-other}
-use borrow.Author.Tests.{lt-ltb, le-ltb, eqb-true, eq-eqb}
+use borrow.Author.Tests.{lt-ltb, le-ltb, eqb-true}
 use Rattle.model.specs.Limits.{levels, callsMost, choicesMost}
 use Rattle.model.specs.Refusal.{Out, ok, refusal, andThen, depthRefusal, callsRefusal, choicesRefusal}
 use Rattle.model.specs.Rows.{Row, sheet, block, call, choice}
 use Rattle.model.specs.Place.{lineOf}
-use Rattle.model.specs.Expansion.{Progress, startOf, taken, chosenMore, blockOpened, callMade, walkRows, callAt}
+use Rattle.model.specs.Expansion.{Progress, startOf, taken, blockOpened, callMade, walkRows, callAt}
 use Rattle.model.specs.Order.{Scenario}
 use Rattle.model.proofs.Bounded.{not-both}
 use Rattle.relation.specs.Width.{width}

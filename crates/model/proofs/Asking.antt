@@ -5,18 +5,18 @@ use native.Mathlib.Omega.{arith}
 use mathlib.Core.Path.{_≡_, refl, sym, _∙_, ap, subst}
 use mathlib.Core.Bool.{Bool, true, false, _&&_}
 use mathlib.Core.List.{List, [], _∷_, _++_, append-nil}
-use lib.Dec.{eqb, leb, ltb}
-use lib.ListN.{length, drop, getD, length-append, List·getD-append}
+use lib.Dec.{leb, ltb}
+use lib.ListN.{length, drop, length-append, List·getD-append}
 use native.Mathlib.Decide.{decLt}
 use borrow.Author.Tests.{ltb-true, lt-ltb, leb-true, leb-false}
 use Rattle.model.specs.Limits.{messagesMost, levels, callsMost, choicesMost}
-use Rattle.model.specs.Refusal.{Out, ok, refusal, andThen, depthRefusal, callsRefusal, messagesRefusal, choicesRefusal}
+use Rattle.model.specs.Refusal.{Out, ok, refusal, andThen, callsRefusal, messagesRefusal, choicesRefusal}
 use Rattle.model.specs.Rows.{Row, sheet, message, order, block, call, choice}
 use Rattle.model.specs.Place.{lineOf}
 use Rattle.model.specs.Expansion.{Ops, Progress, freshWalk, startOf, taken, chosenMore, blockOpened, callMade, messageMet, orderMet, walkRows, callAt, expand}
 use Rattle.model.specs.Order.{Met, metOps, nothingMet, exchangeOf}
-use Rattle.model.specs.Answer.{exchangeWith, expandedWith}
-use Rattle.model.specs.Choice.{isAsked, asks, Beginning, nothing, more, ChoiceList}
+use Rattle.model.specs.Answer.{exchangeWith}
+use Rattle.model.specs.Choice.{isAsked, asks, Beginning, nothing, more}
 use Rattle.model.proofs.Bounded.{and-left, and-right, not-both}
 use Rattle.model.proofs.Refusal.{not-refused, and-then-ok}
 

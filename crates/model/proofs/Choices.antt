@@ -3,7 +3,7 @@ use Prim.Native.Nat.{ℕ, _<_, _≤_}
 use native.Mathlib.Omega.{arith}
 use mathlib.Core.Path.{_≡_, refl, sym, _∙_, ap, subst, subst⁻¹}
 use mathlib.Core.Logic.{inl, inr, ⊎-elim}
-use mathlib.Core.Bool.{Bool, true, false, _||_}
+use mathlib.Core.Bool.{Bool, true, _||_}
 use mathlib.Core.List.{List, [], _∷_}
 use mathlib.Core.Option.{Option, none, some}
 use lib.Dec.{ltb}
@@ -16,9 +16,9 @@ use Rattle.model.specs.Place.{readWith}
 use Rattle.model.specs.Order.{Scenario}
 use Rattle.model.specs.Channel.{channelOf}
 use Rattle.model.specs.Run.{Step, EndsStuck}
-use Rattle.model.specs.Answer.{Answer, free, locked, refused, expandedWith, verdictOf, answerFor, traceAfter, Numbers, numbersOf}
+use Rattle.model.specs.Answer.{Answer, free, locked, refused, expandedWith, verdictOf, answerFor, traceAfter, numbersOf}
 use Rattle.model.specs.Verdict.{Verdict}
-use Rattle.model.specs.Choice.{ChoiceList, listsOf, Ahead, Among, InOrder, AllLists, ChoiceAnswer, eachFree, firstLocked, firstRefused, refusalIn, lockIn, judgedOver, choosable, choiceAnswerFor, choiceAnswerOf, choicesNumber, choiceNumbers, traceChosen, Sticking, Finishing, ChoiceVerdict}
+use Rattle.model.specs.Choice.{ChoiceList, listsOf, Ahead, Among, InOrder, AllLists, ChoiceAnswer, eachFree, firstLocked, firstRefused, refusalIn, lockIn, judgedOver, choosable, choiceAnswerFor, choiceAnswerOf, choiceNumbers, traceChosen, Sticking, Finishing, ChoiceVerdict}
 use Rattle.model.proofs.Refusal.{not-refused, cond-ok, cond-refused}
 use Rattle.model.proofs.Standing.{Fits, read-fits}
 use Rattle.model.proofs.Causal.{Causal}
@@ -246,8 +246,8 @@ module _ (file : List Row) (fits : Fits [] file) (code : ℕ) (known : code < ch
             lockedWhen = (
               λ i. absurd (omega arith),
               λ k. let l = k .1 .0 in
-              let g = f l (A .each l .1 (k .1 .1)) in
-              absurd (free-not-stuck l (g .0) (g .1) (g .2) (k .1 .2)),
+                  let g = f l (A .each l .1 (k .1 .1)) in
+                  absurd (free-not-stuck l (g .0) (g .1) (g .2) (k .1 .2)),
             );
             lockedFirst = λ i. absurd (omega arith);
             freeWhen = (λ i l c. let g = f l (A .each l .1 c) in free-finishes l (g .0) (g .1) (g .2), λ h. refl);

@@ -1,12 +1,11 @@
 -- A file without A rows: it is read as the check reads it, its walk asks for no option, and so the call gives what the check gives.
 -- Assumes nothing.
 use Prim.Native.Nat.{ℕ, zero, suc}
-use native.Mathlib.Omega.{arith}
-use mathlib.Core.Path.{_≡_, refl, sym, _∙_, ap, ap₂, subst, subst⁻¹}
+use mathlib.Core.Path.{_≡_, refl, sym, _∙_, ap, subst, subst⁻¹}
 use mathlib.Core.Bool.{Bool, true, false, cond, _&&_, _||_}
 use mathlib.Core.List.{List, [], _∷_, _++_}
 use mathlib.Core.Option.{Option, none, some}
-use lib.Dec.{eqb, leb, ltb}
+use lib.Dec.{eqb, ltb}
 use lib.ListN.{length, drop, getD}
 use borrow.Author.Tests.{lt-leb}
 use Rattle.model.specs.Limits.{rowsMost, messagesMost, levels, callsMost, channels, scratchLeast, traceLeast}
@@ -20,7 +19,6 @@ use Rattle.model.specs.Channel.{channelOf}
 use Rattle.model.specs.Race.{raceRuleOf, lowestRace}
 use Rattle.model.specs.Schedule.{schedule}
 use Rattle.model.specs.Answer.{scratchCleared, Answer, free, locked, refused, expandedWith, sheetOf, acceptedOf, answerFor, answerOf, verdictOf, numbersOf, scratchBehind, traceAfter}
-use Rattle.model.specs.Verdict.{Checked}
 use Rattle.model.specs.Choice.{isAsked, asks, listsFrom, listsOf, ChoiceAnswer, eachFree, firstLocked, firstRefused, refusalIn, lockIn, judgedOver, choosable, choiceAnswerFor, choiceAnswerOf, choicesNumber, ChoiceNumbers, choiceNumbers, firstFour, traceChosen, isChoice, Plain, readsAsChoice, anyChoice, choicesBehind, hasChoices, ChoiceVerdict, ChoiceChecked}
 use Rattle.model.proofs.Bounded.{not-both}
 use Rattle.model.proofs.Refusal.{not-refused, passed}

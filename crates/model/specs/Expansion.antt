@@ -1,6 +1,6 @@
 -- "Expansion": the walk of sheet 0 and of all that it calls, and refusals 8, 9, 10 and, of request (c), 13 as the walk meets them.
 -- The walk is written once, over what it collects and over the list that it takes its options from. Assumes nothing.
-use Prim.Native.Nat.{ℕ, zero, suc, _+_}
+use Prim.Native.Nat.{ℕ, zero, suc}
 use mathlib.Core.Bool.{Bool, true, false, cond, _&&_}
 use mathlib.Core.List.{List, [], _∷_}
 use lib.Dec.{eqb, leb, ltb}

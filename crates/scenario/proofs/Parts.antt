@@ -1,5 +1,5 @@
 -- What the reading and the expansion hand on, as the scenario of the text. Assumes nothing.
-use mathlib.Core.Path.{_≡_, refl, sym, _∙_, ap, subst, subst⁻¹}
+use mathlib.Core.Path.{_≡_, refl, sym, subst, subst⁻¹}
 use mathlib.Core.Bool.{false}
 use mathlib.Core.List.{List}
 use Prim.Native.Nat.{ℕ, _*_, _<_, _≤_}
@@ -7,7 +7,7 @@ use native.Mathlib.Omega.{arith}
 use lib.ListN.{length}
 use Rattle.model.specs.Limits as limits
 use Rattle.model.specs.Limits.{messagesMost}
-use Rattle.model.specs.Refusal.{Out, ok, refusal, andThen}
+use Rattle.model.specs.Refusal.{Out, refusal, andThen}
 use Rattle.model.specs.Rows.{Row}
 use Rattle.model.specs.Order.{Event, event, board}
 use Rattle.model.specs.Answer.{expandedOf, sheetOf}

@@ -69,7 +69,17 @@ fn rows(
     let mut row = 0;
     let mut messages = 0;
     while at < text.len() {
-        let s = row::take_row(text, at, row, messages, choices, columns, start, &mut boards, words);
+        let s = row::take_row(
+            text,
+            at,
+            row,
+            messages,
+            choices,
+            columns,
+            start,
+            &mut boards,
+            words,
+        );
         match s {
             Step::Refused(number) => {
                 return Verdict::Refused(number, row + 2);

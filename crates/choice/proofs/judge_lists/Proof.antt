@@ -34,8 +34,7 @@ lock-list-requires c κs =
     let other = c .before .before .before in
     let told = other .before .before in
     let walked = told .before .before .before .before .before .before in
-    let begun = walked .before .before .before .before .before .before .before .before .before .before in
-    (
+    let begun = walked .before .before .before .before .before .before .before .before .before .before in (
       begun .pre .0,
       (
         walked-locked _ _ _ _ _ (walked .walk-lists .ensures) _ _ _ _ (told .walked2 .given .1) (other .if1 .left),

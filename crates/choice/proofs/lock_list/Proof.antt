@@ -17,8 +17,7 @@ decide-list-requires : tie.Need-decide-list-requires
 decide-list-requires c κs =
     let told = c .before .before .before .before in
     let walked = told .before .before .before .before .before .before in
-    let begun = walked .before .before .before .before .before .before .before .before .before .before in
-    (
+    let begun = walked .before .before .before .before .before .before .before .before .before .before in (
       lock-fit _ _ _ _ _ _ _ _ _ _ _ _ (begun .pre .1 .0) (walked .expand-list .ensures) (told .counted2 .given .1) (begun .pre .0) (search needs) (search needs),
       (lock-short _ _ _ (begun .pre .1 .0) _ _ _ (walked .expand-list .ensures) _ _ (told .counted2 .given .1), search needs, search needs),
     )

@@ -1,6 +1,5 @@
 -- `called_sheet` meets its contract. Assumes nothing.
 use Rattle.levels.proofs.Choosing.{within-eight, called-n, called-m, called-c}
-use borrow.Author.Needs.{needs}
 use Rattle.levels.proofs.called_sheet.Statement.{statement}
 use Rattle.levels.proofs.called_sheet.Tie as tie
 

@@ -1,6 +1,5 @@
 -- `is_call` meets its contract. Assumes nothing.
 use Rattle.levels.proofs.Choosing.{call-c, call-a}
-use borrow.Author.Needs.{needs}
 use Rattle.levels.proofs.is_call.Statement.{statement}
 use Rattle.levels.proofs.is_call.Tie as tie
 

@@ -1,6 +1,5 @@
 -- `is_ninth` meets its contract. Assumes nothing.
 use Rattle.levels.proofs.Choosing.{ninth-a, ninth-other}
-use borrow.Author.Needs.{needs}
 use Rattle.levels.proofs.is_ninth.Statement.{statement}
 use Rattle.levels.proofs.is_ninth.Tie as tie
 

@@ -73,15 +73,15 @@ module _ (a : Choice) where
   pub small-line : (number line : ℕ) → a ≡ Refused number line → Small (numbersFor a) → line < 2 ^ 32
   small-line number line i s = subst (λ (b : Choice). Small (numbersFor b)) i s .two
 
-  pub free-numbers : a ≡ Free → _≡_ {A = ChoiceNumbers} (record { word = 0; one = 0; two = 0; three = 0; length = 0; choices = 0 }) (numbersFor a)
+  pub free-numbers : a ≡ Free → _≡_ {A = ChoiceNumbers} (record { word = 0; one = 0; two = 0; three = 0; options = 0; choices = 0 }) (numbersFor a)
   free-numbers i = ap numbersFor (sym i)
 
   pub locked-numbers : (e x steps met number : ℕ) → a ≡ Locked e x steps met number
-      → _≡_ {A = ChoiceNumbers} (record { word = 1; one = e; two = x; three = steps; length = met; choices = number }) (numbersFor a)
+      → _≡_ {A = ChoiceNumbers} (record { word = 1; one = e; two = x; three = steps; options = met; choices = number }) (numbersFor a)
   locked-numbers e x steps met number i = ap numbersFor (sym i)
 
   pub refused-numbers : (number line : ℕ) → a ≡ Refused number line
-      → _≡_ {A = ChoiceNumbers} (record { word = 2; one = number; two = line; three = 0; length = 0; choices = 0 }) (numbersFor a)
+      → _≡_ {A = ChoiceNumbers} (record { word = 2; one = number; two = line; three = 0; options = 0; choices = 0 }) (numbersFor a)
   refused-numbers number line i = ap numbersFor (sym i)
 
 -- the numbers answered are small, and handing them on keeps the promise
@@ -92,7 +92,7 @@ small-checked text code scratch scratchExit trace traceExit r h = subst⁻¹ Sma
     small : (t : List ℕ) (k m n : ℕ) → Small (choiceNumbers (choiceAnswerOf t k m n))
     small t k m n =
         let b = choice-small t k m n in
-        record { one = omega (arith, b .one); two = omega (arith, b .two); three = omega (arith, b .three); length = omega (arith, b .length); choices = omega (arith, b .choices) }
+        record { one = omega (arith, b .one); two = omega (arith, b .two); three = omega (arith, b .three); options = omega (arith, b .options); choices = omega (arith, b .choices) }
 
 pub same-numbers : (text : List ℕ) (code : ℕ) (scratch scratchExit trace traceExit : List ℕ) (r q : ChoiceNumbers)
     → ChoiceChecked text code scratch scratchExit trace traceExit r → q ≡ r → ChoiceChecked text code scratch scratchExit trace traceExit q

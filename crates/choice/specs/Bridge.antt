@@ -13,20 +13,20 @@ use Rattle.choice.specs.declared.answer.ChoiceCheckAnswer.{ChoiceCheckAn
 -- The word and the values of each answer: zeros for free; e, x, the step count and the list's length and number for locked; the
 -- refusal's number and its line for refused.
 abbrev pub numbersFor : Choice → ChoiceNumbers
-numbersFor Free = record { word = freeWord; one = 0; two = 0; three = 0; length = 0; choices = 0 }
-numbersFor (Locked e x steps met number) = record { word = lockedWord; one = e; two = x; three = steps; length = met; choices = number }
-numbersFor (Refused number line) = record { word = refusedWord; one = number; two = line; three = 0; length = 0; choices = 0 }
+numbersFor Free = record { word = freeWord; one = 0; two = 0; three = 0; options = 0; choices = 0 }
+numbersFor (Locked e x steps met number) = record { word = lockedWord; one = e; two = x; three = steps; options = met; choices = number }
+numbersFor (Refused number line) = record { word = refusedWord; one = number; two = line; three = 0; options = 0; choices = 0 }
 
 -- the six numbers handed to C
 abbrev pub numbersIn : ChoiceCheckAnswer → ChoiceNumbers
-numbersIn r = record { word = r .word; one = r .one; two = r .two; three = r .three; length = r .length; choices = r .choices }
+numbersIn r = record { word = r .word; one = r .one; two = r .two; three = r .three; options = r .length; choices = r .choices }
 
 -- the numbers behind the word fit 32 bits
 pub record Small (r : ChoiceNumbers) : Type 0 where
   pub one : r .one < 2 ^ 32
   pub two : r .two < 2 ^ 32
   pub three : r .three < 2 ^ 32
-  pub length : r .length < 2 ^ 32
+  pub options : r .options < 2 ^ 32
   pub choices : r .choices < 2 ^ 32
 
 -- the answer where a list decides, by the verdict on its scenario

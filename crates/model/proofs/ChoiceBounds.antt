@@ -31,7 +31,7 @@ pub record SmallChoice (r : ChoiceNumbers) : Type 0 where
   pub one : r .one ≤ traceLeast
   pub two : r .two ≤ lineOf rowsMost
   pub three : r .three ≤ traceLeast
-  pub length : r .length ≤ choicesMost
+  pub options : r .options ≤ choicesMost
   pub choices : r .choices < listsMost
 
 -- the number of a list has a bit for each option
@@ -42,7 +42,7 @@ number-below (true ∷ l) = let h : 1 + 2 * choicesNumber l < 2 ^ suc (length l)
 number-below (false ∷ l) = let h : 0 + 2 * choicesNumber l < 2 ^ suc (length l) = omega (arith, number-below l) in h
 
 small-free : SmallChoice (choiceNumbers eachFree)
-small-free = record { one = omega arith; two = omega arith; three = omega arith; length = omega arith; choices = omega arith }
+small-free = record { one = omega arith; two = omega arith; three = omega arith; options = omega arith; choices = omega arith }
 
 module _ (file : List Row) (fits : Fits [] file) (few : length file ≤ rowsMost) (code : ℕ) where
   refusal-small : (ls : List (List Bool)) → (b : ChoiceAnswer) → SmallChoice (choiceNumbers b)
@@ -57,7 +57,7 @@ module _ (file : List Row) (fits : Fits [] file) (few : length file ≤ rowsMost
       go : (w : Out Scenario) → Well (lineOf rowsMost) w → (r : Option (ℕ × ℕ)) → SmallChoice (choiceNumbers (elim r [ none ↦ b | some r ↦ firstRefused (r .0) (r .1) ]))
           → SmallChoice (choiceNumbers (elim (first w r) [ none ↦ b | some r ↦ firstRefused (r .0) (r .1) ]))
       go (ok S) h r t = t
-      go (refusal number line) h r t = record { one = omega (arith, h .known); two = omega (arith, h .within); three = omega arith; length = omega arith; choices = omega arith }
+      go (refusal number line) h r t = record { one = omega (arith, h .known); two = omega (arith, h .within); three = omega arith; options = omega arith; choices = omega arith }
 
   lock-small : (ls : List (List Bool)) → ((l : List Bool) → Among l ls → length l ≤ choicesMost) → SmallChoice (choiceNumbers (lockIn file code ls))
   unfolding lockIn answerFor verdictOf schedule
@@ -80,7 +80,7 @@ module _ (file : List Row) (fits : Fits [] file) (few : length file ≤ rowsMost
             one = omega (arith, p .0);
             two = omega (arith, p .1);
             three = omega (arith, schedule-most S (channelOf code) (r .0) (3 * S .count) start);
-            length = n;
+            options = n;
             choices = omega (arith, number-below l, pow-mono n);
           }
 
@@ -99,7 +99,7 @@ unfolding choiceAnswerOf choosable choiceAnswerFor Reads
 choice-small text code m n = go (ltb code channels) (ltb m scratchLeast || ltb n traceLeast) (readWith true text) refl (read-well true text)
   where
     fixed : (number line : ℕ) → number ≤ traceLeast → line ≤ lineOf rowsMost → SmallChoice (choiceNumbers (firstRefused number line))
-    fixed number line h k = record { one = h; two = k; three = omega arith; length = omega arith; choices = omega arith }
+    fixed number line h k = record { one = h; two = k; three = omega arith; options = omega arith; choices = omega arith }
 
     go : (a b : Bool) (o : Out (List Row)) → readWith true text ≡ o → Reads o
         → SmallChoice (choiceNumbers (choiceAnswerFor (cond a (cond b (refusal benchRefusal 0) o) (refusal channelRefusal 0)) code))

@@ -333,7 +333,7 @@ as-numbers free = refl
 as-numbers (locked e x ts) = refl
 as-numbers (refused number line) = refl
 
-no-list : (a : Answer) → (choiceNumbers (asChoice a) .length ≡ 0) × (choiceNumbers (asChoice a) .choices ≡ 0)
+no-list : (a : Answer) → (choiceNumbers (asChoice a) .options ≡ 0) × (choiceNumbers (asChoice a) .choices ≡ 0)
 unfolding asChoice choicesNumber
 no-list free = (refl, refl)
 no-list (locked e x ts) = (refl, refl)
@@ -371,7 +371,7 @@ choice-checked-from text code scratch scratchExit trace traceExit r o e i s t =
             checked-from text code scratch scratchExit trace traceExit (firstFour r) (acceptedOf text code m n) refl
                 (ap firstFour numbers ∙ as-numbers b) (left ∙ same-scratch text without code m n scratch)
                 (written ∙ ap (λ (c : ChoiceAnswer). traceChosen c trace) same ∙ as-trace b trace),
-            ap (λ (q : ChoiceNumbers). q .length) numbers ∙ no-list b .0,
+            ap (λ (q : ChoiceNumbers). q .options) numbers ∙ no-list b .0,
             ap (λ (q : ChoiceNumbers). q .choices) numbers ∙ no-list b .1,
           );
     }

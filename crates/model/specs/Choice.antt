@@ -133,14 +133,14 @@ pub record ChoiceNumbers : Type 0 where
   pub one : ℕ
   pub two : ℕ
   pub three : ℕ
-  pub length : ℕ
+  pub options : ℕ
   pub choices : ℕ
 
 abbrev pub choiceNumbers : ChoiceAnswer → ChoiceNumbers
-choiceNumbers eachFree = record { word = freeWord; one = 0; two = 0; three = 0; length = 0; choices = 0 }
+choiceNumbers eachFree = record { word = freeWord; one = 0; two = 0; three = 0; options = 0; choices = 0 }
 choiceNumbers (firstLocked l e x ts) =
-    record { word = lockedWord; one = e; two = x; three = length ts; length = length l; choices = choicesNumber l }
-choiceNumbers (firstRefused number line) = record { word = refusedWord; one = number; two = line; three = 0; length = 0; choices = 0 }
+    record { word = lockedWord; one = e; two = x; three = length ts; options = length l; choices = choicesNumber l }
+choiceNumbers (firstRefused number line) = record { word = refusedWord; one = number; two = line; three = 0; options = 0; choices = 0 }
 
 -- without those of the list
 abbrev pub firstFour : ChoiceNumbers → Numbers
@@ -207,7 +207,7 @@ module _ (file : List Row) (code : ℕ) where
   pub record FirstLocked (r : ChoiceNumbers) (trace : List ℕ) : Type 0 where
     pub list : List Bool
     pub isList : ChoiceList file list
-    pub listLength : length list ≡ r .length
+    pub listLength : length list ≡ r .options
     pub listNumber : choicesNumber list ≡ r .choices
     pub scenario : Scenario
     pub isScenario : expandedWith list file ≡ ok scenario
@@ -239,4 +239,4 @@ pub record ChoiceChecked (text : List ℕ) (code : ℕ) (scratch scratchExit tra
   pub verdict : (file : List Row) → choosable text code (length scratch) (length trace) ≡ ok file → ChoiceVerdict file code r traceExit
   -- on a file without A rows the call gives what the check gives, and no list
   pub withoutChoices : hasChoices text ≡ false
-      → Checked text code scratch scratchExit trace traceExit (firstFour r) × (r .length ≡ 0) × (r .choices ≡ 0)
+      → Checked text code scratch scratchExit trace traceExit (firstFour r) × (r .options ≡ 0) × (r .choices ≡ 0)

@@ -131,10 +131,28 @@ static void streams(int n) {
     }
 }
 
+/* Eight A rows behind a chain: 256 lists, each a walk of n messages, free; with a race in the second sheet, the second list locks. */
+static void choosing(int n, int race) {
+    begin();
+    for (int m = 0; m < n - 16; m++) {
+        line("M", m % 13, (m + 1) % 13);
+        if (m > 0) line("P", 2 * m - 1, 2 * m);
+    }
+    for (int i = 0; i < 8; i++) line("A", 1, 2);
+    line("S", 1, 0);
+    for (int m = 0; m < 2; m++) line("M", 13, 14);
+    line("S", 2, 0);
+    for (int m = 0; m < 2; m++) line("M", 14 + m, 13);
+    if (race) line("P", 1, 3);
+}
+
+static void choices(int n) { choosing(n, 0); }
+static void choices_locked(int n) { choosing(n, 1); }
+
 static const struct { const char *name; void (*make)(int); } sheets[] = {
     {"longest-trace", longest_trace}, {"chain", chain}, {"dense", dense}, {"calls", calls}, {"blocks", blocks}, {"refused", refused},
     {"chain-twice", chain_twice}, {"order-rows", order_rows}, {"few", few}, {"case-2", case_2},
-    {"early-race", early_race}, {"streams", streams},
+    {"early-race", early_race}, {"streams", streams}, {"choices", choices}, {"choices-locked", choices_locked},
 };
 
 /* One call, and its answer, with a sum of the trace so that two implementations can be compared. */
@@ -147,6 +165,9 @@ static void run(int proved, uint32_t code) {
     printf("%zu bytes, code %u: %u %u %u %u, trace %u\n", len, code, a.word, a.one, a.two, a.three, sum);
     trace_check_answer t = (proved ? trace_check : careful_trace_check)((const uint8_t *)text, len, code, scratch, CHANNEL_CHECK_SCRATCH_WORDS, trace, a.word == 1 ? 2 * a.three : 0);
     printf("replayed: %u %u %u\n", t.word, t.one, t.two);
+    choice_check_answer l = (proved ? choice_check : careful_choice_check)((const uint8_t *)text, len, code, scratch, CHANNEL_CHECK_SCRATCH_WORDS, trace, CHANNEL_CHECK_TRACE_BYTES);
+    for (size_t i = 0; i < sizeof trace; i++) sum = 31 * sum + trace[i];
+    printf("choices: %u %u %u %u %u %u, trace %u\n", l.word, l.one, l.two, l.three, l.length, l.choices, sum);
 }
 
 int main(int argc, char **argv) {

@@ -3,7 +3,7 @@
 #include "check.h"
 #include <string.h>
 
-enum { W = 4, ROWS = 512, SHEETS = 32, BOARDS = 16, MESSAGES = 128, EVENTS = 2 * MESSAGES, LEVELS = 8, CALLS = 1024 };
+enum { W = 4, ROWS = 512, SHEETS = 32, BOARDS = 16, MESSAGES = 128, EVENTS = 2 * MESSAGES, LEVELS = 8, CALLS = 1024, CHOICES = 8 };
 
 typedef struct { uint32_t number, line; } refusal; /* number 0: none */
 
@@ -69,14 +69,15 @@ static int named(const uint8_t *text, size_t from, size_t to, const char *name) 
     return to - from == n && memcmp(text + from, name, n) == 0;
 }
 
-static int formed(uint8_t kind, int one, int two) {
-    if (kind == 'M' || kind == 'P') return 1;
+static int formed(uint8_t kind, int one, int two, int choices) {
+    if (kind == 'M' || kind == 'P' || (choices && kind == 'A')) return 1;
     if (two != 0) return 0;
     return kind == 'S' || kind == 'C' || (kind == 'B' && one == 0);
 }
 
-/* the words hold the order of the open block: a message's two rows are made anew, so their contents do not matter */
-static refusal read(const uint8_t *text, size_t len, sheet *s, uint64_t *words) {
+/* The words hold the order of the open block: a message's two rows are made anew, so their contents do not matter. A rows are read where
+ * `choices` says so. */
+static refusal read(const uint8_t *text, size_t len, sheet *s, uint64_t *words, int choices) {
     static const char *names[3] = {"kind", "one", "two"};
     size_t from[3], to[3], column[3] = {3, 3, 3}, messages = 0, row = 0;
     uint8_t boards[EVENTS];
@@ -95,7 +96,7 @@ static refusal read(const uint8_t *text, size_t len, sheet *s, uint64_t *words) 
         if (next == 0 || to[column[0]] - from[column[0]] != 1) return (refusal){5, line};
         uint8_t kind = text[from[column[0]]];
         int one = number(text, from[column[1]], to[column[1]]), two = number(text, from[column[2]], to[column[2]]);
-        if (one < 0 || two < 0 || !formed(kind, one, two)) return (refusal){5, line};
+        if (one < 0 || two < 0 || !formed(kind, one, two, choices)) return (refusal){5, line};
         int placed = row > 0;
         switch (kind) {
         case 'S':
@@ -120,6 +121,7 @@ static refusal read(const uint8_t *text, size_t len, sheet *s, uint64_t *words) 
             insert(words, (size_t)one, (size_t)two, 0, 2 * messages);
             break;
         case 'B': messages = 0; break;
+        case 'A': placed = placed && one < SHEETS && two < SHEETS; messages = 0; break;
         default: placed = placed && one < SHEETS; messages = 0;
         }
         if (!placed) return (refusal){6, line};
@@ -131,14 +133,16 @@ static refusal read(const uint8_t *text, size_t len, sheet *s, uint64_t *words) 
     s->count = row;
     if (s->start[0] == 0) return (refusal){7, 0};
     for (size_t i = 0; i < row; i++)
-        if (s->kind[i] == 'C' && s->start[s->one[i]] == 0) return (refusal){7, (uint32_t)i + 2};
+        if (s->kind[i] == 'C' || s->kind[i] == 'A')
+            if (s->start[s->one[i]] == 0 || (s->kind[i] == 'A' && s->start[s->two[i]] == 0)) return (refusal){7, (uint32_t)i + 2};
     return (refusal){0, 0};
 }
 
 /* ------------------------------------------------------------------ expansion */
 
 typedef struct {
-    size_t calls, first, count;
+    size_t calls, first, count, choices;
+    uint32_t options; /* bit k: A row k takes its second sheet */
     uint64_t *words;
     uint64_t past[BOARDS * W];
     uint8_t boards[EVENTS];
@@ -183,12 +187,14 @@ static refusal walk_sheets(const sheet *s, walk *w) {
             while (row < s->count && s->kind[row] == 'B');
             break;
         case 'C':
+        case 'A':
             if (level == LEVELS) return (refusal){8, line};
             if (w->calls == CALLS) return (refusal){9, line};
+            if (s->kind[row] == 'A' && w->choices == CHOICES) return (refusal){13, line};
             w->calls++;
             open_block(w);
             from[level++] = row;
-            row = s->start[s->one[row]];
+            row = s->start[s->kind[row] == 'A' && w->options >> w->choices++ & 1 ? s->two[row] : s->one[row]];
             break;
         default:
             if (level == 0) return (refusal){0, 0};
@@ -198,9 +204,10 @@ static refusal walk_sheets(const sheet *s, walk *w) {
     }
 }
 
-static refusal expand(const sheet *s, walk *w) {
+static refusal expand(const sheet *s, walk *w, uint32_t options) {
     memset(w->past, 0, sizeof w->past);
-    w->calls = w->first = w->count = 0;
+    w->calls = w->first = w->count = w->choices = 0;
+    w->options = options;
     refusal r = walk_sheets(s, w);
     if (r.number) return r;
     for (size_t x = 0; x < 2 * w->count; x++)
@@ -406,9 +413,9 @@ trace_check_answer careful_trace_check(const uint8_t *text, size_t text_len, uin
     if (scratch_len < 2048) return (trace_check_answer){4, 2, 0};
     trace_check_answer a = {4, 12, 0};
     if (trace_len % 2 == 0 && trace_len <= 768) {
-        refusal r = read(text, text_len, &s, scratch);
+        refusal r = read(text, text_len, &s, scratch, 0);
         w.words = scratch;
-        if (!r.number) r = expand(&s, &w);
+        if (!r.number) r = expand(&s, &w, 0);
         a = r.number ? (trace_check_answer){4, r.number, r.line} : replay(&w, channels[code], trace, trace_len);
     }
     memset(scratch, 0, 2048 * 8);
@@ -421,9 +428,9 @@ static channel_check_answer judge(const uint8_t *text, size_t len, uint32_t code
     sheet s;
     walk w;
     size_t e, x;
-    refusal r = read(text, len, &s, scratch);
+    refusal r = read(text, len, &s, scratch, 0);
     w.words = scratch;
-    if (!r.number) r = expand(&s, &w);
+    if (!r.number) r = expand(&s, &w, 0);
     if (r.number) return (channel_check_answer){2, r.number, r.line, 0};
     if (rules[code] == NEVER || !lowest_race(&w, rules[code], &e, &x)) return (channel_check_answer){0, 0, 0, 0};
     size_t steps = schedule(&w, channels[code], e, trace);
@@ -435,6 +442,43 @@ channel_check_answer careful_check(const uint8_t *text, size_t text_len, uint32_
     if (code > 5) return (channel_check_answer){2, 1, 0, 0};
     if (scratch_len < 2048 || trace_len < 768) return (channel_check_answer){2, 2, 0, 0};
     channel_check_answer a = judge(text, text_len, code, scratch, trace);
+    memset(scratch, 0, 2048 * 8);
+    return a;
+}
+
+/* ------------------------------------------------------------------ choices */
+
+/* Every list is walked, m ahead of n; the first that locks is remembered, and walked once more for its steps. */
+static choice_check_answer judge_lists(const uint8_t *text, size_t len, uint32_t code, uint64_t *scratch, uint8_t *trace) {
+    sheet s;
+    walk w;
+    uint32_t options = 0;
+    choice_check_answer lock = {0, 0, 0, 0, 0, 0};
+    refusal r = read(text, len, &s, scratch, 1);
+    w.words = scratch;
+    if (r.number) return (choice_check_answer){2, r.number, r.line, 0, 0, 0};
+    for (;;) {
+        size_t e, x;
+        r = expand(&s, &w, options);
+        if (r.number) return (choice_check_answer){2, r.number, r.line, 0, 0, 0};
+        if (!lock.word && rules[code] != NEVER && lowest_race(&w, rules[code], &e, &x))
+            lock = (choice_check_answer){1, (uint32_t)e, (uint32_t)x, 0, (uint32_t)w.choices, options};
+        size_t last = w.choices;
+        while (last > 0 && options >> (last - 1) & 1) last--;
+        if (last == 0) break;
+        options = (options & ((UINT32_C(1) << last) - 1)) | UINT32_C(1) << (last - 1);
+    }
+    if (!lock.word) return lock;
+    if (w.choices > 0) expand(&s, &w, lock.choices);
+    lock.three = (uint32_t)schedule(&w, channels[code], lock.one, trace);
+    return lock;
+}
+
+choice_check_answer careful_choice_check(const uint8_t *text, size_t text_len, uint32_t code, uint64_t *scratch, size_t scratch_len,
+                                         uint8_t *trace, size_t trace_len) {
+    if (code > 5) return (choice_check_answer){2, 1, 0, 0, 0, 0};
+    if (scratch_len < 2048 || trace_len < 768) return (choice_check_answer){2, 2, 0, 0, 0, 0};
+    choice_check_answer a = judge_lists(text, text_len, code, scratch, trace);
     memset(scratch, 0, 2048 * 8);
     return a;
 }

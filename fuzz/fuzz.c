@@ -1,7 +1,8 @@
 /* The fuzz target over the C face. Each input is tried on the library as it is shipped, on the same proved code compiled with
  * coverage counters, which guides the search, and on the careful C program of bench/, and all must agree in answer, trace,
  * scratch and text. Input: a byte for the code, one for the buffers' lengths, then the text. Where the second byte is over 127 the call is
- * trace_check: a byte for a third of the trace's length follows, then the trace, then the text. */
+ * trace_check: a byte for a third of the trace's length follows, then the trace, then the text. Otherwise the call is choice_check where
+ * the first byte has bit 3, else channel_check. */
 #define _GNU_SOURCE
 #include "../bench/check.h"
 #include <stdio.h>
@@ -11,14 +12,17 @@
 
 channel_check_answer guided_check(const uint8_t *, size_t, uint32_t, uint64_t *, size_t, uint8_t *, size_t);
 trace_check_answer guided_trace_check(const uint8_t *, size_t, uint32_t, uint64_t *, size_t, const uint8_t *, size_t);
+choice_check_answer guided_choice_check(const uint8_t *, size_t, uint32_t, uint64_t *, size_t, uint8_t *, size_t);
 int LLVMFuzzerTestOneInput(const uint8_t *data, size_t size);
 
 enum { WORDS = CHANNEL_CHECK_SCRATCH_WORDS, BYTES = CHANNEL_CHECK_TRACE_BYTES, PAINT = 0xa5, AHEAD = 64, ROOM = 1 << 16, GUARD = 1 << 16 };
 
-typedef struct { channel_check_answer answer; size_t text_len, words, bytes; uint8_t *text, *scratch, *trace; } call;
+/* the answer of channel_check has length and choices 0 */
+typedef struct { int choices; choice_check_answer answer; size_t text_len, words, bytes; uint8_t *text, *scratch, *trace; } call;
 
 static void stop(const char *what, const call *a) {
-    fprintf(stderr, "DIFFERENCE: %s; answer %u %u %u %u\n", what, a->answer.word, a->answer.one, a->answer.two, a->answer.three);
+    fprintf(stderr, "DIFFERENCE: %s; answer %u %u %u %u, list %u %u\n", what, a->answer.word, a->answer.one, a->answer.two, a->answer.three, a->answer.length,
+            a->answer.choices);
     abort();
 }
 
@@ -39,11 +43,24 @@ static int ahead_painted(const uint8_t *at) {
     return 1;
 }
 
+typedef channel_check_answer check(const uint8_t *, size_t, uint32_t, uint64_t *, size_t, uint8_t *, size_t);
+typedef choice_check_answer choice(const uint8_t *, size_t, uint32_t, uint64_t *, size_t, uint8_t *, size_t);
+
+static void answer(call *a, uint32_t code, check *plain, choice *choosing) {
+    if (a->choices) {
+        a->answer = choosing(a->text, a->text_len, code, (uint64_t *)a->scratch, a->words, a->trace, a->bytes);
+    } else {
+        channel_check_answer p = plain(a->text, a->text_len, code, (uint64_t *)a->scratch, a->words, a->trace, a->bytes);
+        a->answer = (choice_check_answer){p.word, p.one, p.two, p.three, 0, 0};
+    }
+}
+
 static void proved(call *a, const uint8_t *text, uint32_t code, int is_guided) {
     a->text = memcpy(guarded(0, a->text_len), text, a->text_len);
     a->scratch = guarded(1, a->words * 8);
     a->trace = guarded(2, a->bytes);
-    a->answer = (is_guided ? guided_check : channel_check)(a->text, a->text_len, code, (uint64_t *)a->scratch, a->words, a->trace, a->bytes);
+    if (is_guided) answer(a, code, guided_check, guided_choice_check);
+    else answer(a, code, channel_check, choice_check);
     if (!ahead_painted(a->text) || !ahead_painted(a->scratch) || !ahead_painted(a->trace)) stop("bytes ahead of a buffer", a);
 }
 
@@ -52,7 +69,7 @@ static void careful(call *a, const uint8_t *text, uint32_t code) {
     a->text = memcpy(malloc(a->text_len), text, a->text_len);
     a->scratch = memset(malloc(a->words * 8), PAINT, a->words * 8);
     a->trace = memset(malloc(a->bytes), PAINT, a->bytes);
-    a->answer = careful_check(a->text, a->text_len, code, (uint64_t *)a->scratch, a->words, a->trace, a->bytes);
+    answer(a, code, careful_check, careful_choice_check);
 }
 
 static void agree(const call *a, const call *c) {
@@ -83,7 +100,7 @@ static void try_trace(const uint8_t *text, size_t len, uint32_t code, size_t wor
         a.trace = memcpy(guarded(2, bytes), trace, bytes);
         trace_check_answer t = (is_guided ? guided_trace_check : trace_check)(a.text, len, code, (uint64_t *)a.scratch, words, a.trace, bytes);
         size_t cleared = t.word == 4 && t.one <= 2 ? 0 : 8 * WORDS;
-        a.answer = (channel_check_answer){t.word, t.one, t.two, 0};
+        a.answer = (choice_check_answer){t.word, t.one, t.two, 0, 0, 0};
         if (memcmp(&t, &c, sizeof t) != 0) stop("trace verdict", &a);
         if (memcmp(a.scratch, exact, words * 8) != 0) stop("scratch behind a trace", &a);
         if (memcmp(a.text, text, len) != 0 || memcmp(a.trace, trace, bytes) != 0) stop("what was lent to be read was written to", &a);
@@ -99,7 +116,7 @@ int LLVMFuzzerTestOneInput(const uint8_t *data, size_t size) {
     static const size_t words[8] = {WORDS, WORDS, WORDS, WORDS + 1, WORDS + 9, WORDS, WORDS - 1, 0};
     static const size_t bytes[8] = {BYTES, BYTES, BYTES, BYTES + 1, BYTES + 9, BYTES, BYTES - 1, 0};
     if (size < 2) return -1;
-    call c = {.text_len = size - 2, .words = words[data[1] % 8], .bytes = bytes[data[1] / 8 % 8]}, a = c;
+    call c = {.choices = data[0] / 8 % 2, .text_len = size - 2, .words = words[data[1] % 8], .bytes = bytes[data[1] / 8 % 8]}, a = c;
     uint32_t code = codes[data[0] % 8];
     if (data[1] > 127) {
         if (size < 3) return -1;

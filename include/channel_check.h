@@ -69,6 +69,27 @@ typedef struct {
 trace_check_answer trace_check(const uint8_t *text, size_t text_len, uint32_t code, uint64_t *scratch, size_t scratch_len,
                                const uint8_t *trace, size_t trace_len);
 
+/* word: 0 free, 1 locked, 2 refused.
+ * locked:  one, two and three as channel_check says them of the first choice list that locks; length is that list's number of
+ *          options, at most 8, and choices has bit k set where its A row k, from 0, takes its second sheet.
+ * refused: one is the refusal's number, 1 to 11 or 13; two its line, 0 where the table gives none.
+ * Numbers that a word does not name are 0. */
+typedef struct {
+    uint32_t word, one, two, three, length, choices;
+} choice_check_answer;
+
+/* The check of a sheet file with choices: a row `A m n` walks sheet m or sheet n, as a call. A choice list fixes one option for each A
+ * row as the walk meets it; one row met twice is two options. Lists are ordered with the earlier A row deciding first, and m ahead of n.
+ *
+ * All arguments, and the buffers at exit, are as channel_check's.
+ *
+ * free: no timing of any list's sheet can stop the boards. locked: the first list whose sheet some timing stops, with its lowest race and
+ * the steps. A refusal in any list comes before any lock, the first list's first; the ninth A row met in one walk is refusal 13, behind 8
+ * and 9 on that row. On files without A rows the answer is channel_check's. Every other call refuses an A row with 5.
+ */
+choice_check_answer choice_check(const uint8_t *text, size_t text_len, uint32_t code, uint64_t *scratch, size_t scratch_len,
+                                 uint8_t *trace, size_t trace_len);
+
 #ifdef __cplusplus
 }
 #endif

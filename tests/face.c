@@ -1,6 +1,6 @@
 /* The C face, called on every kind of answer with a guard page right behind each buffer: the answer, and the bytes of trace
- * and scratch, on all eleven refusals and both words, with exact and larger buffers, odd codes and empty text; and trace_check on
- * every word and on traces of every length up to two beyond the limit. */
+ * and scratch, on all eleven refusals and both words, with exact and larger buffers, odd codes and empty text; trace_check on
+ * every word and on traces of every length up to two beyond the limit; and choice_check on every word, with lists of every length. */
 #define _GNU_SOURCE
 #include "../include/channel_check.h"
 #include <stdio.h>
@@ -310,8 +310,79 @@ static void traces(void) {
         if (!trace_words[w]) printf("FAILED: trace_check never said %d\n", w), failures++;
 }
 
+/* ------------------------------------------------------------------ choice_check */
+
+static int choice_words[3];
+
+/* one call, with a guard page behind text, scratch and trace */
+static void choose(sheet s, uint32_t code, size_t words, size_t bytes, choice_check_answer e, const void *steps) {
+    buffer text = lend(s.len), scratch = lend(words * 8), trace = lend(bytes);
+    memcpy(text.at, s.text, s.len);
+    choice_check_answer a = choice_check(text.at, s.len, code, (uint64_t *)scratch.at, words, trace.at, bytes);
+    calls++;
+    if (a.word < 3) choice_words[a.word]++;
+    if (memcmp(&a, &e, sizeof a) != 0)
+        printf("  expected %u %u %u %u, list %u %u; got %u %u %u %u, list %u %u\n", e.word, e.one, e.two, e.three, e.length, e.choices, a.word, a.one, a.two, a.three, a.length, a.choices);
+    expect(memcmp(&a, &e, sizeof a) == 0, s, code, "answer over the lists");
+    size_t written = e.word == 1 ? 2 * (size_t)e.three : 0, cleared = e.word == 2 && e.one <= 2 ? 0 : 8 * (size_t)WORDS;
+    expect(memcmp(trace.at, steps, written) == 0 && painted(trace.at + written, trace.guard), s, code, "steps of the list");
+    expect(zero(scratch.at, scratch.at + cleared) && painted(scratch.at + cleared, scratch.guard), s, code, "scratch behind the lists");
+    expect(painted(scratch.from, scratch.at) && painted(trace.from, trace.at), s, code, "bytes ahead of a buffer");
+    expect(memcmp(text.at, s.text, s.len) == 0 && painted(text.from, text.at), s, code, "the text was written to");
+    give_back(text), give_back(scratch), give_back(trace);
+}
+
+static void chosen(sheet s, uint32_t code, choice_check_answer e, const void *steps) {
+    choose(s, code, WORDS, BYTES, e, steps);
+    choose(s, code, WORDS + 3, BYTES + 5, e, steps);
+}
+
+/* sheet 1 is free and sheet 2 locked: with n A rows, all but the last taking sheet 1, the last one decides first that locks */
+static void last_of(int n) {
+    uint8_t steps[6] = {0, 1, 1, 1, 0, 0};
+    begin(H "S 0 0\n");
+    repeat("A 1 2\n", n);
+    repeat("S 1 0\nS 2 0\nM 0 1\nM 2 1\nP 1 3\n", 1);
+    chosen(named("the last A row locks", made), 0, (choice_check_answer){1, 1, 1, 3, (uint32_t)n, UINT32_C(1) << (n - 1)}, steps);
+    chosen(named("the last A row, lazy", made), 1, (choice_check_answer){0, 0, 0, 0, 0, 0}, "");
+}
+
+#define LOCKED "M 0 1\nM 2 1\nP 1 3\n"
+
+static void choices(void) {
+    const choice_check_answer is_free = {0, 0, 0, 0, 0, 0};
+    for (int n = 1; n <= 8; n++) last_of(n);
+    chosen(named("no A row, free", H "S 0 0\n"), 0, is_free, "");
+    chosen(named("no A row, locked", H "S 0 0\n" LOCKED), 0, (choice_check_answer){1, 1, 1, 3, 0, 0}, "\0\1\1\1\0\0");
+    chosen(named("m locks", H "S 0 0\nA 1 2\nS 1 0\n" LOCKED "S 2 0\n"), 0, (choice_check_answer){1, 1, 1, 3, 1, 0}, "\0\1\1\1\0\0");
+    chosen(named("one row met twice", H "S 0 0\nC 3 0\nC 3 0\nS 3 0\nA 1 2\nS 1 0\nS 2 0\n" LOCKED), 0, (choice_check_answer){1, 1, 1, 3, 2, 2}, "\0\1\1\1\0\0");
+    chosen(named("a list that is shorter", H "S 0 0\nA 1 2\nS 1 0\nA 2 3\nS 2 0\nS 3 0\n" LOCKED), 0, (choice_check_answer){1, 1, 1, 3, 2, 2}, "\0\1\1\1\0\0");
+    begin(H "S 0 0\n");
+    repeat("A 1 1\n", 9);
+    repeat("S 1 0\n", 1);
+    chosen(named("13 ninth A row", made), 0, (choice_check_answer){2, 13, 11, 0, 0, 0}, "");
+    chosen(named("13 in a later list, ahead of a lock", H "S 0 0\nA 1 2\nS 1 0\n" LOCKED "S 2 0\nA 3 3\nA 3 3\nA 3 3\nA 3 3\nA 3 3\nA 3 3\nA 3 3\nA 3 3\nS 3 0\n"), 0,
+           (choice_check_answer){2, 13, 16, 0, 0, 0}, "");
+    chosen(named("8 ahead of a lock", H "S 0 0\nA 1 2\nS 1 0\n" LOCKED "S 2 0\nC 2 0\n"), 0, (choice_check_answer){2, 8, 9, 0, 0, 0}, "");
+    chosen(named("8 ahead of 13", H "S 0 0\nA 0 0\n"), 0, (choice_check_answer){2, 8, 3, 0, 0, 0}, "");
+    chosen(named("6 before any S", H "A 0 0\nS 0 0\n"), 0, (choice_check_answer){2, 6, 2, 0, 0, 0}, "");
+    chosen(named("6 m over 31", H "S 0 0\nA 32 0\n"), 0, (choice_check_answer){2, 6, 3, 0, 0, 0}, "");
+    chosen(named("6 n over 31", H "S 0 0\nA 0 32\n"), 0, (choice_check_answer){2, 6, 3, 0, 0, 0}, "");
+    chosen(named("7 m absent", H "S 0 0\nA 1 2\nS 2 0\n"), 0, (choice_check_answer){2, 7, 3, 0, 0, 0}, "");
+    chosen(named("7 n absent", H "S 0 0\nA 1 2\nS 1 0\n"), 0, (choice_check_answer){2, 7, 3, 0, 0, 0}, "");
+    chosen(named("1", H "S 0 0\nA 1 2\n"), 6, (choice_check_answer){2, 1, 0, 0, 0, 0}, "");
+    choose(named("2 scratch", H "S 0 0\n"), 0, WORDS - 1, BYTES, (choice_check_answer){2, 2, 0, 0, 0, 0}, "");
+    choose(named("2 trace", H "S 0 0\n"), 0, WORDS, BYTES - 1, (choice_check_answer){2, 2, 0, 0, 0, 0}, "");
+    chosen(named("3", ""), 0, (choice_check_answer){2, 3, 0, 0, 0, 0}, "");
+    is_refused(named("5 an A row for the check", H "S 0 0\nA 0 0\n"), 5, 3);
+    replay(named("5 an A row for the trace check", H "S 0 0\nA 0 0\n"), 0, WORDS, "", 0, (trace_check_answer){4, 5, 3});
+    for (int w = 0; w < 3; w++)
+        if (!choice_words[w]) printf("FAILED: choice_check never said %d\n", w), failures++;
+}
+
 int main(void) {
     traces();
+    choices();
     words();
     limits();
     refusals();

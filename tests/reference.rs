@@ -10,6 +10,8 @@ pub enum Row {
     Order(usize, usize),
     Block,
     Call(usize),
+    /// request (c)
+    Choice(usize, usize),
 }
 
 /// A refusal: its number and its line.
@@ -73,7 +75,7 @@ fn heading(line: (&[u8], bool)) -> Option<[usize; 3]> {
     Some([at(b"kind")?, at(b"one")?, at(b"two")?])
 }
 
-fn row(columns: [usize; 3], line: (&[u8], bool)) -> Option<Row> {
+fn row(columns: [usize; 3], line: (&[u8], bool), choices: bool) -> Option<Row> {
     if !line.1 {
         return None;
     }
@@ -88,6 +90,7 @@ fn row(columns: [usize; 3], line: (&[u8], bool)) -> Option<Row> {
         (b'P', x, y) => Some(Row::Order(x, y)),
         (b'B', 0, 0) => Some(Row::Block),
         (b'C', n, 0) => Some(Row::Call(n)),
+        (b'A', m, n) if choices => Some(Row::Choice(m, n)),
         _ => None,
     }
 }
@@ -108,7 +111,8 @@ fn circles(orders: &BTreeSet<(usize, usize)>, x: usize) -> bool {
     reached.contains(&x)
 }
 
-pub fn read(text: &[u8]) -> Result<Vec<Row>, Refusal> {
+/// The rows of a text; A rows are rows where `choices` says so.
+pub fn read(text: &[u8], choices: bool) -> Result<Vec<Row>, Refusal> {
     if text.is_empty() || text.len() > 8192 {
         return Err((3, 0));
     }
@@ -120,7 +124,7 @@ pub fn read(text: &[u8]) -> Result<Vec<Row>, Refusal> {
     let mut orders = BTreeSet::new();
     for (i, line) in lines[1..].iter().enumerate() {
         let at = i as u32 + 2;
-        let r = row(columns, *line).filter(|_| i < 512).ok_or((5, at))?;
+        let r = row(columns, *line, choices).filter(|_| i < 512).ok_or((5, at))?;
         let board = |x: usize| if x % 2 == 0 { open[x / 2].0 } else { open[x / 2].1 };
         let placed = match r {
             Row::Sheet(n) => n <= 31 && opened.insert(n),
@@ -129,6 +133,7 @@ pub fn read(text: &[u8]) -> Result<Vec<Row>, Refusal> {
             Row::Order(x, y) => x / 2 < open.len() && y / 2 < open.len() && x != y && board(x) == board(y),
             Row::Block => true,
             Row::Call(n) => n <= 31,
+            Row::Choice(m, n) => m <= 31 && n <= 31,
         };
         if !placed {
             return Err((6, at));
@@ -148,7 +153,11 @@ pub fn read(text: &[u8]) -> Result<Vec<Row>, Refusal> {
         }
         rows.push(r);
     }
-    let absent = |r: &Row| matches!(r, Row::Call(n) if !opened.contains(n));
+    let absent = |r: &Row| match r {
+        Row::Call(n) => !opened.contains(n),
+        Row::Choice(m, n) => !opened.contains(m) || !opened.contains(n),
+        _ => false,
+    };
     match rows.iter().position(absent) {
         _ if !opened.contains(&0) => Err((7, 0)),
         Some(i) => Err((7, i as u32 + 2)),
@@ -160,12 +169,28 @@ pub fn read(text: &[u8]) -> Result<Vec<Row>, Refusal> {
 
 #[derive(Default)]
 struct Walk {
+    /// request (c): an option for each A row, true for n, and how many A rows were met
+    options: Vec<bool>,
+    choices: usize,
     calls: usize,
     deepest: usize,
     block: usize,
     /// source, target and block of each message
     messages: Vec<(usize, usize, usize)>,
     orders: BTreeSet<(usize, usize)>,
+}
+
+/// The sheet that a C row calls, or an A row by its option; 13 at the ninth A row.
+fn called(row: Row, line: u32, w: &mut Walk) -> Result<usize, Refusal> {
+    match row {
+        Row::Call(n) => Ok(n),
+        Row::Choice(..) if w.choices == 8 => Err((13, line)),
+        Row::Choice(m, n) => {
+            w.choices += 1;
+            Ok(if w.options[w.choices - 1] { n } else { m })
+        }
+        _ => panic!("no call"),
+    }
 }
 
 fn walk(rows: &[Row], sheet: usize, level: usize, w: &mut Walk) -> Result<(), Refusal> {
@@ -189,7 +214,7 @@ fn walk(rows: &[Row], sheet: usize, level: usize, w: &mut Walk) -> Result<(), Re
                 w.block += 1;
                 first = w.messages.len();
             }
-            Row::Call(n) => {
+            Row::Call(_) | Row::Choice(..) => {
                 if level == 8 {
                     return Err((8, line));
                 }
@@ -198,7 +223,8 @@ fn walk(rows: &[Row], sheet: usize, level: usize, w: &mut Walk) -> Result<(), Re
                 }
                 w.calls += 1;
                 w.block += 1;
-                walk(rows, n, level + 1, w)?;
+                let to = called(*r, line, w)?;
+                walk(rows, to, level + 1, w)?;
                 w.block += 1;
                 first = w.messages.len();
             }
@@ -220,6 +246,11 @@ pub struct Scenario {
 pub fn expand(rows: &[Row]) -> Result<Scenario, Refusal> {
     let mut w = Walk::default();
     walk(rows, 0, 0, &mut w)?;
+    scenario(rows, &w)
+}
+
+/// The causal order of what a walk met.
+fn scenario(rows: &[Row], w: &Walk) -> Result<Scenario, Refusal> {
     let n = 2 * w.messages.len();
     let board = |x: usize| if x % 2 == 0 { w.messages[x / 2].0 } else { w.messages[x / 2].1 };
     let mut before = vec![vec![false; n]; n];
@@ -389,7 +420,7 @@ pub fn schedule(s: &Scenario, code: u32, e: usize) -> Vec<Step> {
 // ---------------------------------------------------------------- the answer
 
 pub fn sheet(text: &[u8]) -> Result<Scenario, Refusal> {
-    expand(&read(text)?)
+    expand(&read(text, false)?)
 }
 
 pub fn verdict(s: &Scenario, code: u32) -> Answer {
@@ -467,4 +498,60 @@ pub fn replay(sheet: &Result<Scenario, Refusal>, code: u32, scratch: usize, trac
     } else {
         Replay::Open
     }
+}
+
+// ---------------------------------------------------------------- request (c): a choice between two subprograms
+
+/// A choice list of a file, true where its A row takes n, and what its walk gives.
+pub struct List {
+    pub options: Vec<bool>,
+    pub sheet: Result<Scenario, Refusal>,
+}
+
+/// Every choice list of a file, in order: all 256 ways to decide eight A rows are walked, the earlier A row deciding first and m ahead of
+/// n, and those that differ only where no A row was met are one list.
+pub fn lists(rows: &[Row]) -> Vec<List> {
+    let mut out: Vec<List> = Vec::new();
+    for way in 0..256 {
+        let options: Vec<bool> = (0..8).map(|k| way >> (7 - k) & 1 == 1).collect();
+        let mut w = Walk { options: options.clone(), ..Walk::default() };
+        let walked = walk(rows, 0, 0, &mut w);
+        let met = &options[..w.choices];
+        if out.last().map_or(true, |last| last.options != met) {
+            out.push(List { options: met.to_vec(), sheet: walked.and_then(|()| scenario(rows, &w)) });
+        }
+    }
+    out
+}
+
+#[derive(Clone, PartialEq, Eq, Debug)]
+pub enum Choice {
+    Free,
+    /// which list locks first, and its answer
+    Locked { list: usize, answer: Answer },
+    Refused(Refusal),
+}
+
+/// The answer over all lists, as the request words it.
+pub fn choose(file: &Result<Vec<List>, Refusal>, code: u32, scratch: usize, trace: usize) -> Choice {
+    if code > 5 {
+        return Choice::Refused((1, 0));
+    }
+    if scratch < SCRATCH_LEAST || trace < TRACE_LEAST {
+        return Choice::Refused((2, 0));
+    }
+    let lists = match file {
+        Err(refusal) => return Choice::Refused(*refusal),
+        Ok(lists) => lists,
+    };
+    if let Some(refusal) = lists.iter().find_map(|l| l.sheet.as_ref().err()) {
+        return Choice::Refused(*refusal);
+    }
+    for (list, l) in lists.iter().enumerate() {
+        let answer = verdict(l.sheet.as_ref().ok().unwrap(), code);
+        if answer != Answer::Free {
+            return Choice::Locked { list, answer };
+        }
+    }
+    Choice::Free
 }

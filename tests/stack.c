@@ -21,6 +21,7 @@ static void *run(void *unused) {
     top = __builtin_frame_address(0);
     answer = channel_check((const uint8_t *)text, len, code, scratch, CHANNEL_CHECK_SCRATCH_WORDS, trace, CHANNEL_CHECK_TRACE_BYTES);
     trace_check((const uint8_t *)text, len, code, scratch, CHANNEL_CHECK_SCRATCH_WORDS, trace, answer.word == 1 ? 2 * answer.three : 0);
+    choice_check((const uint8_t *)text, len, code, scratch, CHANNEL_CHECK_SCRATCH_WORDS, trace, CHANNEL_CHECK_TRACE_BYTES);
     return unused;
 }
 
@@ -50,6 +51,17 @@ static void levels(int refused) {
         line("P", 25, 27);
         if (n < 8 || refused) line("C", (n + 1) % 9, 0);
     }
+}
+
+/* nine levels by choices, and a lock on the last list: the check refuses A rows */
+static void choosing(int refused) {
+    (void)refused;
+    for (int n = 0; n <= 8; n++) {
+        line("S", n, 0);
+        if (n < 8) line("A", n + 1, n + 1);
+        for (int m = 0; m < 14; m++) line("M", m % 16, 15);
+    }
+    line("P", 25, 27);
 }
 
 /* 128 messages, and a race of the last two */
@@ -82,6 +94,7 @@ int main(int argc, char **argv) {
         measure(levels, refused);
         measure(messages, refused);
     }
+    measure(choosing, 1);
     printf("stack: %zu bytes at the deepest, %zu allowed\n", deepest, most);
     return deepest > most;
 }

@@ -300,3 +300,93 @@ pub fn text(r: &mut Random) -> Vec<u8> {
     }
     text
 }
+
+// ---------------------------------------------------------------- request (c)
+
+/// A row that leads to later sheets of the file: a choice, or a call.
+fn leading(r: &mut Random, out: &mut Rows, n: usize, sheets: usize) {
+    let later = |r: &mut Random| if r.one_in(40) { r.below(sheets + 1) } else { n + 1 + r.below(sheets - n - 1) };
+    if n + 1 >= sheets {
+        return;
+    }
+    let (one, two) = (later(r), later(r));
+    if r.one_in(4) {
+        out.push(('C', one, 0));
+    } else {
+        out.push(('A', one, two));
+    }
+}
+
+/// A few sheets, each with some choices among the later ones.
+fn choosing(r: &mut Random) -> Rows {
+    let mut out = Vec::new();
+    let (sheets, most) = (2 + r.below(4), 1 + r.below(3));
+    let (size, boards) = (1 + r.below(3), 2 + r.below(3));
+    for n in 0..sheets {
+        out.push(('S', n, 0));
+        for part in 0..1 + r.below(most) {
+            if part > 0 || r.one_in(3) {
+                leading(r, &mut out, n, sheets);
+            }
+            let messages = r.below(size + 1);
+            let orders = r.below(2 * messages + 1);
+            block(r, &mut out, messages, boards, orders);
+        }
+    }
+    out
+}
+
+/// As many A rows as a walk may meet, one more or some fewer; met in a row, or at each of the levels of calls.
+fn many_choices(r: &mut Random) -> Rows {
+    let met = *r.pick(&[6, 7, 8, 8, 8, 9, 10]);
+    let mut out = vec![('S', 0, 0)];
+    let (messages, orders) = (r.below(3), r.below(3));
+    if r.one_in(3) {
+        for n in 1..=met.min(9) {
+            out.extend([('A', n, if r.one_in(4) { 31 } else { n }), ('M', 0, 1), ('S', n, 0)]);
+        }
+    } else {
+        out.extend(std::iter::repeat(('A', 30, 31)).take(met));
+        out.push(('S', 30, 0));
+        block(r, &mut out, messages, 3, orders);
+    }
+    out.push(('S', 31, 0));
+    let (messages, orders) = (r.below(3), r.below(3));
+    block(r, &mut out, messages, 3, orders);
+    out
+}
+
+/// A choice that leads past the limit of calls or of messages, or just to it, on one of its options.
+fn near_limits(r: &mut Random) -> Rows {
+    let mut out = vec![('S', 0, 0), ('A', 1, 2), ('A', 2, 1)];
+    out.push(('S', 1, 0));
+    if r.one_in(2) {
+        out.extend(std::iter::repeat(('M', 0, 1)).take(*r.pick(&[63, 64, 64, 65, 126, 127])));
+        out.extend([('S', 2, 0), ('M', 2, 1), ('M', 0, 1), ('P', 1, 3)]);
+    } else {
+        let calls = *r.pick(&[510, 511, 511, 512]);
+        out.extend(std::iter::repeat(('C', 3, 0)).take(calls / 33));
+        out.extend(std::iter::repeat(('C', 4, 0)).take(calls % 33));
+        out.extend([('S', 2, 0), ('S', 3, 0)]);
+        out.extend(std::iter::repeat(('C', 4, 0)).take(32));
+        out.push(('S', 4, 0));
+    }
+    out
+}
+
+/// A file with A rows; now and then a damaged one.
+pub fn choice_text(r: &mut Random) -> Vec<u8> {
+    let mut rows = match r.below(12) {
+        0 => many_choices(r),
+        1 => near_limits(r),
+        _ => choosing(r),
+    };
+    if r.one_in(12) {
+        damage_rows(r, &mut rows);
+    }
+    let mut text = write(r, &rows);
+    if r.one_in(16) {
+        damage(r, &mut text);
+    }
+    text
+}

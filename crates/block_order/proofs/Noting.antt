@@ -8,7 +8,7 @@ use borrow.Author.Tests.{ne-eqb}
 use lib.Dec.{eqb}
 use lib.ListN.{length}
 use Rattle.model.specs.Limits.{messagesMost}
-use Rattle.model.specs.Rows.{sheet, order, block, call}
+use Rattle.model.specs.Rows.{sheet, order, block, call, choice}
 use Rattle.relation.specs.Width.{width}
 use Rattle.relation.specs.Rows.{holds, marked, copiedFrom, inserted}
 use Rattle.relation.proofs.Marked.{length-marked}
@@ -67,9 +67,10 @@ module _ (k a b m : ℕ) where
 
     pub noted-other : (k ≡ code "M" → ⊥) → (k ≡ code "P" → ⊥) → NotedAs words m (rowFrom k a b) words false
     unfolding noted circles rowFrom
-    noted-other e f = rw (ne-eqb k (code "M") e, ne-eqb k (code "P") f) (go (eqb k (code "S")) (eqb k (code "C")))
+    noted-other e f = rw (ne-eqb k (code "M") e, ne-eqb k (code "P") f) (go (eqb k (code "S")) (eqb k (code "C")) (eqb k (code "A")))
       where
-        go : (s c : Bool) → NotedAs words m (cond s (sheet a) (cond c (call a) block)) words false
-        go true c = record { found = refl; left = refl; long = refl }
-        go false true = record { found = refl; left = refl; long = refl }
-        go false false = record { found = refl; left = refl; long = refl }
+        go : (s c d : Bool) → NotedAs words m (cond s (sheet a) (cond c (call a) (cond d (choice a b) block))) words false
+        go true c d = record { found = refl; left = refl; long = refl }
+        go false true d = record { found = refl; left = refl; long = refl }
+        go false false true = record { found = refl; left = refl; long = refl }
+        go false false false = record { found = refl; left = refl; long = refl }

@@ -11,7 +11,7 @@ use lib.Dec.{ltb}
 use lib.ListN.{length, length-append}
 use Rattle.model.specs.Limits.{sheets, boards, messagesMost}
 use Rattle.model.specs.Bounded.{among}
-use Rattle.model.specs.Rows.{Row, sheet, message, order, block, call}
+use Rattle.model.specs.Rows.{Row, sheet, message, order, block, call, choice}
 use Rattle.model.specs.Place.{Place, messageFits, orderFits, moved, circleAt}
 use Rattle.model.proofs.Bounded.{and-right}
 use Rattle.model.proofs.Standing.{cond-some}
@@ -71,6 +71,7 @@ module _ (p : Place) (words : List ℕ) (ordered : Ordered (length (p .events)) 
       subst (λ (z : Place). circleAt (order x y) z ≡ circles words (order x y)) (t .1) (order-circle x y (t .0))
   circle-same block q e = refl
   circle-same (call n) q e = refl
+  circle-same (choice m n) q e = refl
 
   pub held-behind : (r : Row) (q : Place) → moved p r ≡ some q → HeldAt q (noted words (length (p .events) / 2) r)
   unfolding moved noted
@@ -85,3 +86,5 @@ module _ (p : Place) (words : List ℕ) (ordered : Ordered (length (p .events)) 
       subst (λ (z : Place). HeldAt z (noted words (length (p .events) / 2) (order x y))) (t .1) (order-held x y (t .0))
   held-behind block q e = subst (λ (z : Place). HeldAt z words) (cond-some true _ q e .1) (held-empty words (held .long))
   held-behind (call n) q e = subst (λ (z : Place). HeldAt z words) (cond-some (ltb n sheets) _ q e .1) (held-empty words (held .long))
+  held-behind (choice m n) q e =
+      subst (λ (z : Place). HeldAt z words) (cond-some (ltb m sheets && ltb n sheets) _ q e .1) (held-empty words (held .long))

@@ -7,7 +7,7 @@ use mathlib.Core.List.{List}
 use lib.ListN.{length, replicate}
 use Rattle.model.specs.Limits.{messagesMost}
 use Rattle.model.specs.Closure.{reads}
-use Rattle.model.specs.Rows.{Row, sheet, message, order, block, call}
+use Rattle.model.specs.Rows.{Row, sheet, message, order, block, call, choice}
 use Rattle.model.specs.Place.{blockTable}
 use Rattle.relation.specs.Width.{width, wordBits}
 use Rattle.relation.specs.Rows.{holds, marked, copiedFrom, inserted}
@@ -28,6 +28,7 @@ noted words m (message a b) = begun width words m
 noted words m (order x y) = inserted width words x y 0 (2 * m)
 noted words m block = words
 noted words m (call n) = words
+noted words m (choice j n) = words
 
 -- a row `P x y` puts x before itself where y is before x already
 unfoldable pub circles : List ℕ → Row → Bool
@@ -36,6 +37,7 @@ circles words (message a b) = false
 circles words (order x y) = holds width words x y
 circles words block = false
 circles words (call n) = false
+circles words (choice m n) = false
 
 -- a row's message has room in a block of m messages; its events are among theirs
 abbrev pub Within : ℕ → Row → Type 0
@@ -44,6 +46,7 @@ Within m (message a b) = m < messagesMost
 Within m (order x y) = (x < 2 * m) × (y < 2 * m)
 Within m block = Unit {0}
 Within m (call n) = Unit {0}
+Within m (choice j n) = Unit {0}
 
 -- what is handed back of a row, and the words behind it, in a block of m messages: where it makes a circle, they stay as they were
 pub record NotedAs (words : List ℕ) (m : ℕ) (r : Row) (exit : List ℕ) (circle : Bool) : Type 0 where

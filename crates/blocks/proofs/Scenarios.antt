@@ -8,11 +8,11 @@ use mathlib.Core.List.{List, []}
 use lib.Dec.{eqb, ltb}
 use lib.ListN.{getD}
 use borrow.Author.Tests.{lt-ltb, ltb-true, eq-eqb}
-use Rattle.model.specs.Refusal.{Out, refusal, andThen}
+use Rattle.model.specs.Refusal.{Out, ok, refusal, andThen, circleRefusal}
 use Rattle.model.specs.Rows.{Row}
 use Rattle.model.specs.Expansion.{Walk, Progress, expand}
 use Rattle.model.specs.Order.{Event, sendOf, receiveOf, number, event, messageOf, isEvent, isOwn, isEarlier, Scenario, Met, exchangeOf, scenarioOf, hasCircle}
-use Rattle.model.specs.Answer.{withoutCircle, expandedOf}
+use Rattle.model.specs.Answer.{withoutCircle}
 use Rattle.model.proofs.Bounded.{and-left, and-right, and-both, any-from, any-some}
 use Rattle.model.proofs.Events.{event-number, number-event, below-number, below-event}
 use Rattle.model.proofs.Order.{boardIn, own-parts, EarlierBlock, earlier-parts, before-row, before-own, before-earlier, before-transitive, before-least}
@@ -24,7 +24,7 @@ use Rattle.relation.specs.Rows.{holds, anyOwn}
 use Rattle.relation.specs.Scenario.{scenarioIn}
 use Rattle.relation.proofs.Tests.{both-ways}
 use Rattle.relation.proofs.Own.{own-any, any-own}
-use Rattle.blocks.specs.Store.{Store, storeOps, concluded}
+use Rattle.blocks.specs.Store.{Store, storeOps, concluded, countedWith}
 use Rattle.blocks.proofs.Sim.{Orders, Sim, Begins, inRow}
 use Rattle.blocks.proofs.Twin.{met, Match, going, stopped, expand-match}
 
@@ -168,13 +168,23 @@ module _ (w : Walk) (m : Met) (t : Store) (h : Sound (met w m)) (r : Sim w m t) 
       own-any width (t .words) (2 * w .count) (u .0) (u .1)
       (subst (λ (k : ℕ). inRow t k k ≡ true) (number-event (u .0)) (before-held (event (u .0)) (event (u .0)) (u .2) .2)))
 
+-- a walk that ends, with the A rows that it met
+ended : (S : Scenario) (n : ℕ) (b : Bool)
+    → cond {A = Out (Scenario × ℕ)} b (refusal circleRefusal 0) (ok (S, n)) ≡ andThen (cond b (refusal circleRefusal 0) (ok S)) (λ S. ok (S, n))
+unfolding andThen
+ended S n true = refl
+ended S n false = refl
+
 match-concluded : {o : Out (Progress Met)} {o′ : Out (Progress Store)} → Match o o′
-    → andThen o′ concluded ≡ andThen o (λ s. withoutCircle (scenarioOf (exchangeOf s)))
+    → andThen o′ concluded ≡ andThen o (λ s. andThen (withoutCircle (scenarioOf (exchangeOf s))) (λ S. ok (S, s .walk .choices)))
 unfolding andThen withoutCircle
-match-concluded (going {w = w} {m = m} {t = t} h r) = rw (circle-same w m t h r, scenario-same w m t h r)
+match-concluded (going {w = w} {m = m} {t = t} h r) =
+    rw (circle-same w m t h r, scenario-same w m t h r)
+    (ended (scenarioOf (exchangeOf (met w m))) (w .choices) (hasCircle (scenarioOf (exchangeOf (met w m)))))
 match-concluded stopped = refl
 
 -- The rows of a sheet file that fits, walked with the store, give the scenario or the refusal of the paper.
-pub expanded-same : (file : List Row) → Fits [] file → (t : Store) → Begins t → andThen (expand storeOps file t) concluded ≡ expandedOf file
-unfolding expandedOf
-expanded-same file fits t z = match-concluded (expand-match file fits t z)
+pub expanded-same : (options : List Bool) (file : List Row) → Fits [] file → (t : Store) → Begins t
+    → andThen (expand storeOps options file t) concluded ≡ countedWith options file
+unfolding countedWith
+expanded-same options file fits t z = match-concluded (expand-match options file fits t z)

@@ -320,7 +320,7 @@ module _ (w : Walk) (m : Met) (t : Store) (h : Sound (record { walk = w; kept = 
         receive : y ≡ 2 * c + 1 → Q x y ≡ true
         receive e = at (2 * c + 1) (sym e) (behind (received x hx (row-at x y (2 * c + 1) e i)))
 
-  pub sim-message : Sim (record { calls = w .calls; first = w .first; count = suc (w .count) }) (metOps .withMessage w a b m) (storeOps .withMessage w a b t)
+  pub sim-message : Sim (record { calls = w .calls; choices = w .choices; first = w .first; count = suc (w .count) }) (metOps .withMessage w a b m) (storeOps .withMessage w a b t)
   unfolding metOps storeOps seated
   sim-message =
       record {

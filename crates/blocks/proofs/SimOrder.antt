@@ -11,7 +11,7 @@ use lib.Dec.{eqb, leb, ltb}
 use lib.ListN.{length, getD}
 use borrow.Author.Tests.{eq-eqb, eqb-true, lt-leb}
 use Rattle.model.specs.Limits.{boards}
-use Rattle.model.specs.Expansion.{Walk}
+use Rattle.model.specs.Expansion.{chosenMore, Walk}
 use Rattle.model.specs.Closure.{listed}
 use Rattle.model.specs.Order.{Met, metOps}
 use Rattle.model.proofs.Bounded.{and-left, and-right, or-cases, or-left, or-right, which}
@@ -170,7 +170,7 @@ module _ (w : Walk) (m : Met) (t : Store) (h : Sound (record { walk = w; kept = 
       (λ u. (u .0, u .2, sym (r .sameBoards (u .0)) ∙ u .3, u .4))
       (passed-only width (t .past) (t .events) (t .words) rooms (2 * w .first) (2 * w .count) inOrder enough p x hx i)
 
-  pub sim-block : Sim (record { calls = w .calls; first = w .count; count = w .count }) (metOps .withBlock w m) (storeOps .withBlock w t)
+  pub sim-block : Sim (record { calls = w .calls; choices = w .choices; first = w .count; count = w .count }) (metOps .withBlock w m) (storeOps .withBlock w t)
   unfolding metOps storeOps
   sim-block =
       record {
@@ -186,8 +186,8 @@ module _ (w : Walk) (m : Met) (t : Store) (h : Sound (record { walk = w; kept = 
         pastOnly = only′;
       }
 
-  pub sim-call : Sim (record { calls = suc (w .calls); first = w .first; count = w .count }) m t
-  sim-call =
+  pub sim-call : (byChoice : Bool) → Sim (record { calls = suc (w .calls); choices = chosenMore byChoice (w .choices); first = w .first; count = w .count }) m t
+  sim-call byChoice =
       record {
         eventsLong = r .eventsLong;
         wordsLong = r .wordsLong;

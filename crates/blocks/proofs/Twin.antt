@@ -3,16 +3,16 @@
 use Prim.Native.Nat.{ℕ, zero, suc, _-_, _*_}
 use native.Mathlib.Omega.{arith}
 use mathlib.Core.Path.{_≡_, refl, sym, _∙_, ap}
-use mathlib.Core.Bool.{Bool, true, false}
+use mathlib.Core.Bool.{Bool, true, false, _&&_}
 use mathlib.Core.List.{List, [], _∷_}
-use lib.Dec.{ltb}
+use lib.Dec.{leb, ltb}
 use lib.ListN.{length, drop, length-drop}
 use borrow.Author.Tests.{ltb-true}
 use Rattle.model.specs.Limits.{messagesMost, levels, callsMost}
-use Rattle.model.specs.Refusal.{Out, ok, refusal, andThen, callsRefusal, messagesRefusal}
-use Rattle.model.specs.Rows.{Row, sheet, message, order, block, call}
+use Rattle.model.specs.Refusal.{Out, ok, refusal, andThen, callsRefusal, messagesRefusal, choicesRefusal}
+use Rattle.model.specs.Rows.{Row, sheet, message, order, block, call, choice}
 use Rattle.model.specs.Place.{withMessage, lineOf}
-use Rattle.model.specs.Expansion.{Walk, freshWalk, Progress, startOf, blockOpened, callMade, messageMet, orderMet, walkRows, callAt, expand}
+use Rattle.model.specs.Expansion.{Walk, freshWalk, Progress, startOf, taken, chosenMore, blockOpened, callMade, messageMet, orderMet, walkRows, callAt, expand}
 use Rattle.model.specs.Order.{Met, nothingMet, metOps}
 use Rattle.model.proofs.Standing.{Fits, sheet-fits}
 use Rattle.model.proofs.Walked.{Sound, Opened, OnOneBoard, message-parts, order-parts, sound-start, sound-message, opened-message, sound-order, opened-order, sound-block, opened-block, sound-call}
@@ -41,27 +41,28 @@ match-then f g (going {w = w} {m = m} {t = t} h r) on = on w m t h r
 match-then f g stopped on = stopped
 
 -- two parts that call go together
-abbrev CallsMatch : (ℕ → ℕ → Progress Met → Out (Progress Met)) → (ℕ → ℕ → Progress Store → Out (Progress Store)) → Type 0
-CallsMatch c c′ = (n line : ℕ) (w : Walk) (m : Met) (t : Store) → Sound (met w m) → Sim w m t → Match (c n line (met w m)) (c′ n line (stored w t))
+abbrev CallsMatch : (Bool → ℕ → ℕ → Progress Met → Out (Progress Met)) → (Bool → ℕ → ℕ → Progress Store → Out (Progress Store)) → Type 0
+CallsMatch c c′ = (byChoice : Bool) (n line : ℕ) (w : Walk) (m : Met) (t : Store) → Sound (met w m) → Sim w m t
+    → Match (c byChoice n line (met w m)) (c′ byChoice n line (stored w t))
 
-module _ (c : ℕ → ℕ → Progress Met → Out (Progress Met)) (c′ : ℕ → ℕ → Progress Store → Out (Progress Store)) (calls : CallsMatch c c′) where
+module _ (options : List Bool) (c : Bool → ℕ → ℕ → Progress Met → Out (Progress Met)) (c′ : Bool → ℕ → ℕ → Progress Store → Out (Progress Store)) (calls : CallsMatch c c′) where
   rows-match : (e : List ℕ) (rs : List Row) (line : ℕ) (w : Walk) (m : Met) (t : Store) → Fits e rs → Sound (met w m) → Opened (met w m) e → Sim w m t
-      → Match (walkRows metOps c rs line (met w m)) (walkRows storeOps c′ rs line (stored w t))
+      → Match (walkRows metOps options c rs line (met w m)) (walkRows storeOps options c′ rs line (stored w t))
   unfolding walkRows messageMet orderMet blockOpened
   rows-match e [] line w m t f h o r = going h r
   rows-match e (sheet n ∷ rs) line w m t f h o r = going h r
   rows-match e (message a b ∷ rs) line w m t f h o r =
       go (ltb (w .count) messagesMost) refl
-      (rows-match (withMessage e a b) rs (suc line) (record { calls = w .calls; first = w .first; count = suc (w .count) })
+      (rows-match (withMessage e a b) rs (suc line) (record { calls = w .calls; choices = w .choices; first = w .first; count = suc (w .count) })
       (metOps .withMessage w a b m) (storeOps .withMessage w a b t) (f .1))
     where
       go : (b′ : Bool) → ltb (w .count) messagesMost ≡ b′
           → (Sound (messageMet metOps a b (met w m)) → Opened (messageMet metOps a b (met w m)) (withMessage e a b)
-          → Sim (record { calls = w .calls; first = w .first; count = suc (w .count) }) (metOps .withMessage w a b m) (storeOps .withMessage w a b t)
-          → Match (walkRows metOps c rs (suc line) (messageMet metOps a b (met w m))) (walkRows storeOps c′ rs (suc line) (messageMet storeOps a b (stored w t))))
+          → Sim (record { calls = w .calls; choices = w .choices; first = w .first; count = suc (w .count) }) (metOps .withMessage w a b m) (storeOps .withMessage w a b t)
+          → Match (walkRows metOps options c rs (suc line) (messageMet metOps a b (met w m))) (walkRows storeOps options c′ rs (suc line) (messageMet storeOps a b (stored w t))))
           → Match
-          (elim b′ [ true ↦ walkRows metOps c rs (suc line) (messageMet metOps a b (met w m)) | false ↦ refusal messagesRefusal line ])
-          (elim b′ [ true ↦ walkRows storeOps c′ rs (suc line) (messageMet storeOps a b (stored w t)) | false ↦ refusal messagesRefusal line ])
+          (elim b′ [ true ↦ walkRows metOps options c rs (suc line) (messageMet metOps a b (met w m)) | false ↦ refusal messagesRefusal line ])
+          (elim b′ [ true ↦ walkRows storeOps options c′ rs (suc line) (messageMet storeOps a b (stored w t)) | false ↦ refusal messagesRefusal line ])
       go true l on =
           let p = message-parts e a b (f .0) in
           let room = ltb-true (w .count) messagesMost l in
@@ -74,40 +75,53 @@ module _ (c : ℕ → ℕ → Progress Met → Out (Progress Met)) (c′ : ℕ �
       (sound-order (met w m) x y e h o p) (opened-order (met w m) x y e o)
       (sim-order w m t h r x y (omega (arith, p .firstThere)) (omega (arith, p .secondThere)))
   rows-match e (block ∷ rs) line w m t f h o r =
-      rows-match [] rs (suc line) (record { calls = w .calls; first = w .count; count = w .count }) (metOps .withBlock w m) (storeOps .withBlock w t) f
+      rows-match [] rs (suc line) (record { calls = w .calls; choices = w .choices; first = w .count; count = w .count }) (metOps .withBlock w m) (storeOps .withBlock w t) f
       (sound-block (met w m) h) (opened-block (met w m) h) (sim-block w m t h r)
   rows-match e (call n ∷ rs) line w m t f h o r =
-      match-then (λ s. walkRows metOps c rs (suc line) (blockOpened metOps s)) (λ s. walkRows storeOps c′ rs (suc line) (blockOpened storeOps s))
-      (calls n line w m t h r)
-      (λ w₁ m₁ t₁ h₁ r₁. rows-match [] rs (suc line) (record { calls = w₁ .calls; first = w₁ .count; count = w₁ .count }) (metOps .withBlock w₁ m₁) (storeOps .withBlock w₁ t₁) f
+      match-then (λ s. walkRows metOps options c rs (suc line) (blockOpened metOps s)) (λ s. walkRows storeOps options c′ rs (suc line) (blockOpened storeOps s))
+      (calls false n line w m t h r)
+      (λ w₁ m₁ t₁ h₁ r₁. rows-match [] rs (suc line) (record { calls = w₁ .calls; choices = w₁ .choices; first = w₁ .count; count = w₁ .count }) (metOps .withBlock w₁ m₁) (storeOps .withBlock w₁ t₁) f
+      (sound-block (met w₁ m₁) h₁) (opened-block (met w₁ m₁) h₁) (sim-block w₁ m₁ t₁ h₁ r₁))
+  rows-match e (choice j n ∷ rs) line w m t f h o r =
+      match-then (λ s. walkRows metOps options c rs (suc line) (blockOpened metOps s)) (λ s. walkRows storeOps options c′ rs (suc line) (blockOpened storeOps s))
+      (calls true (taken options (w .choices) j n) line w m t h r)
+      (λ w₁ m₁ t₁ h₁ r₁. rows-match [] rs (suc line) (record { calls = w₁ .calls; choices = w₁ .choices; first = w₁ .count; count = w₁ .count }) (metOps .withBlock w₁ m₁) (storeOps .withBlock w₁ t₁) f
       (sound-block (met w₁ m₁) h₁) (opened-block (met w₁ m₁) h₁) (sim-block w₁ m₁ t₁ h₁ r₁))
 
-module _ (file : List Row) (fits : Fits [] file) where
-  call-match : (left : ℕ) → CallsMatch (callAt metOps left file) (callAt storeOps left file)
+module _ (options : List Bool) (file : List Row) (fits : Fits [] file) where
+  call-match : (left : ℕ) → CallsMatch (callAt metOps options left file) (callAt storeOps options left file)
   unfolding callAt blockOpened callMade
-  call-match zero n line w m t h r = stopped
-  call-match (suc left) n line w m t h r = go (ltb (w .calls) callsMost) refl (call-match left)
+  call-match zero byChoice n line w m t h r = stopped
+  call-match (suc left) byChoice n line w m t h r =
+      go (ltb (w .calls) callsMost) refl (byChoice && leb (length options) (w .choices)) (call-match left)
     where
-      go : (b : Bool) → ltb (w .calls) callsMost ≡ b → CallsMatch (callAt metOps left file) (callAt storeOps left file)
+      go : (b : Bool) → ltb (w .calls) callsMost ≡ b → (d : Bool) → CallsMatch (callAt metOps options left file) (callAt storeOps options left file)
           → Match
           (elim b [
-            | true ↦ walkRows metOps (callAt metOps left file) (drop (startOf n file) file) (lineOf (startOf n file)) (blockOpened metOps (callMade metOps (met w m)))
+            | true ↦ elim d [
+              | true ↦ refusal choicesRefusal line
+              | false ↦ walkRows metOps options (callAt metOps options left file) (drop (startOf n file) file) (lineOf (startOf n file)) (blockOpened metOps (callMade metOps byChoice (met w m)))
+            ]
             | false ↦ refusal callsRefusal line
           ])
           (elim b [
-            | true ↦ walkRows storeOps (callAt storeOps left file) (drop (startOf n file) file) (lineOf (startOf n file)) (blockOpened storeOps (callMade storeOps (stored w t)))
+            | true ↦ elim d [
+              | true ↦ refusal choicesRefusal line
+              | false ↦ walkRows storeOps options (callAt storeOps options left file) (drop (startOf n file) file) (lineOf (startOf n file)) (blockOpened storeOps (callMade storeOps byChoice (stored w t)))
+            ]
             | false ↦ refusal callsRefusal line
           ])
-      go false l calls = stopped
-      go true l calls =
-          let w₁ : Walk = record { calls = suc (w .calls); first = w .first; count = w .count } in
-          let h₁ : Sound (met w₁ m) = sound-call (met w m) h (ltb-true (w .calls) callsMost l) in
-          rows-match (callAt metOps left file) (callAt storeOps left file) calls [] (drop (startOf n file) file) (lineOf (startOf n file))
-          (record { calls = w₁ .calls; first = w₁ .count; count = w₁ .count }) (metOps .withBlock w₁ m) (storeOps .withBlock w₁ t)
-          (sheet-fits n [] file fits) (sound-block (met w₁ m) h₁) (opened-block (met w₁ m) h₁) (sim-block w₁ m t h₁ (sim-call w m t h r))
+      go false l d calls = stopped
+      go true l true calls = stopped
+      go true l false calls =
+          let w₁ : Walk = record { calls = suc (w .calls); choices = chosenMore byChoice (w .choices); first = w .first; count = w .count } in
+          let h₁ : Sound (met w₁ m) = sound-call byChoice (met w m) h (ltb-true (w .calls) callsMost l) in
+          rows-match options (callAt metOps options left file) (callAt storeOps options left file) calls [] (drop (startOf n file) file) (lineOf (startOf n file))
+          (record { calls = w₁ .calls; choices = w₁ .choices; first = w₁ .count; count = w₁ .count }) (metOps .withBlock w₁ m) (storeOps .withBlock w₁ t)
+          (sheet-fits n [] file fits) (sound-block (met w₁ m) h₁) (opened-block (met w₁ m) h₁) (sim-block w₁ m t h₁ (sim-call w m t h r byChoice))
 
-  pub expand-match : (t : Store) → Begins t → Match (expand metOps file nothingMet) (expand storeOps file t)
+  pub expand-match : (t : Store) → Begins t → Match (expand metOps options file nothingMet) (expand storeOps options file t)
   unfolding expand
   expand-match t z =
-      rows-match (callAt metOps levels file) (callAt storeOps levels file) (call-match levels) [] (drop (startOf 0 file) file) (lineOf (startOf 0 file))
+      rows-match options (callAt metOps options levels file) (callAt storeOps options levels file) (call-match levels) [] (drop (startOf 0 file) file) (lineOf (startOf 0 file))
       freshWalk nothingMet t (sheet-fits 0 [] file fits) sound-start refl (sim-start t z)

@@ -1,10 +1,13 @@
 // The channel check for C: each exported call is a few lines over its crate, and promises the whole of it.
 ghost use mathlib.Core.Path.{_≡_};
 ghost use Rattle.model.specs.Verdict.{Checked};
+ghost use Rattle.model.specs.Choice.{ChoiceChecked};
 ghost use Rattle.model.specs.Replay.{Replayed};
+ghost use Rattle.choice.specs.Bridge as chosen;
 ghost use Rattle.replay.specs.Bridge as replayed;
 ghost use Rattle.verdict.specs.Parts.{numbersFor};
 ghost use Rattle.channel_check.specs.Numbers.{Small, numbersIn};
+use choice::ChoiceCheckAnswer;
 use replay::TraceCheckAnswer;
 use verdict::Answer;
 
@@ -72,4 +75,17 @@ pub extern "C" fn trace_check(
     ensures { λ r. ⌜ Replayed (now (text .entry)) code (now (scratch .entry)) (now (scratch .exit)) (now (trace .entry)) (replayed.numbersIn r) ⌝ }
 {
     replay::trace_check(text, code, scratch, trace)
+}
+
+// A file with choices between two subprograms: any text, any channel code, any lengths.
+#[no_mangle]
+pub extern "C" fn choice_check(
+    text: &[u8],
+    code: u32,
+    scratch: &mut [u64],
+    trace: &mut [u8],
+) -> ChoiceCheckAnswer
+    ensures { λ r. ⌜ ChoiceChecked (now (text .entry)) code (now (scratch .entry)) (now (scratch .exit)) (now (trace .entry)) (now (trace .exit)) (chosen.numbersIn r) ⌝ }
+{
+    choice::choice_check(text, code, scratch, trace)
 }

@@ -1,5 +1,6 @@
 // For a technician: the check at the command line, a word a call. The sheet comes from standard input.
 mod arguments;
+mod choices;
 mod steps;
 mod traces;
 
@@ -22,6 +23,10 @@ fn print_usage() {
         STDERR_FILENO,
         b"       channel_tool replay CODE TRACEFILE < SHEET\n",
     );
+    io::write_all(
+        STDERR_FILENO,
+        b"       channel_tool choices CODE < SHEET\n",
+    );
 }
 
 // The words that name a channel code behind them.
@@ -33,6 +38,9 @@ fn answer_on(word: &[u8], code: u32) {
     } else if check::same(word, b"trace") {
         let n = io::read_full(STDIN_FILENO, &mut text);
         steps::write(&text[..n], code);
+    } else if check::same(word, b"choices") {
+        let n = io::read_full(STDIN_FILENO, &mut text);
+        choices::print(&text[..n], code);
     } else if check::same(word, b"replay") {
         let n = io::read_full(STDIN_FILENO, &mut text);
         traces::print(&text[..n], code);

@@ -5,7 +5,7 @@ ghost use lib.ListN.{length};
 use libc::STDERR_FILENO;
 
 // As many steps as the trace has, at most.
-fn steps_in(trace: &[u8], steps: u32) -> usize
+pub fn steps_in(trace: &[u8], steps: u32) -> usize
     ensures { λ r. ⌜ 2 * r ≤ length (now (trace .entry)) ⌝ }
 {
     let all = trace.len() / 2;

@@ -1,2 +1,3 @@
 mod Reading
 mod Whole
+pub mod Listed

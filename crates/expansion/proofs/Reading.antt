@@ -4,29 +4,32 @@ use Prim.Native.Nat.{ℕ, zero, suc, _+_, _-_, _<_, _≤_}
 use native.Mathlib.Decide.{ℕ-discrete}
 use native.Mathlib.Omega.{arith}
 use mathlib.Core.Path.{_≡_, refl, _∙_, ap, subst}
-use mathlib.Core.Bool.{Bool, true, false, cond}
+use mathlib.Core.Bool.{Bool, true, false, cond, _&&_, _||_}
 use mathlib.Core.List.{List, [], _∷_}
 use mathlib.Core.Option.{Option, none, some}
 use lib.Dec.{eqb, ltb}
 use lib.ListN.{length, getD, drop, length-append}
-use borrow.Author.Tests.{ltb-true}
+use borrow.Author.Tests.{ltb-true, eqb-true}
+use Rattle.model.proofs.Bounded.{and-left, and-right}
 use Rattle.model.specs.Limits.{rowsMost, sheets}
 use Rattle.model.specs.Bounded.{among}
 use Rattle.model.specs.Refusal.{ok, refusal, absentRefusal}
 use Rattle.model.specs.Text.{Line, Columns}
-use Rattle.model.specs.Rows.{Row, sheet, message, order, block, call}
+use Rattle.model.specs.Rows.{Row, sheet, message, order, block, call, choice}
 use Rattle.model.specs.Place.{Place, outside, withMessage, moved, lineOf, judged, opens, strayCall, complete}
 use Rattle.model.specs.Place.{rowsFrom as rowsRead}
-use Rattle.model.specs.Expansion.{startOf}
+use Rattle.model.specs.Expansion.{startOf, taken}
 use Rattle.model.proofs.Refusal.{not-refused, passed, cond-ok}
 use Rattle.model.proofs.Closure.{cells-length, cells-at}
 use Rattle.model.proofs.Standing.{Fits, judged-row, read-parts, read-fits, cond-some}
 use Rattle.model.proofs.Walked.{OnOneBoard, message-parts, order-parts}
 use Rattle.sheet.specs.Bridge.{rowFrom, rowsAt, rowsOf, startIn}
-use Rattle.sheet.proofs.Bridge.{rows-length, row-call}
+use Rattle.sheet.proofs.Bridge.{rows-length, row-call, row-choice}
 use Rattle.walk.specs.Block.{rowsFrom, AllStand}
 use Rattle.walk.proofs.Meeting.{rows-drop}
+use Rattle.levels.specs.Options.{optionsOf, isCall, sheetCalled}
 use Rattle.levels.specs.Levels.{Sheets}
+use Rattle.levels.proofs.Choosing.{either}
 use Rattle.expansion.specs.Lent.{AreRead, RowsRead}
 
 -- the rows' sheets are 0 to 31 where they call, and the rows are few
@@ -36,6 +39,7 @@ Known (message a b) = Unit {0}
 Known (order x y) = Unit {0}
 Known block = Unit {0}
 Known (call k) = k < sheets
+Known (choice j k) = (j < sheets) × (k < sheets)
 
 abbrev AllKnown : List Row → Type 0
 AllKnown [] = Unit {0}
@@ -48,19 +52,22 @@ moved-known p q (message a b) e = tt
 moved-known p q (order x y) e = tt
 moved-known p q block e = tt
 moved-known p q (call k) e = ltb-true k sheets (cond-some (ltb k sheets) _ q e .0)
+moved-known p q (choice j k) e =
+    let t = cond-some (ltb j sheets && ltb k sheets) _ q e .0 in
+    (ltb-true j sheets (and-left (ltb j sheets) (ltb k sheets) t), ltb-true k sheets (and-right (ltb j sheets) (ltb k sheets) t))
 
-read-rows : (c : Columns) (i : ℕ) (p : Place) (ls : List Line) (rs : List Row) → rowsRead c i p ls ≡ ok rs → i ≤ rowsMost
+read-rows : (choices : Bool) (c : Columns) (i : ℕ) (p : Place) (ls : List Line) (rs : List Row) → rowsRead choices c i p ls ≡ ok rs → i ≤ rowsMost
     → AllKnown rs × (i + length rs ≤ rowsMost)
 unfolding rowsRead
-read-rows c i p [] rs e h =
+read-rows choices c i p [] rs e h =
     let t : [] ≡ rs = cc in subst (λ (z : List Row). AllKnown z × (i + length z ≤ rowsMost)) t (tt, omega arith)
-read-rows c i p (l ∷ ls) rs e h =
-    let s = passed (judged c i p l) (λ rp. elim (rowsRead c (suc i) (rp .1) ls) [ refusal number line ↦ refusal number line | ok rs′ ↦ ok (rp .0 ∷ rs′) ]) rs e in
+read-rows choices c i p (l ∷ ls) rs e h =
+    let s = passed (judged choices c i p l) (λ rp. elim (rowsRead choices c (suc i) (rp .1) ls) [ refusal number line ↦ refusal number line | ok rs′ ↦ ok (rp .0 ∷ rs′) ]) rs e in
     let rp = s .0 in
-    let j = judged-row c i p l rp (s .1) in
-    let t = passed (rowsRead c (suc i) (rp .1) ls) (λ rs′. ok (rp .0 ∷ rs′)) rs (s .2) in
+    let j = judged-row choices c i p l rp (s .1) in
+    let t = passed (rowsRead choices c (suc i) (rp .1) ls) (λ rs′. ok (rp .0 ∷ rs′)) rs (s .2) in
     let e′ : rp .0 ∷ t .0 ≡ rs = cc (t .2) in
-    let on = read-rows c (suc i) (rp .1) ls (t .0) (t .1) (j .few) in
+    let on = read-rows choices c (suc i) (rp .1) ls (t .0) (t .1) (j .few) in
     subst (λ (z : List Row). AllKnown z × (i + length z ≤ rowsMost)) e′
     ((moved-known p (rp .1) (rp .0) (j .allowed), on .0), omega (arith, on .1))
 
@@ -71,6 +78,7 @@ Present opened (message a b) = Unit {0}
 Present opened (order x y) = Unit {0}
 Present opened block = Unit {0}
 Present opened (call k) = (k < sheets) × (among k opened ≡ true)
+Present opened (choice j k) = ((j < sheets) × (among j opened ≡ true)) × ((k < sheets) × (among k opened ≡ true))
 
 abbrev AllPresent : List ℕ → List Row → Type 0
 AllPresent opened [] = Unit {0}
@@ -89,6 +97,14 @@ all-present opened i (call n ∷ rs) k e = go (among n opened) refl e (all-prese
         → (strayCall opened (suc i) rs ≡ none → AllPresent opened rs)
         → Present opened (call n) × AllPresent opened rs
     go true t e on = ((k .0, t), on e)
+    go false t e on = let z : _≡_ {A = ℕ} 0 1 = cc in absurd (omega arith)
+all-present opened i (choice m n ∷ rs) k e = go (among m opened && among n opened) refl e (all-present opened (suc i) rs (k .1))
+  where
+    go : (b : Bool) → (among m opened && among n opened) ≡ b → cond b (strayCall opened (suc i) rs) (some (lineOf i)) ≡ none
+        → (strayCall opened (suc i) rs ≡ none → AllPresent opened rs)
+        → Present opened (choice m n) × AllPresent opened rs
+    go true t e on =
+        (((k .0 .0, and-left (among m opened) (among n opened) t), (k .0 .1, and-right (among m opened) (among n opened) t)), on e)
     go false t e on = let z : _≡_ {A = ℕ} 0 1 = cc in absurd (omega arith)
 
 present-at : (opened kind one two : List ℕ) (i n : ℕ) → AllPresent opened (rowsAt kind one two i n) → (j : ℕ) → i ≤ j → j < i + n
@@ -115,6 +131,7 @@ all-stand events (order x y ∷ rs) f =
     ((o .firstThere, o .secondThere), all-stand events rs (f .1))
 all-stand events (block ∷ rs) f = (tt, all-stand [] rs f)
 all-stand events (call n ∷ rs) f = (tt, all-stand [] rs f)
+all-stand events (choice m n ∷ rs) f = (tt, all-stand [] rs f)
 
 -- and so do the rows behind each sheet's S row
 sheet-stand : (k n : ℕ) (rs : List Row) → AllStand k rs → AllStand 0 (drop (startOf n rs) rs)
@@ -129,6 +146,7 @@ sheet-stand k n (message x y ∷ rs) a = sheet-stand (k + 2) n rs (a .1)
 sheet-stand k n (order x y ∷ rs) a = sheet-stand k n rs (a .1)
 sheet-stand k n (block ∷ rs) a = sheet-stand 0 n rs (a .1)
 sheet-stand k n (call m ∷ rs) a = sheet-stand 0 n rs (a .1)
+sheet-stand k n (choice j m ∷ rs) a = sheet-stand 0 n rs (a .1)
 
 -- What the rows of a text are: few, each stands, and sheet 0 is there.
 record Whole (rs : List Row) : Type 0 where
@@ -136,21 +154,21 @@ record Whole (rs : List Row) : Type 0 where
   pub present : AllPresent (opens rs) rs
   pub begins : among 0 (opens rs) ≡ true
 
-complete-whole : (c : Columns) (ls : List Line) (rs : List Row) → rowsRead c 0 outside ls ≡ ok rs → complete rs ≡ ok rs → Whole rs
+complete-whole : (choices : Bool) (c : Columns) (ls : List Line) (rs : List Row) → rowsRead choices c 0 outside ls ≡ ok rs → complete rs ≡ ok rs → Whole rs
 unfolding complete
-complete-whole c ls rs e f =
+complete-whole choices c ls rs e f =
     let t = cond-ok (among 0 (opens rs)) _ _ _ rs f in go (strayCall (opens rs) 0 rs) refl (t .0) (t .1)
   where
     go : (o : Option ℕ) → strayCall (opens rs) 0 rs ≡ o → among 0 (opens rs) ≡ true
         → elim o [ none ↦ ok rs | some line ↦ refusal absentRefusal line ] ≡ ok rs
         → Whole rs
     go none s b h =
-        let r = read-rows c 0 outside ls rs e (omega arith) in
+        let r = read-rows choices c 0 outside ls rs e (omega arith) in
         record { few = omega (arith, r .1); present = all-present (opens rs) 0 rs (r .0) s; begins = b }
     go (some line) s b h = not-refused h
 
 read-whole : (rs : List Row) → AreRead rs → Whole rs
-read-whole rs r = let p = read-parts (r .0) rs (r .1) in complete-whole (p .columns) (p .lines) rs (p .read) (p .whole)
+read-whole rs r = let p = read-parts (r .0) (r .1) rs (r .2) in complete-whole (r .0) (p .columns) (p .lines) rs (p .read) (p .whole)
 
 module _ (kind one two : List ℕ) (count : ℕ) (start : List ℕ) (lent : RowsRead kind one two count start) where
   abbrev file : List Row
@@ -165,16 +183,27 @@ module _ (kind one two : List ℕ) (count : ℕ) (start : List ℕ) (lent : Rows
   unfolding startIn
   start-at n h a = ap (λ (l : List ℕ). getD l n 0) (lent .starts) ∙ cells-at sheets (startIn file) n 0 h ∙ rw a
 
-  call-present : (i : ℕ) → i < count → getD kind i 0 ≡ 67 → Present (opens file) (call (getD one i 0))
-  call-present i h e =
-      subst (Present (opens file)) (row-call (getD kind i 0) (getD one i 0) (getD two i 0) e)
-      (present-at (opens file) kind one two 0 count (read-whole file (lent .read) .present) i (omega arith) (omega arith))
+  row-present : (i : ℕ) → i < count → Present (opens file) (rowFrom (getD kind i 0) (getD one i 0) (getD two i 0))
+  row-present i h = present-at (opens file) kind one two 0 count (read-whole file (lent .read) .present) i (omega arith) (omega arith)
 
-  call-known : (i : ℕ) → i < count → getD kind i 0 ≡ 67 → getD one i 0 < sheets
-  call-known i h e = call-present i h e .0
+  -- a row that calls: the sheet that it calls, whatever its option
+  called-present : (options choices i : ℕ) → i < count → isCall (getD kind i 0) ≡ true
+      → Present (opens file) (call (sheetCalled (getD kind i 0) (getD one i 0) (getD two i 0) options choices))
+  unfolding sheetCalled isCall taken
+  called-present options choices i h e = go (eqb (getD kind i 0) 65) refl
+    where
+      either-one : (b : Bool) → Present (opens file) (choice (getD one i 0) (getD two i 0)) → Present (opens file) (call (cond b (getD two i 0) (getD one i 0)))
+      either-one true p = p .1
+      either-one false p = p .0
 
-  call-start : (i : ℕ) → i < count → getD kind i 0 ≡ 67 → getD start (getD one i 0) 0 ≡ startOf (getD one i 0) file
-  call-start i h e = let p = call-present i h e in start-at (getD one i 0) (p .0) (p .1)
+      go : (b : Bool) → eqb (getD kind i 0) 65 ≡ b
+          → Present (opens file) (call (cond b (cond (getD (optionsOf options) choices false) (getD two i 0) (getD one i 0)) (getD one i 0)))
+      go true f =
+          either-one (getD (optionsOf options) choices false)
+          (subst (Present (opens file)) (row-choice (getD kind i 0) (getD one i 0) (getD two i 0) (eqb-true (getD kind i 0) 65 f)) (row-present i h))
+      go false f =
+          let c : getD kind i 0 ≡ 67 = eqb-true (getD kind i 0) 67 (either (eqb (getD kind i 0) 67) (subst (λ (t : Bool). (eqb (getD kind i 0) 67 || t) ≡ true) f e)) in
+          subst (Present (opens file)) (row-call (getD kind i 0) (getD one i 0) (getD two i 0) c) (row-present i h)
 
   pub start-long : length start ≡ sheets
   start-long = ap length (lent .starts) ∙ cells-length sheets (startIn file)
@@ -186,13 +215,13 @@ module _ (kind one two : List ℕ) (count : ℕ) (start : List ℕ) (lent : Rows
   pub start-stand : (n : ℕ) → AllStand 0 (rowsFrom kind one two count (startOf n file))
   start-stand n =
       subst (AllStand 0) (rows-drop kind one two count (startOf n file))
-      (sheet-stand 0 n file (all-stand [] file (read-fits (lent .read .0) file (lent .read .1))))
+      (sheet-stand 0 n file (all-stand [] file (read-fits (lent .read .0) (lent .read .1) file (lent .read .2))))
 
-  pub sheets-lent : Sheets kind one two count start
-  sheets-lent =
+  pub sheets-lent : (options : ℕ) → Sheets options kind one two count start
+  sheets-lent options =
       record {
         rows = record { few = rows-few; kindLong = lent .kindLong; oneLong = lent .oneLong; twoLong = lent .twoLong };
-        known = λ i h e. omega (arith, call-known i h e, start-long);
-        starts = call-start;
+        known = λ i choices h e. omega (arith, called-present options choices i h e .0, start-long);
+        starts = λ i choices h e. let p = called-present options choices i h e in start-at _ (p .0) (p .1);
         stand = start-stand;
       }

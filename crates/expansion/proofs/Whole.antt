@@ -12,7 +12,7 @@ use Rattle.model.specs.Rows.{Row}
 use Rattle.model.specs.Place.{lineOf}
 use Rattle.model.specs.Expansion.{Progress, startOf, walkRows, callAt}
 use Rattle.model.specs.Expansion.{expand as expandRows}
-use Rattle.model.specs.Answer.{expandedOf}
+use Rattle.model.specs.Order.{Scenario}
 use Rattle.model.proofs.Lists.{replicate-at}
 use Rattle.model.proofs.Standing.{read-fits}
 use Rattle.relation.specs.Width.{width}
@@ -20,7 +20,7 @@ use Rattle.relation.specs.Rows.{cleared, anyOwn}
 use Rattle.relation.specs.Scenario.{scenarioIn}
 use Rattle.relation.proofs.Loops.{Clearing, clearing-end}
 use Rattle.sheet.specs.Bridge.{rowsOf}
-use Rattle.blocks.specs.Store.{Store, storeOf, storeOps, concluded}
+use Rattle.blocks.specs.Store.{Store, storeOf, storeOps, concluded, countedWith}
 use Rattle.blocks.specs.Room.{Room}
 use Rattle.walk.specs.Block.{fresh, stateOf, rowsFrom, blockWalked, Leaves, AllStand, Ready}
 use Rattle.walk.specs.declared.Walk.{Walk}
@@ -29,10 +29,11 @@ use Rattle.walk.proofs.Meeting.{in-rows, rows-drop}
 use Rattle.blocks.proofs.Sim.{Begins}
 use Rattle.blocks.proofs.Scenarios.{expanded-same}
 use Rattle.expansion.specs.Lent.{RowsRead}
-use Rattle.expansion.specs.Outcome.{outcomeOf, concludedAs, zeros}
+use Rattle.expansion.specs.Outcome.{countedOf, concludedAs, zeros}
+use Rattle.levels.specs.Options.{optionsOf}
 use Rattle.levels.specs.Levels.{after, idle, rest, rank, Between, Reaches}
-use Rattle.expansion.specs.declared.Expanded.{Expanded}
-use Rattle.expansion.specs.declared.Expanded.the-variants.{Messages, Refused}
+use Rattle.expansion.specs.declared.Counted.{Counted}
+use Rattle.expansion.specs.declared.Counted.the-variants as counted
 use Rattle.levels.specs.declared.Reached.{Reached}
 use Rattle.levels.specs.declared.Reached.the-variants as reached
 use Rattle.expansion.proofs.Reading.{start-zero, start-stand}
@@ -50,30 +51,30 @@ boards-zero l i now j h e = clearing-end (2 * messagesMost) l i now j h ∙ clea
 
 -- the circle test, by what the code's branch learned
 module _ (words : List ℕ) (count : ℕ) (r : Bool) (test : r ≡ anyOwn width words (2 * count)) where
-  pub circle-found : r ≡ true → Refused circleRefusal 0 ≡ concludedAs (anyOwn width words (2 * count)) count
-  circle-found e = rw (sym test ∙ e)
+  pub circle-found : (choices : ℕ) → r ≡ true → counted.Refused circleRefusal 0 ≡ concludedAs (anyOwn width words (2 * count)) count choices
+  circle-found choices e = rw (sym test ∙ e)
 
-  pub circle-none : r ≡ false → Messages count ≡ concludedAs (anyOwn width words (2 * count)) count
-  circle-none e = rw (sym test ∙ e)
+  pub circle-none : (choices : ℕ) → r ≡ false → counted.Messages count choices ≡ concludedAs (anyOwn width words (2 * count)) count choices
+  circle-none choices e = rw (sym test ∙ e)
 
-module _ (kind one two : List ℕ) (count : ℕ) where
+module _ (options : ℕ) (kind one two : List ℕ) (count : ℕ) where
   abbrev file : List Row
   file = rowsOf kind one two count
 
   -- What the loop over the blocks keeps: from here the whole comes to the paper's answer.
   pub record Walking (from : List ℕ) (level i : ℕ) (w : Walk) (t : Store) : Type 0 where
-    pub exact : rest kind one two count from level i (idle (w .calls) (w .count) t) ≡ expandedOf file
-    pub between : Between kind one two count from level i (w .calls)
+    pub exact : rest options kind one two count from level i (idle (w .calls) (w .choices) (w .count) t) ≡ countedWith (optionsOf options) file
+    pub between : Between options kind one two count from level i (w .calls)
     pub room : Room (w .count) (w .count) t
 
   module _ (start : List ℕ) (lent : RowsRead kind one two count start) where
-    begins : (t : Store) → Begins t → (from : List ℕ) → rest kind one two count from 0 (getD start 0 0) (idle 0 0 t) ≡ expandedOf file
+    begins : (t : Store) → Begins t → (from : List ℕ) → rest options kind one two count from 0 (getD start 0 0) (idle 0 0 0 t) ≡ countedWith (optionsOf options) file
     unfolding after expandRows
     begins t z from =
-        ap (λ (i : ℕ). rest kind one two count from 0 i (idle 0 0 t)) (start-zero kind one two count start lent)
-        ∙ ap (λ (rs : List Row). andThen (walkRows storeOps (callAt storeOps levels file) rs (lineOf (startOf 0 file)) (idle 0 0 t)) concluded)
+        ap (λ (i : ℕ). rest options kind one two count from 0 i (idle 0 0 0 t)) (start-zero kind one two count start lent)
+        ∙ ap (λ (rs : List Row). andThen (walkRows storeOps (optionsOf options) (callAt storeOps (optionsOf options) levels file) rs (lineOf (startOf 0 file)) (idle 0 0 0 t)) concluded)
         (sym (rows-drop kind one two count (startOf 0 file)))
-        ∙ expanded-same file (read-fits (lent .read .0) file (lent .read .1)) t z
+        ∙ expanded-same (optionsOf options) file (read-fits (lent .read .0) (lent .read .1) file (lent .read .2)) t z
 
     -- nothing is met, whatever the words hold
     pub walking-start : (events words from : List ℕ) (w : Walk) → events ≡ zeros (2 * messagesMost) → length words ≡ 2 * messagesMost * width
@@ -115,25 +116,25 @@ module _ (kind one two : List ℕ) (count : ℕ) where
 
   module _ (from : List ℕ) (level i : ℕ) (w : Walk) (t : Store) (j : Walking from level i w t) (from′ : List ℕ) where
     abbrev Reached-as : Reached → Type 0
-    Reached-as r = Reaches kind one two count from level i (w .calls) r from′
+    Reached-as r = Reaches options kind one two count from level i (w .calls) (w .choices) r from′
 
-    pub walking-stopped : (number line : ℕ) → Reached-as (reached.Stopped number line) → refusal number line ≡ expandedOf file
+    pub walking-stopped : (number line : ℕ) → Reached-as (reached.Stopped number line) → refusal number line ≡ countedWith (optionsOf options) file
     walking-stopped number line r = sym (r .exact (w .count) t) ∙ j .exact
 
     -- sheet 0 has ended
-    pub walking-end : Reached-as reached.End → (a : Expanded) → a ≡ concludedAs (anyOwn width (t .words) (2 * w .count)) (w .count)
-        → outcomeOf a (t .events) (t .words) ≡ expandedOf file
-    walking-end r a e =
-        ap (λ (x : Expanded). outcomeOf x (t .events) (t .words)) e ∙ by-test (anyOwn width (t .words) (2 * w .count)) ∙ sym (r .exact (w .count) t) ∙ j .exact
+    pub walking-end : (choices : ℕ) → Reached-as (reached.End choices) → (a : Counted) → a ≡ concludedAs (anyOwn width (t .words) (2 * w .count)) (w .count) choices
+        → countedOf a (t .events) (t .words) ≡ countedWith (optionsOf options) file
+    walking-end choices r a e =
+        ap (λ (x : Counted). countedOf x (t .events) (t .words)) e ∙ by-test (anyOwn width (t .words) (2 * w .count)) ∙ sym (r .exact (w .count) t) ∙ j .exact
       where
-        by-test : (b : Bool) → outcomeOf (concludedAs b (w .count)) (t .events) (t .words)
-            ≡ cond b (refusal circleRefusal 0) (ok (scenarioIn (w .count) (t .events) (t .words)))
+        by-test : (b : Bool) → countedOf (concludedAs b (w .count) choices) (t .events) (t .words)
+            ≡ cond {A = Out (Scenario × ℕ)} b (refusal circleRefusal 0) (ok (scenarioIn (w .count) (t .events) (t .words), choices))
         by-test true = refl
         by-test false = refl
 
     -- a block is walked
-    module _ (level′ i′ calls : ℕ) (r : Reached-as (reached.Block level′ i′ calls)) where
-      abbrev b : Between kind one two count from′ level′ i′ calls
+    module _ (level′ i′ calls choices : ℕ) (r : Reached-as (reached.Block level′ i′ calls choices)) where
+      abbrev b : Between options kind one two count from′ level′ i′ calls
       b = r .stands .between
 
       pub block-ready : Ready kind one two count i′ (w .count) (w .count) t
@@ -142,29 +143,29 @@ module _ (kind one two : List ℕ) (count : ℕ) where
           record { room = j .room; stand = subst (λ (n : ℕ). AllStand n (rowsFrom kind one two count i′)) none (b .stand) }
 
       abbrev s : Progress Store
-      s = idle calls (w .count) t
+      s = idle calls choices (w .count) t
 
       abbrev walked : Out (ℕ × Progress Store)
       walked = blockWalked (rowsFrom kind one two count i′) i′ s
 
-      onward : (o : Out (ℕ × Progress Store)) → o ≡ walked → andThen o (λ p. rest kind one two count from′ level′ (p .0) (p .1)) ≡ expandedOf file
+      onward : (o : Out (ℕ × Progress Store)) → o ≡ walked → andThen o (λ p. rest options kind one two count from′ level′ (p .0) (p .1)) ≡ countedWith (optionsOf options) file
       onward o e =
-          ap (λ (o : Out (ℕ × Progress Store)). andThen o (λ p. rest kind one two count from′ level′ (p .0) (p .1))) e
-          ∙ sym (rest-walked kind one two count from′ level′ i′ s)
+          ap (λ (o : Out (ℕ × Progress Store)). andThen o (λ p. rest options kind one two count from′ level′ (p .0) (p .1))) e
+          ∙ sym (rest-walked options kind one two count from′ level′ i′ s)
           ∙ sym (r .exact (w .count) t)
           ∙ j .exact
 
-      pub walking-refused : (number line : ℕ) (t′ : Store) → Leaves (Stopped number line) t′ walked → refusal number line ≡ expandedOf file
+      pub walking-refused : (number line : ℕ) (t′ : Store) → Leaves (Stopped number line) t′ walked → refusal number line ≡ countedWith (optionsOf options) file
       unfolding andThen
       walking-refused number line t′ l = onward (refusal number line) (l .exact)
 
       module _ (k : ℕ) (u : Walk) (t′ : Store) (l : Leaves (To k u) t′ walked) where
-        behind : AfterBlock kind one two count i′ s (k, stateOf u t′)
-        behind = block-ends kind one two count i′ 0 s (k, stateOf u t′) (b .stand) (sym (l .exact))
+        behind : AfterBlock options kind one two count i′ s (k, stateOf u t′)
+        behind = block-ends options kind one two count i′ 0 s (k, stateOf u t′) (b .stand) (sym (l .exact))
 
         pub walking-less : rank count level′ k (u .calls) < rank count level i (w .calls)
         walking-less =
-            let more : i′ < k = block-more kind one two count i′ 0 s (k, stateOf u t′) (b .stand) (sym (l .exact)) (r .stands .row) in
+            let more : i′ < k = block-more options kind one two count i′ 0 s (k, stateOf u t′) (b .stand) (sym (l .exact)) (r .stands .row) in
             let in-file : i′ < count = in-rows kind count i′ true (sym (r .stands .row)) refl in
             let same : u .calls ≡ calls = behind .calls in
             omega (arith, r .stands .nearer)
@@ -174,7 +175,7 @@ module _ (kind one two : List ℕ) (count : ℕ) where
         walking-on =
             record {
               exact =
-                  ap (λ (n : ℕ). rest kind one two count from′ level′ k (record { walk = record { calls = u .calls; first = n; count = u .count }; kept = t′ }))
+                  ap (λ (n : ℕ). rest options kind one two count from′ level′ k (record { walk = record { calls = u .calls; choices = u .choices; first = n; count = u .count }; kept = t′ }))
                   (sym (behind .empty))
                   ∙ onward (ok (k, stateOf u t′)) (l .exact);
               between = record {

@@ -1,4 +1,5 @@
-// The expansion of calls: rows in; the messages that the walk meets and their causal order in words, or refusal 8 to 11, out.
+// The expansion of calls: rows in, and a list of options for their A rows; the messages that the walk meets and their causal order in
+// words, or refusal 8 to 11 or 13, out.
 use blocks::PAST;
 use levels::Reached;
 use walk::Walk;
@@ -8,15 +9,24 @@ ghost use Prim.Native.Nat.{_*_, _≤_};
 ghost use lib.ListN.{length};
 ghost use Rattle.model.specs.Limits.{messagesMost};
 ghost use Rattle.model.specs.Answer.{expandedOf};
+ghost use Rattle.model.specs.Choice.{Plain};
 ghost use Rattle.relation.specs.Width.{width};
 ghost use Rattle.relation.specs.Rows.{anyOwn};
 ghost use Rattle.sheet.specs.Bridge.{rowsOf};
 ghost use Rattle.expansion.specs.Lent.{RowsRead};
-ghost use Rattle.expansion.specs.Outcome.{outcomeOf, concludedAs, zeros};
+ghost use Rattle.blocks.specs.Store.{countedWith};
+ghost use Rattle.levels.specs.Options.{optionsOf};
+ghost use Rattle.expansion.specs.Outcome.{outcomeOf, countedOf, concludedAs, zeros};
 
 // So many messages are in boards and words; or the refusal's number and line.
 pub enum Expanded {
     Messages(usize),
+    Refused(u8, usize),
+}
+
+// So many messages are in boards and words, and so many A rows were met; or the refusal's number and line.
+pub enum Counted {
+    Messages(usize, usize),
     Refused(u8, usize),
 }
 
@@ -31,31 +41,33 @@ fn clear_boards(boards: &mut [u8])
 }
 
 // The messages of a walk that is over, unless an event is before itself: refusal 11.
-fn without_circle(words: &[u64], count: usize) -> Expanded
+fn without_circle(words: &[u64], count: usize, choices: usize) -> Counted
     requires { ⌜ length (now words) ≡ 2 * messagesMost * width ⌝ }
     requires { ⌜ count ≤ messagesMost ⌝ }
-    ensures { λ r. ⌜ r ≡ concludedAs (anyOwn width (now (words .entry)) (2 * count)) count ⌝ }
+    ensures { λ r. ⌜ r ≡ concludedAs (anyOwn width (now (words .entry)) (2 * count)) count choices ⌝ }
 {
     if relation::circle(words, 2 * count) {
-        return Expanded::Refused(model::CIRCLE, 0);
+        return Counted::Refused(model::CIRCLE, 0);
     }
-    Expanded::Messages(count)
+    Counted::Messages(count, choices)
 }
 
-// The walk of sheet 0 and of all that it calls, block by block: the scenario in boards and words, or refusal 8 to 11.
-pub fn expand(
+// The walk of sheet 0 and of all that it calls, block by block, on a list of eight options: the scenario in boards and words and the
+// A rows met, or refusal 8 to 11 or 13.
+pub fn expand_list(
     kind: &[u8],
     one: &[u8],
     two: &[u8],
     count: usize,
     start: &[u16],
+    options: usize,
     boards: &mut [u8],
     words: &mut [u64],
-) -> Expanded
+) -> Counted
     requires { ⌜ RowsRead (now kind) (now one) (now two) count (now start) ⌝ }
     requires { ⌜ length (now boards) ≡ 2 * messagesMost ⌝ }
     requires { ⌜ length (now words) ≡ 2 * messagesMost * width ⌝ }
-    ensures { λ r. ⌜ outcomeOf r (now (boards .exit)) (now (words .exit)) ≡ expandedOf (rowsOf (now (kind .entry)) (now (one .entry)) (now (two .entry)) count) ⌝ }
+    ensures { λ r. ⌜ countedOf r (now (boards .exit)) (now (words .exit)) ≡ countedWith (optionsOf options) (rowsOf (now (kind .entry)) (now (one .entry)) (now (two .entry)) count) ⌝ }
 {
     clear_boards(boards);
     let mut past = [0u64; PAST];
@@ -70,22 +82,25 @@ pub fn expand(
             two,
             count,
             start,
+            options,
             &mut from,
             level,
             at,
             here.calls,
+            here.choices,
         ) {
-            Reached::Stopped(number, line) => return Expanded::Refused(number, line),
-            Reached::End => return without_circle(words, here.count),
-            Reached::Block(deep, row, calls) => {
+            Reached::Stopped(number, line) => return Counted::Refused(number, line),
+            Reached::End(choices) => return without_circle(words, here.count, choices),
+            Reached::Block(deep, row, calls, choices) => {
                 let met = here.count;
                 let walk = Walk {
                     calls,
+                    choices,
                     first: met,
                     count: met,
                 };
                 match walk::walk_block(kind, one, two, count, boards, words, &mut past, row, walk) {
-                    Walked::Stopped(number, line) => return Expanded::Refused(number, line),
+                    Walked::Stopped(number, line) => return Counted::Refused(number, line),
                     Walked::To(behind, next) => {
                         level = deep;
                         at = behind;
@@ -94,5 +109,28 @@ pub fn expand(
                 }
             }
         }
+    }
+}
+
+// The walk of rows without an A row: the scenario in boards and words, or refusal 8 to 11.
+pub fn expand(
+    kind: &[u8],
+    one: &[u8],
+    two: &[u8],
+    count: usize,
+    start: &[u16],
+    boards: &mut [u8],
+    words: &mut [u64],
+) -> Expanded
+    requires { ⌜ RowsRead (now kind) (now one) (now two) count (now start) ⌝ }
+    requires { ⌜ Plain (rowsOf (now kind) (now one) (now two) count) ⌝ }
+    requires { ⌜ length (now boards) ≡ 2 * messagesMost ⌝ }
+    requires { ⌜ length (now words) ≡ 2 * messagesMost * width ⌝ }
+    ensures { λ r. ⌜ outcomeOf r (now (boards .exit)) (now (words .exit)) ≡ expandedOf (rowsOf (now (kind .entry)) (now (one .entry)) (now (two .entry)) count) ⌝ }
+{
+    let counted = expand_list(kind, one, two, count, start, 0, boards, words);
+    match counted {
+        Counted::Refused(number, line) => Expanded::Refused(number, line),
+        Counted::Messages(messages, _) => Expanded::Messages(messages),
     }
 }

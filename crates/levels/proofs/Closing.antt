@@ -4,15 +4,15 @@ use Prim.Native.Nat.{ℕ, zero, suc, _+_, _-_, _*_, _<_, _≤_}
 use native.Mathlib.Omega.{arith}
 use mathlib.Core.Path.{_≡_, refl, sym, _∙_, ap, subst}
 use mathlib.Core.Logic.{⊎-elim}
-use mathlib.Core.Bool.{Bool, true, false}
+use mathlib.Core.Bool.{Bool, true, false, _&&_}
 use mathlib.Core.List.{List, _∷_}
-use lib.Dec.{ltb}
-use lib.ListN.{getD, drop}
+use lib.Dec.{leb, ltb}
+use lib.ListN.{length, getD, drop}
 use Rattle.model.specs.Limits.{levels, callsMost, messagesMost}
-use Rattle.model.specs.Refusal.{Out, ok, refusal, andThen, callsRefusal, messagesRefusal}
-use Rattle.model.specs.Rows.{Row, sheet, message, order, block, call}
+use Rattle.model.specs.Refusal.{Out, ok, refusal, andThen, callsRefusal, messagesRefusal, choicesRefusal}
+use Rattle.model.specs.Rows.{Row, sheet, message, order, block, call, choice}
 use Rattle.model.specs.Place.{lineOf}
-use Rattle.model.specs.Expansion.{Progress, startOf, blockOpened, callMade, messageMet, orderMet, walkRows, callAt}
+use Rattle.model.specs.Expansion.{Progress, startOf, taken, chosenMore, blockOpened, callMade, messageMet, orderMet, walkRows, callAt}
 use Rattle.model.specs.Order.{Scenario}
 use Rattle.model.proofs.Refusal.{not-refused}
 use Rattle.relation.specs.Width.{width}
@@ -21,6 +21,7 @@ use Rattle.sheet.proofs.Bridge.{row-message, row-order}
 use Rattle.blocks.specs.Store.{Store, storeOps, concluded}
 use Rattle.walk.specs.Block.{rowsFrom, inBlock, blockWalked, AllStand}
 use Rattle.walk.proofs.Meeting.{rows-next, rows-end, in-rows, in-either}
+use Rattle.levels.specs.Options.{optionsOf}
 use Rattle.levels.specs.Levels.{after, rest}
 use Rattle.levels.proofs.Steps.{passed-none, next-line}
 
@@ -30,34 +31,38 @@ unfolding blockOpened storeOps
 opened-twice s =
     let t = blockOpened storeOps s in
     ap (λ (p : List ℕ). record {
-      walk = record { calls = s .walk .calls; first = s .walk .count; count = s .walk .count };
+      walk = record { calls = s .walk .calls; choices = s .walk .choices; first = s .walk .count; count = s .walk .count };
       kept = record { events = s .kept .events; words = s .kept .words; past = p };
     }) (passed-none width (t .kept .past) (s .kept .events) (s .kept .words) (2 * s .walk .count))
 
-called-twice : (s : Progress Store) → blockOpened storeOps (callMade storeOps (blockOpened storeOps s)) ≡ blockOpened storeOps (callMade storeOps s)
+called-twice : (byChoice : Bool) (s : Progress Store)
+    → blockOpened storeOps (callMade storeOps byChoice (blockOpened storeOps s)) ≡ blockOpened storeOps (callMade storeOps byChoice s)
 unfolding blockOpened callMade storeOps
-called-twice s =
+called-twice byChoice s =
     let t = blockOpened storeOps s in
     ap (λ (p : List ℕ). record {
-      walk = record { calls = suc (s .walk .calls); first = s .walk .count; count = s .walk .count };
+      walk = record { calls = suc (s .walk .calls); choices = chosenMore byChoice (s .walk .choices); first = s .walk .count; count = s .walk .count };
       kept = record { events = s .kept .events; words = s .kept .words; past = p };
     }) (passed-none width (t .kept .past) (s .kept .events) (s .kept .words) (2 * s .walk .count))
 
-call-closed : (left : ℕ) (file : List Row) (n line : ℕ) (s : Progress Store)
-    → callAt storeOps left file n line s ≡ callAt storeOps left file n line (blockOpened storeOps s)
+call-closed : (options : List Bool) (left : ℕ) (file : List Row) (byChoice : Bool) (n line : ℕ) (s : Progress Store)
+    → callAt storeOps options left file byChoice n line s ≡ callAt storeOps options left file byChoice n line (blockOpened storeOps s)
 unfolding callAt blockOpened
-call-closed zero file n line s = refl
-call-closed (suc left) file n line s =
+call-closed options zero file byChoice n line s = refl
+call-closed options (suc left) file byChoice n line s =
     ap (λ (u : Progress Store). elim (ltb (s .walk .calls) callsMost) [
-      | true ↦ walkRows storeOps (callAt storeOps left file) (drop (startOf n file) file) (lineOf (startOf n file)) u
+      | true ↦ elim (byChoice && leb (length options) (s .walk .choices)) [
+        | true ↦ refusal choicesRefusal line
+        | false ↦ walkRows storeOps options (callAt storeOps options left file) (drop (startOf n file) file) (lineOf (startOf n file)) u
+      ]
       | false ↦ refusal callsRefusal line
-    ]) (sym (called-twice s))
+    ]) (sym (called-twice byChoice s))
 
 end-closed : (s : Progress Store) → concluded s ≡ concluded (blockOpened storeOps s)
 unfolding blockOpened storeOps
 end-closed s = refl
 
-module _ (kind one two : List ℕ) (count : ℕ) where
+module _ (options : ℕ) (kind one two : List ℕ) (count : ℕ) where
   -- the rows behind row i
   abbrev next : ℕ → List Row
   next i = rowsFrom kind one two count (i + 1)
@@ -65,28 +70,28 @@ module _ (kind one two : List ℕ) (count : ℕ) where
   abbrev rowAt : ℕ → Row
   rowAt i = rowFrom (getD kind i 0) (getD one i 0) (getD two i 0)
 
-  after-closed : (from : List ℕ) (k : ℕ) (s : Progress Store) → after kind one two count from k s ≡ after kind one two count from k (blockOpened storeOps s)
+  after-closed : (from : List ℕ) (k : ℕ) (s : Progress Store) → after options kind one two count from k s ≡ after options kind one two count from k (blockOpened storeOps s)
   unfolding after
   after-closed from zero s = end-closed s
   after-closed from (suc k) s =
       ap (λ (u : Progress Store). andThen
-      (walkRows storeOps (callAt storeOps (levels - k) (rowsOf kind one two count)) (rowsFrom kind one two count (getD from k 0 + 1)) (lineOf (getD from k 0 + 1)) u)
-      (after kind one two count from k)) (sym (opened-twice s))
+      (walkRows storeOps (optionsOf options) (callAt storeOps (optionsOf options) (levels - k) (rowsOf kind one two count)) (rowsFrom kind one two count (getD from k 0 + 1)) (lineOf (getD from k 0 + 1)) u)
+      (after options kind one two count from k)) (sym (opened-twice s))
 
   module _ (from : List ℕ) (level : ℕ) where
-    abbrev calls : ℕ → ℕ → Progress Store → Out (Progress Store)
-    calls = callAt storeOps (levels - level) (rowsOf kind one two count)
+    abbrev calls : Bool → ℕ → ℕ → Progress Store → Out (Progress Store)
+    calls = callAt storeOps (optionsOf options) (levels - level) (rowsOf kind one two count)
 
-    abbrev walked : List Row → ℕ → Progress Store → Out Scenario
-    walked rs line s = andThen (walkRows storeOps calls rs line s) (after kind one two count from level)
+    abbrev walked : List Row → ℕ → Progress Store → Out (Scenario × ℕ)
+    walked rs line s = andThen (walkRows storeOps (optionsOf options) calls rs line s) (after options kind one two count from level)
 
-    abbrev onward : ℕ × Progress Store → Out Scenario
-    onward p = rest kind one two count from level (p .0) (p .1)
+    abbrev onward : ℕ × Progress Store → Out (Scenario × ℕ)
+    onward p = rest options kind one two count from level (p .0) (p .1)
 
     -- the block's rows, by induction on how many are left
     by-rows : (n i : ℕ) → count - i ≡ n → (s : Progress Store)
         → walked (rowsFrom kind one two count i) (lineOf i) s ≡ andThen (blockWalked (rowsFrom kind one two count i) i s) onward
-    unfolding walkRows blockWalked andThen
+    unfolding walkRows blockWalked andThen blockOpened
     by-rows zero i e s =
         let none = rows-end kind one two count i (omega arith) in
         rw none (after-closed from level s ∙ ap (λ (rs : List Row). walked rs (lineOf i) (blockOpened storeOps s)) (sym none))
@@ -103,7 +108,7 @@ module _ (kind one two : List ℕ) (count : ℕ) where
         closed r f same = same ∙ ap (λ (rs : List Row). walked rs (lineOf i) (blockOpened storeOps s)) (sym f)
 
         line : (u : Progress Store) → walked (next i) (suc (lineOf i)) u ≡ walked (next i) (lineOf (i + 1)) u
-        line u = ap (λ (l : ℕ). walked (next i) l u) (next-line kind one two count i)
+        line u = ap (λ (l : ℕ). walked (next i) l u) (next-line options kind one two count i)
 
         go : (r : Row) → rowsFrom kind one two count i ≡ r ∷ next i
             → ((u : Progress Store) → walked (next i) (lineOf (i + 1)) u ≡ andThen (blockWalked (next i) (i + 1) u) onward)
@@ -112,8 +117,8 @@ module _ (kind one two : List ℕ) (count : ℕ) where
         go (message a b) f on = room (ltb (s .walk .count) messagesMost)
           where
             room : (t : Bool)
-                → andThen (elim t [ true ↦ walkRows storeOps calls (next i) (suc (lineOf i)) (messageMet storeOps a b s) | false ↦ refusal messagesRefusal (lineOf i) ])
-                (after kind one two count from level)
+                → andThen (elim t [ true ↦ walkRows storeOps (optionsOf options) calls (next i) (suc (lineOf i)) (messageMet storeOps a b s) | false ↦ refusal messagesRefusal (lineOf i) ])
+                (after options kind one two count from level)
                 ≡ andThen (elim t [ true ↦ blockWalked (next i) (i + 1) (messageMet storeOps a b s) | false ↦ refusal messagesRefusal (lineOf i) ]) onward
             room true = line (messageMet storeOps a b s) ∙ on (messageMet storeOps a b s)
             room false = refl
@@ -121,11 +126,15 @@ module _ (kind one two : List ℕ) (count : ℕ) where
         go block f on = closed block f (ap (walked (next i) (suc (lineOf i))) (sym (opened-twice s)))
         go (call k) f on =
             closed (call k) f
-            (ap (λ (o : Out (Progress Store)). andThen (andThen o (λ u. walkRows storeOps calls (next i) (suc (lineOf i)) (blockOpened storeOps u))) (after kind one two count from level))
-            (call-closed (levels - level) (rowsOf kind one two count) k (lineOf i) s))
+            (ap (λ (o : Out (Progress Store)). andThen (andThen o (λ u. walkRows storeOps (optionsOf options) calls (next i) (suc (lineOf i)) (blockOpened storeOps u))) (after options kind one two count from level))
+            (call-closed (optionsOf options) (levels - level) (rowsOf kind one two count) false k (lineOf i) s))
+        go (choice j k) f on =
+            closed (choice j k) f
+            (ap (λ (o : Out (Progress Store)). andThen (andThen o (λ u. walkRows storeOps (optionsOf options) calls (next i) (suc (lineOf i)) (blockOpened storeOps u))) (after options kind one two count from level))
+            (call-closed (optionsOf options) (levels - level) (rowsOf kind one two count) true (taken (optionsOf options) (s .walk .choices) j k) (lineOf i) s))
 
     pub rest-walked : (i : ℕ) (s : Progress Store)
-        → rest kind one two count from level i s ≡ andThen (blockWalked (rowsFrom kind one two count i) i s) onward
+        → rest options kind one two count from level i s ≡ andThen (blockWalked (rowsFrom kind one two count i) i s) onward
     rest-walked i s = by-rows (count - i) i refl s
 
   -- where a block ends
@@ -170,6 +179,7 @@ module _ (kind one two : List ℕ) (count : ℕ) where
       go (order x y) f b v on = later i s (orderMet storeOps x y s) p refl (on m (orderMet storeOps x y s) (b .1) v)
       go block f b v on = ended i s p (subst (AllStand 0) (sym f) b) v
       go (call k) f b v on = ended i s p (subst (AllStand 0) (sym f) b) v
+      go (choice j k) f b v on = ended i s p (subst (AllStand 0) (sym f) b) v
 
   module _ (i m : ℕ) (s : Progress Store) (p : ℕ × Progress Store) (a : AllStand m (rowsFrom kind one two count i))
       (w : blockWalked (rowsFrom kind one two count i) i s ≡ ok p) where

@@ -1,3 +1,4 @@
+pub mod Choosing
 mod Steps
 pub mod Seeking
 pub mod Closing

@@ -1,16 +1,19 @@
-// The levels of calls: the way from one block of a walk to the next. Refusals 8 and 9.
+// The levels of calls: the way from one block of a walk to the next. Refusals 8, 9 and 13.
 use walk::FIRST_LINE;
 use walk::Walk;
 ghost use mathlib.Core.Path.{_≡_};
+ghost use mathlib.Core.Bool.{false};
 ghost use Prim.Native.Nat.{_<_, _≤_};
 ghost use lib.ListN.{length, getD};
+ghost use Rattle.model.specs.Limits.{choicesMost};
+ghost use Rattle.levels.specs.Options.{optionsOf, isCall, isNinth, sheetCalled, choicesBehind};
 ghost use Rattle.levels.specs.Levels.{letterAt, Sheets, Between, Reaches};
 
-// Where the walk comes to between two blocks: the level and row of the next block, with the calls made; the end of sheet 0; or a
-// refusal's number and line.
+// Where the walk comes to between two blocks: the level and row of the next block, with the calls made and the A rows met; the end of
+// sheet 0, with the A rows met; or a refusal's number and line.
 pub enum Reached {
-    Block(usize, usize, usize),
-    End,
+    Block(usize, usize, usize, usize),
+    End(usize),
     Stopped(u8, usize),
 }
 
@@ -22,56 +25,116 @@ fn letter_at(kind: &[u8], rows: usize, row: usize) -> u8
     if row < rows { kind[row] } else { b'S' }
 }
 
-// The row behind the S row of the sheet that is called at a row.
-fn called_row(one: &[u8], start: &[u16], row: usize) -> usize
-    requires { ⌜ (row < length (now one)) × (getD (now one) row 0 < length (now start)) ⌝ }
-    ensures { λ r. ⌜ r ≡ getD (now (start .entry)) (getD (now (one .entry)) row 0) 0 ⌝ }
+// A row that calls: C, or A.
+fn is_call(letter: u8) -> bool
+    ensures { λ r. ⌜ r ≡ isCall letter ⌝ }
 {
-    let sheet = one[row] as usize;
-    start[sheet] as usize
+    if letter == b'C' {
+        return true;
+    }
+    letter == b'A'
+}
+
+// An A row behind the eighth: refusal 13.
+fn is_ninth(letter: u8, choices: usize) -> bool
+    ensures { λ r. ⌜ r ≡ isNinth letter choices ⌝ }
+{
+    if letter == b'A' {
+        return Walk::CHOICES_MOST <= choices;
+    }
+    false
+}
+
+// The option of A row k, from 0: it takes n.
+pub fn takes_second(options: usize, k: usize) -> bool
+    requires { ⌜ k < choicesMost ⌝ }
+    ensures { λ r. ⌜ r ≡ getD (optionsOf options) k false ⌝ }
+{
+    let behind = Walk::CHOICES_MOST - 1 - k;
+    (options >> behind) & 1 == 1
+}
+
+// The sheet that a row calls, with so many A rows met: an A row's is m, or n where its option says so.
+fn called_sheet(letter: u8, m: u8, n: u8, options: usize, choices: usize) -> u8
+    requires { ⌜ isNinth letter choices ≡ false ⌝ }
+    ensures { λ r. ⌜ r ≡ sheetCalled letter m n options choices ⌝ }
+{
+    if letter == b'A' {
+        return if takes_second(options, choices) { n } else { m };
+    }
+    m
+}
+
+// The A rows met behind a call.
+fn choices_behind(letter: u8, choices: usize) -> usize
+    requires { ⌜ isNinth letter choices ≡ false ⌝ }
+    ensures { λ r. ⌜ r ≡ choicesBehind letter choices ⌝ }
+{
+    if letter == b'A' {
+        return choices + 1;
+    }
+    choices
+}
+
+// The row behind the S row of a sheet that is there.
+fn start_of(start: &[u16], sheet: u8) -> usize
+    requires { ⌜ sheet < length (now start) ⌝ }
+    ensures { λ r. ⌜ r ≡ getD (now (start .entry)) sheet 0 ⌝ }
+{
+    let n = sheet as usize;
+    start[n] as usize
 }
 
 // From a row on, the open block being empty, to the next row of a block: a B row changes nothing then; a call goes one level down,
-// with refusal 8 at level 8, else 9 at call 1,025; and where a sheet ends, the walk goes on behind the call that was open.
+// with refusal 8 at level 8, else 9 at call 1,025, else 13 at the ninth A row; and where a sheet ends, the walk goes on behind the call
+// that was open. The options are those of a list of eight, as a number.
 pub fn next_block(
     kind: &[u8],
     one: &[u8],
     two: &[u8],
     rows: usize,
     start: &[u16],
+    options: usize,
     from: &mut [usize],
     depth: usize,
     row: usize,
     made: usize,
+    met: usize,
 ) -> Reached
-    requires { ⌜ Sheets (now kind) (now one) (now two) rows (now start) ⌝ }
-    requires { ⌜ Between (now kind) (now one) (now two) rows (now from) depth row made ⌝ }
-    ensures { λ r. ⌜ Reaches (now (kind .entry)) (now (one .entry)) (now (two .entry)) rows (now (from .entry)) depth row made r (now (from .exit)) ⌝ }
+    requires { ⌜ Sheets options (now kind) (now one) (now two) rows (now start) ⌝ }
+    requires { ⌜ Between options (now kind) (now one) (now two) rows (now from) depth row made ⌝ }
+    ensures { λ r. ⌜ Reaches options (now (kind .entry)) (now (one .entry)) (now (two .entry)) rows (now (from .entry)) depth row made met r (now (from .exit)) ⌝ }
 {
     let mut level = depth;
     let mut at = row;
     let mut calls = made;
+    let mut choices = met;
     loop {
         if walk::in_block(kind, rows, at) {
-            return Reached::Block(level, at, calls);
+            return Reached::Block(level, at, calls, choices);
         }
         let letter = letter_at(kind, rows, at);
-        if letter == b'C' {
+        if is_call(letter) {
             if level == model::LEVELS {
                 return Reached::Stopped(model::DEPTH, at + FIRST_LINE);
             }
             if Walk::CALLS_MOST <= calls {
                 return Reached::Stopped(model::CALLS, at + FIRST_LINE);
             }
+            if is_ninth(letter, choices) {
+                return Reached::Stopped(model::CHOICES, at + FIRST_LINE);
+            }
+            let sheet = called_sheet(letter, one[at], two[at], options, choices);
+            choices = choices_behind(letter, choices);
             calls += 1;
             from[level] = at;
             level += 1;
-            at = called_row(one, start, at);
+            at = start_of(start, sheet);
             continue;
         }
         if letter == b'S' {
             if level == 0 {
-                return Reached::End;
+                return Reached::End(choices);
             }
             level -= 1;
             at = from[level] + 1;

@@ -4,7 +4,7 @@ use Prim.Native.Nat.{ℕ, _<_, _≤_}
 use native.Mathlib.Omega.{arith}
 use mathlib.Core.Path.{_≡_, refl, sym, _∙_, subst}
 use mathlib.Core.Bool.{Bool, true, false, _||_}
-use mathlib.Core.List.{List}
+use mathlib.Core.List.{List, []}
 use lib.Dec.{ltb}
 use lib.ListN.{getD}
 use borrow.Author.Tests.{ltb-true, ltb-false}
@@ -14,32 +14,42 @@ use Rattle.model.specs.Rows.{Row}
 use Rattle.model.specs.Place.{readOf}
 use Rattle.model.specs.Expansion.{Progress, expand}
 use Rattle.model.specs.Order.{Event, sendOf, receiveOf, number, boardOf, Scenario, Met, nothingMet, metOps, exchangeOf, scenarioOf, board, hasCircle}
-use Rattle.model.specs.Answer.{withoutCircle, expandedOf, sheetOf, exchangeMet, acceptedOf}
-use Rattle.model.specs.Verdict.{Meets}
+use Rattle.model.specs.Answer.{withoutCircle, expandedWith, expandedOf, exchangeWith, sheetOf, exchangeMet, acceptedOf}
+use Rattle.model.specs.Verdict.{IsMet, Meets}
 use Rattle.model.proofs.Bounded.{not-both}
 use Rattle.model.proofs.Events.{below-number}
 use Rattle.model.proofs.Refusal.{and-then-ok, cond-ok, cond-refused}
 use Rattle.model.proofs.Causal.{Causal}
 use Rattle.model.proofs.Order.{boardIn, RowsInside, RowsOnOneBoard, before-exact, causal}
-use Rattle.model.proofs.Standing.{read-fits}
+use Rattle.model.proofs.Standing.{Fits, read-fits}
 use Rattle.model.proofs.Walked.{Sound, expanded-sound}
+
+-- what the scenario of a walk on a list of options comes from
+pub record WalkParts (options : List Bool) (rows : List Row) (S : Scenario) : Type 0 where
+  pub walked : Progress Met
+  pub expanded : expand metOps options rows nothingMet ≡ ok walked
+  pub scenario : scenarioOf (exchangeOf walked) ≡ S
+  pub noCircle : hasCircle (scenarioOf (exchangeOf walked)) ≡ false
+
+pub walk-parts : (options : List Bool) (rows : List Row) (S : Scenario) → expandedWith options rows ≡ ok S → WalkParts options rows S
+unfolding expandedWith withoutCircle
+walk-parts options rows S e =
+    let d = and-then-ok (expand metOps options rows nothingMet) (λ s. withoutCircle (scenarioOf (exchangeOf s))) S e in
+    let f = cond-refused (hasCircle (scenarioOf (exchangeOf (d .0)))) _ _ _ S (d .2) in
+    record { walked = d .0; expanded = d .1; scenario = cc (f .1); noCircle = f .0 }
 
 -- what the scenario of a text comes from
 pub record SheetParts (text : List ℕ) (S : Scenario) : Type 0 where
   pub rows : List Row
   pub read : readOf text ≡ ok rows
-  pub walked : Progress Met
-  pub expanded : expand metOps rows nothingMet ≡ ok walked
-  pub scenario : scenarioOf (exchangeOf walked) ≡ S
-  pub noCircle : hasCircle (scenarioOf (exchangeOf walked)) ≡ false
+  pub parts : WalkParts [] rows S
+  pub whole : expandedOf rows ≡ ok S
 
 pub sheet-parts : (text : List ℕ) (S : Scenario) → sheetOf text ≡ ok S → SheetParts text S
-unfolding sheetOf expandedOf withoutCircle
+unfolding sheetOf
 sheet-parts text S e =
     let c = and-then-ok (readOf text) expandedOf S e in
-    let d = and-then-ok (expand metOps (c .0) nothingMet) (λ s. withoutCircle (scenarioOf (exchangeOf s))) S (c .2) in
-    let f = cond-refused (hasCircle (scenarioOf (exchangeOf (d .0)))) _ _ _ S (d .2) in
-    record { rows = c .0; read = c .1; walked = d .0; expanded = d .1; scenario = cc (f .1); noCircle = f .0 }
+    record { rows = c .0; read = c .1; parts = walk-parts [] (c .0) S (c .2); whole = c .2 }
 
 pub or-false : (a b : Bool) → (a || b) ≡ false → (a ≡ false) × (b ≡ false)
 or-false true b h = not-both true refl h
@@ -85,44 +95,62 @@ module _ (s : Progress Met) (h : Sound s) where
   unfolding exchangeOf
   rows-on-one-board x y l = board-at s x ∙ h .ordersOnBoards (number x) (number y) l .sameBoard ∙ sym (board-at s y)
 
--- What holds of the scenario of any text that has one.
-module _ (text : List ℕ) (S : Scenario) (e : sheetOf text ≡ ok S) where
-  pub sheet-sound : Sound (sheet-parts text S e .walked)
-  sheet-sound =
-      let a = sheet-parts text S e in
-      expanded-sound (a .rows) (read-fits text (a .rows) (a .read)) (a .walked) (a .expanded)
+-- What holds of the scenario of a walk, on any list of options, over rows that fit.
+module _ (options : List Bool) (rows : List Row) (fits : Fits [] rows) (S : Scenario) (e : expandedWith options rows ≡ ok S) where
+  pub walk-sound : Sound (walk-parts options rows S e .walked)
+  walk-sound = let a = walk-parts options rows S e in expanded-sound options rows fits (a .walked) (a .expanded)
 
-  pub sheet-causal : Causal S
-  sheet-causal =
-      let a = sheet-parts text S e in
+  pub walk-causal : Causal S
+  walk-causal =
+      let a = walk-parts options rows S e in
       subst Causal (a .scenario)
-      (causal (exchangeOf (a .walked)) (rows-inside (a .walked) sheet-sound) (rows-on-one-board (a .walked) sheet-sound) (a .noCircle))
+      (causal (exchangeOf (a .walked)) (rows-inside (a .walked) walk-sound) (rows-on-one-board (a .walked) walk-sound) (a .noCircle))
 
-  pub sheet-count : S .count ≤ messagesMost
+  pub walk-count : S .count ≤ messagesMost
   unfolding scenarioOf exchangeOf
-  sheet-count =
-      let a = sheet-parts text S e in
-      subst (λ (T : Scenario). T .count ≤ messagesMost) (a .scenario) (sheet-sound .countMost)
+  walk-count =
+      let a = walk-parts options rows S e in
+      subst (λ (T : Scenario). T .count ≤ messagesMost) (a .scenario) (walk-sound .countMost)
 
-  pub sheet-boards : (x : Event) → board S x < boards
+  pub walk-boards : (x : Event) → board S x < boards
   unfolding scenarioOf
-  sheet-boards x =
-      let a = sheet-parts text S e in
+  walk-boards x =
+      let a = walk-parts options rows S e in
       subst (λ (T : Scenario). board T x < boards) (a .scenario)
-      (rw (board-at (a .walked) x) (sheet-sound .boardsMost (number x)))
+      (rw (board-at (a .walked) x) (walk-sound .boardsMost (number x)))
 
   -- "before" is the paper's relation over what the walk meets
-  pub sheet-meets : Meets text S
-  unfolding scenarioOf exchangeMet andThen
-  sheet-meets =
-      let a = sheet-parts text S e in
+  pub walk-meets : IsMet (exchangeWith options rows) S
+  unfolding scenarioOf exchangeWith andThen
+  walk-meets =
+      let a = walk-parts options rows S e in
       let E = exchangeOf (a .walked) in
-      subst (Meets text) (a .scenario)
+      subst (IsMet (exchangeWith options rows)) (a .scenario)
       (record {
         exchange = E;
-        met = rw (a .read, a .expanded);
+        met = rw (a .expanded);
         messages = refl;
         sources = λ m. refl;
         targets = λ m. refl;
-        before = before-exact E (rows-inside (a .walked) sheet-sound);
+        before = before-exact E (rows-inside (a .walked) walk-sound);
       })
+
+-- What holds of the scenario of any text that has one.
+module _ (text : List ℕ) (S : Scenario) (e : sheetOf text ≡ ok S) where
+  sheet-rows-fit : Fits [] (sheet-parts text S e .rows)
+  sheet-rows-fit = let a = sheet-parts text S e in read-fits false text (a .rows) (a .read)
+
+  pub sheet-causal : Causal S
+  sheet-causal = let a = sheet-parts text S e in walk-causal [] (a .rows) sheet-rows-fit S (a .whole)
+
+  pub sheet-count : S .count ≤ messagesMost
+  sheet-count = let a = sheet-parts text S e in walk-count [] (a .rows) sheet-rows-fit S (a .whole)
+
+  pub sheet-boards : (x : Event) → board S x < boards
+  sheet-boards = let a = sheet-parts text S e in walk-boards [] (a .rows) sheet-rows-fit S (a .whole)
+
+  pub sheet-meets : Meets text S
+  unfolding exchangeMet andThen
+  sheet-meets =
+      let a = sheet-parts text S e in
+      rw (a .read) (walk-meets [] (a .rows) sheet-rows-fit S (a .whole))

@@ -12,8 +12,8 @@ use Rattle.model.specs.Bounded.{among}
 use Rattle.model.specs.Closure.{listed}
 use Rattle.model.specs.Refusal.{ok, refusal}
 use Rattle.model.specs.Text.{Line, Columns}
-use Rattle.model.specs.Rows.{Row, sheet, message, order, block, call}
-use Rattle.model.specs.Place.{Place, outside, messageFits, orderFits, moved, circleAt, judged, rowsFrom, readOf}
+use Rattle.model.specs.Rows.{Row, sheet, message, order, block, call, choice}
+use Rattle.model.specs.Place.{Place, outside, messageFits, orderFits, moved, circleAt, judged, rowsFrom, readWith}
 use Rattle.model.specs.Expansion.{startOf}
 use Rattle.model.proofs.Bounded.{not-both}
 use Rattle.model.proofs.Refusal.{passed}
@@ -80,6 +80,8 @@ judged-ordered p q block e c h =
     subst (λ (z : Place). Ordered (length (z .events)) (z .orders)) (cond-some true _ q e .1) ordered-empty
 judged-ordered p q (call n) e c h =
     subst (λ (z : Place). Ordered (length (z .events)) (z .orders)) (cond-some (ltb n sheets) _ q e .1) ordered-empty
+judged-ordered p q (choice m n) e c h =
+    subst (λ (z : Place). Ordered (length (z .events)) (z .orders)) (cond-some (ltb m sheets && ltb n sheets) _ q e .1) ordered-empty
 
 -- The rows, behind so many events and P rows of the open block, leave every block without a circle.
 abbrev pub Clean : ℕ → List (ℕ × ℕ) → List Row → Type 0
@@ -89,6 +91,7 @@ Clean n orders (message a b ∷ rs) = Ordered n orders × Clean (n + 2) orders r
 Clean n orders (order x y ∷ rs) = Ordered n orders × Clean n ((x, y) ∷ orders) rs
 Clean n orders (block ∷ rs) = Ordered n orders × Clean 0 [] rs
 Clean n orders (call k ∷ rs) = Ordered n orders × Clean 0 [] rs
+Clean n orders (choice j k ∷ rs) = Ordered n orders × Clean 0 [] rs
 
 moved-clean : (p q : Place) (r : Row) (rs : List Row) → moved p r ≡ some q → Ordered (length (p .events)) (p .orders)
     → Clean (length (q .events)) (q .orders) rs → Clean (length (p .events)) (p .orders) (r ∷ rs)
@@ -106,24 +109,26 @@ moved-clean p q block rs e h f =
     (h, subst (λ (z : Place). Clean (length (z .events)) (z .orders) rs) (sym (cond-some true _ q e .1)) f)
 moved-clean p q (call n) rs e h f =
     (h, subst (λ (z : Place). Clean (length (z .events)) (z .orders) rs) (sym (cond-some (ltb n sheets) _ q e .1)) f)
+moved-clean p q (choice m n) rs e h f =
+    (h, subst (λ (z : Place). Clean (length (z .events)) (z .orders) rs) (sym (cond-some (ltb m sheets && ltb n sheets) _ q e .1)) f)
 
-rows-clean : (c : Columns) (i : ℕ) (p : Place) (ls : List Line) (rs : List Row) → rowsFrom c i p ls ≡ ok rs
+rows-clean : (choices : Bool) (c : Columns) (i : ℕ) (p : Place) (ls : List Line) (rs : List Row) → rowsFrom choices c i p ls ≡ ok rs
     → Ordered (length (p .events)) (p .orders) → Clean (length (p .events)) (p .orders) rs
 unfolding rowsFrom
-rows-clean c i p [] rs e h = let t : [] ≡ rs = cc in subst (λ (z : List Row). Clean (length (p .events)) (p .orders) z) t h
-rows-clean c i p (l ∷ ls) rs e h =
-    let s = passed (judged c i p l) (λ rp. elim (rowsFrom c (suc i) (rp .1) ls) [ refusal number line ↦ refusal number line | ok rs′ ↦ ok (rp .0 ∷ rs′) ]) rs e in
+rows-clean choices c i p [] rs e h = let t : [] ≡ rs = cc in subst (λ (z : List Row). Clean (length (p .events)) (p .orders) z) t h
+rows-clean choices c i p (l ∷ ls) rs e h =
+    let s = passed (judged choices c i p l) (λ rp. elim (rowsFrom choices c (suc i) (rp .1) ls) [ refusal number line ↦ refusal number line | ok rs′ ↦ ok (rp .0 ∷ rs′) ]) rs e in
     let rp = s .0 in
-    let j = judged-row c i p l rp (s .1) in
-    let t = passed (rowsFrom c (suc i) (rp .1) ls) (λ rs′. ok (rp .0 ∷ rs′)) rs (s .2) in
+    let j = judged-row choices c i p l rp (s .1) in
+    let t = passed (rowsFrom choices c (suc i) (rp .1) ls) (λ rs′. ok (rp .0 ∷ rs′)) rs (s .2) in
     let e′ : rp .0 ∷ t .0 ≡ rs = cc (t .2) in
     subst (λ (z : List Row). Clean (length (p .events)) (p .orders) z) e′
     (moved-clean p (rp .1) (rp .0) (t .0) (j .allowed) h
-    (rows-clean c (suc i) (rp .1) ls (t .0) (t .1) (judged-ordered p (rp .1) (rp .0) (j .allowed) (j .noCircle) h)))
+    (rows-clean choices c (suc i) (rp .1) ls (t .0) (t .1) (judged-ordered p (rp .1) (rp .0) (j .allowed) (j .noCircle) h)))
 
 -- the rows of a text that is read have no circle in any block
-pub read-clean : (text : List ℕ) (rs : List Row) → readOf text ≡ ok rs → Clean 0 [] rs
-read-clean text rs e = let p = read-parts text rs e in rows-clean (p .columns) 0 outside (p .lines) rs (p .read) ordered-empty
+pub read-clean : (choices : Bool) (text : List ℕ) (rs : List Row) → readWith choices text ≡ ok rs → Clean 0 [] rs
+read-clean choices text rs e = let p = read-parts choices text rs e in rows-clean choices (p .columns) 0 outside (p .lines) rs (p .read) ordered-empty
 
 -- and so have the rows behind each sheet's S row
 pub sheet-clean : (k n : ℕ) (orders : List (ℕ × ℕ)) (rs : List Row) → Clean n orders rs → Clean 0 [] (drop (startOf k rs) rs)
@@ -138,3 +143,4 @@ sheet-clean k n orders (message a b ∷ rs) f = sheet-clean k (n + 2) orders rs 
 sheet-clean k n orders (order x y ∷ rs) f = sheet-clean k n ((x, y) ∷ orders) rs (f .1)
 sheet-clean k n orders (block ∷ rs) f = sheet-clean k 0 [] rs (f .1)
 sheet-clean k n orders (call m ∷ rs) f = sheet-clean k 0 [] rs (f .1)
+sheet-clean k n orders (choice j m ∷ rs) f = sheet-clean k 0 [] rs (f .1)

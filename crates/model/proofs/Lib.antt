@@ -12,6 +12,8 @@ pub mod Clean
 pub mod Causal
 pub mod Accepted
 pub mod Lines
+pub mod Asking
+pub mod ChoiceLists
 pub mod Least
 pub mod Phases
 pub mod Rank
@@ -25,6 +27,9 @@ pub mod Jam
 pub mod Withholding
 pub mod Orders
 pub mod PointThree
+pub mod Choices
+pub mod WithoutChoices
+pub mod ChoiceBounds
 pub mod Replay
 pub mod Wired
 pub mod FinishedRuns

@@ -12,7 +12,7 @@ use Rattle.model.specs.Bounded.{lowest}
 use Rattle.model.specs.Refusal.{Out, ok, refusal, andThen, channelRefusal, benchRefusal, lengthRefusal, senderTableRefusal, forbiddenRefusal}
 use Rattle.model.specs.Text.{linesOf}
 use Rattle.model.specs.Rows.{message}
-use Rattle.model.specs.Place.{bodyOf, readOf}
+use Rattle.model.specs.Place.{bodyOf, readWith}
 use Rattle.model.specs.Expansion.{Progress, expand}
 use Rattle.model.specs.Order.{Met, Scenario, exchangeOf, scenarioOf}
 use Rattle.model.specs.Answer.{refused, Numbers, sheetOf, acceptedOf, answerFor, answerOf, numbersOf, scratchBehind, traceAfter}
@@ -30,12 +30,12 @@ abbrev fits : List ℕ → Bool
 fits text = ltb 0 (length text) && leb (length text) textMost
 
 unread : (text : List ℕ) → fits text ≡ false → sheetOf text ≡ refusal lengthRefusal 0
-unfolding sheetOf readOf andThen
+unfolding sheetOf readWith andThen
 unread text h = rw h
 
 read-fits : (text : List ℕ) (S : Scenario) → sheetOf text ≡ ok S → fits text ≡ true
-unfolding readOf
-read-fits text S e = cond-ok (fits text) (bodyOf (linesOf text)) lengthRefusal 0 _ (sheet-parts text S e .read) .0
+unfolding readWith
+read-fits text S e = cond-ok (fits text) (bodyOf false (linesOf text)) lengthRefusal 0 _ (sheet-parts text S e .read) .0
 
 -- the scenario kept, where no message is forbidden
 permitted-ok : (rules : List Rule) (lines : List ℕ) (S T : Scenario) → permitted rules lines S ≡ ok T → S ≡ T
@@ -112,15 +112,15 @@ pub line-met : (text : List ℕ) (S : Scenario) → sheetOf text ≡ ok S → (m
 unfolding linesMet andThen scenarioOf exchangeOf
 line-met text S e m l =
     let a = sheet-parts text S e in
-    go a (expand lineOps (withLines 0 (a .rows)) []) refl (subst (λ (o : Out (Progress Met)). Both (a .rows) o (expand lineOps (withLines 0 (a .rows)) [])) (a .expanded) (expand-alike (a .rows)))
+    go a (expand lineOps [] (withLines 0 (a .rows)) []) refl (subst (λ (o : Out (Progress Met)). Both (a .rows) o (expand lineOps [] (withLines 0 (a .rows)) [])) (a .parts .expanded) (expand-alike (a .rows)))
   where
-    go : (a : SheetParts text S) (o : Out (Progress (List ℕ))) → expand lineOps (withLines 0 (a .rows)) [] ≡ o → Both (a .rows) (ok (a .walked)) o
+    go : (a : SheetParts text S) (o : Out (Progress (List ℕ))) → expand lineOps [] (withLines 0 (a .rows)) [] ≡ o → Both (a .rows) (ok (a .parts .walked)) o
         → MessageRow text (getD (linesMet text) m 0) (S .source m) (S .target m)
     go a (refusal number line) f k = absurd k
     go a (ok q) f k =
         let lines : linesMet text ≡ q .kept = rw (a .read, f, linesMet) in
-        let same : scenarioOf (exchangeOf (a .walked)) ≡ S = a .scenario in
-        let r : AtRow (a .rows) (getD (q .kept) m 0) (getD (a .walked .kept .events) (2 * m) 0) (getD (a .walked .kept .events) (2 * m + 1) 0) =
+        let same : scenarioOf (exchangeOf (a .parts .walked)) ≡ S = a .parts .scenario in
+        let r : AtRow (a .rows) (getD (q .kept) m 0) (getD (a .parts .walked .kept .events) (2 * m) 0) (getD (a .parts .walked .kept .events) (2 * m + 1) 0) =
         k .rows m (subst⁻¹ (λ (T : Scenario). m < T .count) same l) in
         rw lines (subst (λ (T : Scenario). MessageRow text (getD (q .kept) m 0) (T .source m) (T .target m)) same
         (record { file = a .rows; read = a .read; row = r .row; atLine = r .atLine; isMessage = r .isMessage }))

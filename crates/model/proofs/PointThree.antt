@@ -2,7 +2,7 @@
 -- Assumes nothing.
 use Prim.Native.Nat.{ℕ, zero, suc, _*_, _<_, _≤_}
 use native.Mathlib.Omega.{arith}
-use mathlib.Core.Path.{_≡_, refl, subst, subst⁻¹}
+use mathlib.Core.Path.{_≡_, refl, sym, _∙_, ap, subst, subst⁻¹}
 use mathlib.Core.Logic.{inl, inr, ⊎-elim}
 use mathlib.Core.Bool.{Bool, true, false, _&&_}
 use mathlib.Core.List.{List, [], _∷_}
@@ -19,12 +19,12 @@ use Rattle.model.specs.Channel.{Channel, channelOf}
 use Rattle.model.specs.Run.{State, start, Step, next, allowed, isOrderFrom, after, finished, stuck, EndsStuck, CanFinish}
 use Rattle.model.specs.Race.{RaceRule, never, raceRuleOf, escapes, isRace, races, lowestEvent, lowestMessage, lowestRace}
 use Rattle.model.specs.Schedule.{classesFor, choose, schedule, scheduleFrom, bytesOf}
-use Rattle.model.specs.Answer.{Answer, free, locked, acceptedOf, verdictOf, answerFor, answerOf, traceAfter, numbersOf}
-use Rattle.model.specs.Verdict.{LowestRace, Verdict, PointThree}
+use Rattle.model.specs.Answer.{Answer, free, locked, acceptedOf, verdictOf, answerFor, answerOf, scratchBehind, traceAfter, Numbers, numbersOf}
+use Rattle.model.specs.Verdict.{LowestRace, Verdict, PointThree, Checked}
 use Rattle.model.proofs.Bounded.{and-left, and-right, which, not-both, any-some, any-none, IsLowest, Found, lowest-found}
 use Rattle.model.proofs.Events.{event-number, below-number}
 use Rattle.model.proofs.Causal.{Causal}
-use Rattle.model.proofs.Accepted.{Accepted, accepted-parts, sheet-causal, sheet-count}
+use Rattle.model.proofs.Accepted.{Accepted, accepted-parts, sheet-causal, sheet-count, sheet-meets}
 use Rattle.model.proofs.Phases.{view, view-start}
 use Rattle.model.proofs.Rules.{stuck-unfinished, stuck-forbids}
 use Rattle.model.proofs.Invariants.{inv-start}
@@ -174,7 +174,7 @@ module _ (S : Scenario) (C : Causal S) (code : ℕ) (known : code < channels) wh
       (stuck-unfinished S c (view S (R .phases)) h) in
       stuck-forbids S (R .phases) c C h (p .0) (p .1)
 
-  verdict-for : (a : Answer) → Decided a → (trace : List ℕ) → Verdict S code (numbersOf a) (traceAfter a trace)
+  pub verdict-for : (a : Answer) → Decided a → (trace : List ℕ) → Verdict S code (numbersOf a) (traceAfter a trace)
   unfolding traceAfter
   verdict-for a (isFree quiet) trace =
       record {
@@ -224,6 +224,26 @@ point-three text code scratchLength trace S e =
     let C = sheet-causal text S (a .sheet) in
     subst⁻¹ (λ (o : Out Scenario). Verdict S code (numbersOf (answerFor o code)) (traceAfter (answerFor o code) trace)) e
     (verdict-for S C code (a .codeKnown) (verdictOf S code) (decided S C code (a .codeKnown)) trace)
+
+-- What is answered, and left in the buffers, as the model says of the sheet accepted or refused: then point 3 holds of it.
+pub checked-from : (text : List ℕ) (code : ℕ) (scratch scratchExit trace traceExit : List ℕ) (r : Numbers) (o : Out Scenario)
+    → acceptedOf text code (length scratch) (length trace) ≡ o → r ≡ numbersOf (answerFor o code) → scratchExit ≡ scratchBehind o scratch
+    → traceExit ≡ traceAfter (answerFor o code) trace → Checked text code scratch scratchExit trace traceExit r
+unfolding answerOf
+checked-from text code scratch scratchExit trace traceExit r o e i s t =
+    let answered : r ≡ numbersOf (answerOf text code (length scratch) (length trace)) = i ∙ ap (λ p. numbersOf (answerFor p code)) (sym e) in
+    let written : traceExit ≡ traceAfter (answerOf text code (length scratch) (length trace)) trace =
+    t ∙ ap (λ p. traceAfter (answerFor p code) trace) (sym e) in
+    record {
+      answer = answered;
+      scratchLeft = s ∙ ap (λ p. scratchBehind p scratch) (sym e);
+      traceLeft = written;
+      causalOrder = λ S h. sheet-meets text S (accepted-parts text code (length scratch) (length trace) S h .sheet);
+      pointThree =
+          subst⁻¹ (λ (n : Numbers). PointThree text code (length scratch) (length trace) n traceExit) answered
+          (subst⁻¹ (λ (l : List ℕ). PointThree text code (length scratch) (length trace) (numbersOf (answerOf text code (length scratch) (length trace))) l)
+          written (point-three text code (length scratch) trace));
+    }
 
 -- the trace buffer keeps its length, whatever the text: the steps of a schedule always fit the least buffer
 pub trace-kept : (text : List ℕ) (code scratchLength : ℕ) (trace : List ℕ)

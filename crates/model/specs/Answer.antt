@@ -1,8 +1,8 @@
 -- "Refusal table" and "Sheets to try": the answer for a text, a code and the lengths of the two buffers; what the
 -- buffers hold behind the call; and the word and three numbers of each answer. Assumes nothing.
 use Prim.Native.Nat.{ℕ, _*_}
-use mathlib.Core.Bool.{cond, _||_}
-use mathlib.Core.List.{List, _++_}
+use mathlib.Core.Bool.{Bool, cond, _||_}
+use mathlib.Core.List.{List, [], _++_}
 use mathlib.Core.Option.{none, some}
 use lib.Dec.{ltb, leb}
 use lib.ListN.{length, drop, replicate}
@@ -21,17 +21,24 @@ use Rattle.model.specs.Schedule.{schedule, bytesOf}
 unfoldable pub withoutCircle : Scenario → Out Scenario
 withoutCircle S = cond (hasCircle S) (refusal circleRefusal 0) (ok S)
 
--- the scenario of the rows read, or refusal 8 to 11
-unfoldable pub expandedOf : List Row → Out Scenario
-expandedOf file = andThen (expand metOps file nothingMet) (λ s. withoutCircle (scenarioOf (exchangeOf s)))
+-- the scenario of the rows read, on a list of options, or refusal 8 to 11 or 13
+unfoldable pub expandedWith : List Bool → List Row → Out Scenario
+expandedWith options file = andThen (expand metOps options file nothingMet) (λ s. withoutCircle (scenarioOf (exchangeOf s)))
+
+-- the scenario of rows without an A row, which no list is asked for: refusal 8 to 11
+abbrev pub expandedOf : List Row → Out Scenario
+expandedOf file = expandedWith [] file
 
 -- the scenario of a text, or refusal 3 to 11
 unfoldable pub sheetOf : List ℕ → Out Scenario
 sheetOf text = andThen (readOf text) expandedOf
 
--- the exchange that the walk of a text meets, or refusal 3 to 11
+-- the exchange that a walk of the rows meets, on a list of options, and that which the walk of a text meets; or the refusal
+unfoldable pub exchangeWith : List Bool → List Row → Out Exchange
+exchangeWith options file = andThen (expand metOps options file nothingMet) (λ s. ok (exchangeOf s))
+
 unfoldable pub exchangeMet : List ℕ → Out Exchange
-exchangeMet text = andThen (readOf text) (λ file. andThen (expand metOps file nothingMet) (λ s. ok (exchangeOf s)))
+exchangeMet text = andThen (readOf text) (exchangeWith [])
 
 -- A sheet is accepted, with its channel and the buffers lent, if no line of the refusal table applies.
 unfoldable pub acceptedOf : List ℕ → ℕ → ℕ → ℕ → Out Scenario

@@ -17,4 +17,5 @@ pub mod Replay
 pub mod Wired
 pub mod Taps
 pub mod Senders
+pub mod Choice
 pub mod Marked

@@ -29,6 +29,13 @@ levels = 8
 abbrev pub callsMost : ℕ
 callsMost = 1024
 
+-- Request (c): a walk meets at most 8 A rows, so that a file has at most 256 choice lists.
+abbrev pub choicesMost : ℕ
+choicesMost = 8
+
+abbrev pub listsMost : ℕ
+listsMost = 256
+
 -- The codes are 0 to 5.
 abbrev pub channels : ℕ
 channels = 6

@@ -13,7 +13,7 @@ use Rattle.model.specs.Bounded.{any, among}
 use Rattle.model.specs.Closure.{listed, reads, linked}
 use Rattle.model.specs.Refusal.{Out, ok, refusal, andThen, lengthRefusal, headingRefusal, rowRefusal, placeRefusal, absentRefusal, circleRefusal}
 use Rattle.model.specs.Text.{Line, Columns, linesOf, headingOf}
-use Rattle.model.specs.Rows.{Row, sheet, message, order, block, call, rowOf}
+use Rattle.model.specs.Rows.{Row, sheet, message, order, block, call, choice, rowOf}
 
 -- Where the reader stands: the sheets opened so far, and of the open block the board of each event, by event number, and the P rows.
 pub record Place : Type 0 where
@@ -52,6 +52,7 @@ moved p (order x y) =
     cond (orderFits (p .events) x y) (some (record { opened = p .opened; events = p .events; orders = (x, y) ∷ p .orders })) none
 moved p block = some (blockNext (p .opened))
 moved p (call n) = cond (ltb n sheets) (some (blockNext (p .opened))) none
+moved p (choice m n) = cond (ltb m sheets && ltb n sheets) (some (blockNext (p .opened))) none
 
 unfoldable pub isSheet : Row → Bool
 isSheet (sheet n) = true
@@ -59,6 +60,7 @@ isSheet (message a b) = false
 isSheet (order x y) = false
 isSheet block = false
 isSheet (call n) = false
+isSheet (choice m n) = false
 
 -- every other row stands behind an S row (refusal 6 where there is no place for a row)
 unfoldable pub placed : Place → Row → Option Place
@@ -94,15 +96,16 @@ circleAt (message a b) q = false
 circleAt (order x y) q = blockCircle (length (q .events)) (q .orders)
 circleAt block q = false
 circleAt (call n) q = false
+circleAt (choice m n) q = false
 
 -- the line of the row with the given number, from 0; the heading is line 1
 abbrev pub lineOf : ℕ → ℕ
 lineOf i = i + 2
 
 -- a row and the place behind it, unless its form (5, which row 513 has not either), else its place (6), else a circle (11) is refused
-unfoldable pub judged : Columns → ℕ → Place → Line → Out (Row × Place)
-judged c i p l =
-    elim (cond (ltb i rowsMost) (rowOf c l) none) [
+unfoldable pub judged : Bool → Columns → ℕ → Place → Line → Out (Row × Place)
+judged choices c i p l =
+    elim (cond (ltb i rowsMost) (rowOf choices c l) none) [
       | none ↦ refusal rowRefusal (lineOf i)
       | some r ↦ elim (placed p r) [
         | none ↦ refusal placeRefusal (lineOf i)
@@ -111,12 +114,12 @@ judged c i p l =
     ]
 
 -- the rows, read one by one; i is the number of the first
-unfoldable pub rowsFrom : Columns → ℕ → Place → List Line → Out (List Row)
-rowsFrom c i p [] = ok []
-rowsFrom c i p (l ∷ ls) =
-    elim (judged c i p l) [
+unfoldable pub rowsFrom : Bool → Columns → ℕ → Place → List Line → Out (List Row)
+rowsFrom choices c i p [] = ok []
+rowsFrom choices c i p (l ∷ ls) =
+    elim (judged choices c i p l) [
       | refusal number line ↦ refusal number line
-      | ok rp ↦ elim (rowsFrom c (suc i) (rp .1) ls) [ refusal number line ↦ refusal number line | ok rs ↦ ok ((rp .0) ∷ rs) ]
+      | ok rp ↦ elim (rowsFrom choices c (suc i) (rp .1) ls) [ refusal number line ↦ refusal number line | ok rs ↦ ok ((rp .0) ∷ rs) ]
     ]
 
 -- the sheets that the rows open
@@ -127,8 +130,9 @@ opens (message a b ∷ rs) = opens rs
 opens (order x y ∷ rs) = opens rs
 opens (block ∷ rs) = opens rs
 opens (call n ∷ rs) = opens rs
+opens (choice m n ∷ rs) = opens rs
 
--- the line of the first call to a sheet that is not among those present; i is the number of the first row
+-- the line of the first call to a sheet that is not among those present; i is the number of the first row, and an A row names two calls
 unfoldable pub strayCall : List ℕ → ℕ → List Row → Option ℕ
 strayCall present i [] = none
 strayCall present i (sheet n ∷ rs) = strayCall present (suc i) rs
@@ -136,6 +140,7 @@ strayCall present i (message a b ∷ rs) = strayCall present (suc i) rs
 strayCall present i (order x y ∷ rs) = strayCall present (suc i) rs
 strayCall present i (block ∷ rs) = strayCall present (suc i) rs
 strayCall present i (call n ∷ rs) = cond (among n present) (strayCall present (suc i) rs) (some (lineOf i))
+strayCall present i (choice m n ∷ rs) = cond (among m present && among n present) (strayCall present (suc i) rs) (some (lineOf i))
 
 -- sheet 0 is there (else 7, line 0), and so is every sheet that is called (else 7, the first such call's line)
 unfoldable pub complete : List Row → Out (List Row)
@@ -145,11 +150,16 @@ complete rs =
     (refusal absentRefusal 0)
 
 -- the rows behind a heading
-unfoldable pub bodyOf : List Line → Out (List Row)
-bodyOf [] = refusal headingRefusal 1
-bodyOf (h ∷ ls) =
-    elim (headingOf h) [ none ↦ refusal headingRefusal 1 | some c ↦ andThen (rowsFrom c 0 outside ls) complete ]
+unfoldable pub bodyOf : Bool → List Line → Out (List Row)
+bodyOf choices [] = refusal headingRefusal 1
+bodyOf choices (h ∷ ls) =
+    elim (headingOf h) [ none ↦ refusal headingRefusal 1 | some c ↦ andThen (rowsFrom choices c 0 outside ls) complete ]
 
--- the rows of a text, or the refusal, 3 to 7 or 11, that it gets
-unfoldable pub readOf : List ℕ → Out (List Row)
-readOf text = cond (ltb 0 (length text) && leb (length text) textMost) (bodyOf (linesOf text)) (refusal lengthRefusal 0)
+-- the rows of a text, with or without A rows let through, or the refusal, 3 to 7 or 11, that it gets
+unfoldable pub readWith : Bool → List ℕ → Out (List Row)
+readWith choices text =
+    cond (ltb 0 (length text) && leb (length text) textMost) (bodyOf choices (linesOf text)) (refusal lengthRefusal 0)
+
+-- every call but that of request (c) refuses A with 5
+abbrev pub readOf : List ℕ → Out (List Row)
+readOf text = readWith false text

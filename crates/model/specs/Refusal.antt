@@ -48,6 +48,10 @@ circleRefusal = 11
 abbrev pub traceRefusal : ℕ
 traceRefusal = 12
 
+-- request (c): the ninth A row met in one walk
+abbrev pub choicesRefusal : ℕ
+choicesRefusal = 13
+
 -- an event that the sheet has not, or twice in one list of a tap
 abbrev pub tapRefusal : ℕ
 tapRefusal = 20

@@ -12,7 +12,7 @@ use Rattle.model.specs.Limits.{textMost, boards, channels, scratchLeast,
 use Rattle.model.specs.Bounded.{every, lowest, same}
 use Rattle.model.specs.Refusal.{Out, ok, refusal, andThen, channelRefusal, benchRefusal, lengthRefusal, senderTableRefusal, forbiddenRefusal}
 use Rattle.model.specs.Text.{ascii, Line, linesOf, fieldsOf, numberUpTo}
-use Rattle.model.specs.Rows.{Row, sheet, message, order, block, call}
+use Rattle.model.specs.Rows.{Row, sheet, message, order, block, call, choice}
 use Rattle.model.specs.Place.{lineOf, readOf}
 use Rattle.model.specs.Expansion.{Ops, expand}
 use Rattle.model.specs.Order.{Scenario}
@@ -204,6 +204,7 @@ lined line (message a b) = message line b
 lined line (order x y) = order x y
 lined line block = block
 lined line (call n) = call n
+lined line (choice m n) = choice m n
 
 unfoldable pub withLines : ℕ → List Row → List Row
 withLines i [] = []
@@ -215,7 +216,7 @@ lineOps = record { withMessage = λ w line b lines. lines ++ (line ∷ []); with
 -- the lines of the messages that the walk of a text meets, in walk order
 unfoldable pub linesMet : List ℕ → List ℕ
 linesMet text =
-    elim (andThen (readOf text) (λ file. expand lineOps (withLines 0 file) [])) [ ok s ↦ s .kept | refusal number line ↦ [] ]
+    elim (andThen (readOf text) (λ file. expand lineOps [] (withLines 0 file) [])) [ ok s ↦ s .kept | refusal number line ↦ [] ]
 
 -- the scenario, once the walk has ended, unless a message is forbidden: 19 for the first, with its line
 unfoldable pub permitted : List Rule → List ℕ → Scenario → Out Scenario

@@ -6,7 +6,7 @@ use mathlib.Core.Logic.{_↔_, _⊎_}
 use mathlib.Core.Bool.{true, false}
 use mathlib.Core.List.{List}
 use lib.ListN.{length, take}
-use Rattle.model.specs.Refusal.{ok}
+use Rattle.model.specs.Refusal.{Out, ok}
 use Rattle.model.specs.Order.{Event, event, Exchange, Before, Scenario}
 use Rattle.model.specs.Channel.{channelOf}
 use Rattle.model.specs.Run.{Step, IsOrder, EndsStuck, EndsFinished, CanFinish}
@@ -14,15 +14,18 @@ use Rattle.model.specs.Race.{raceRuleOf, isRace}
 use Rattle.model.specs.Schedule.{schedule, bytesOf}
 use Rattle.model.specs.Answer.{Numbers, freeWord, lockedWord, exchangeMet, acceptedOf, answerOf, numbersOf, scratchBehind, traceAfter}
 
--- The scenario is what the walk of the text meets: its messages, their boards, and "before" exactly the paper's least transitive
--- relation over them.
-pub record Meets (text : List ℕ) (S : Scenario) : Type 0 where
+-- The scenario is what a walk meets: its messages, their boards, and "before" exactly the paper's least transitive relation over them.
+pub record IsMet (walked : Out Exchange) (S : Scenario) : Type 0 where
   pub exchange : Exchange
-  pub met : exchangeMet text ≡ ok exchange
+  pub met : walked ≡ ok exchange
   pub messages : S .count ≡ exchange .count
   pub sources : (m : ℕ) → S .source m ≡ exchange .source m
   pub targets : (m : ℕ) → S .target m ≡ exchange .target m
   pub before : (x y : Event) → (S .before x y ≡ true) ↔ Before exchange x y
+
+-- it is what the walk of the text meets
+abbrev pub Meets : List ℕ → Scenario → Type 0
+Meets text S = IsMet (exchangeMet text) S
 
 -- message e and the event with number x are a race of the code's kind, and no race has a lower e, or e and a lower x
 pub record LowestRace (S : Scenario) (code e x : ℕ) : Type 0 where

@@ -22,6 +22,9 @@ pub const LEVELS: usize = 8;
 
 pub const CALLS_MOST: usize = 1024;
 
+// A rows of a walk.
+pub const CHOICES_MOST: usize = 8;
+
 // The channels, and the buffers lent.
 pub const CHANNELS: usize = 6;
 
@@ -65,6 +68,8 @@ pub const MESSAGES: u8 = 10;
 pub const CIRCLE: u8 = 11;
 
 pub const TRACE: u8 = 12;
+
+pub const CHOICES: u8 = 13;
 
 pub const TAP: u8 = 20;
 

@@ -3,7 +3,7 @@ use Prim.Native.Nat.{ℕ}
 use Prim.Native.Char.{code}
 use mathlib.Core.Path.{_≡_}
 use borrow.Author.Tests.{ne-eqb}
-use Rattle.model.specs.Rows.{sheet, message, order, block, call}
+use Rattle.model.specs.Rows.{sheet, message, order, block, call, choice}
 use Rattle.place.specs.Letters.{rowFrom}
 
 pub row-sheet : (k a b : ℕ) → k ≡ code "S" → rowFrom k a b ≡ sheet a
@@ -22,6 +22,12 @@ pub row-call : (k a b : ℕ) → k ≡ code "C" → rowFrom k a b ≡ call a
 unfolding rowFrom
 row-call k a b e = rw e
 
-pub row-block : (k a b : ℕ) → (k ≡ code "S" → ⊥) → (k ≡ code "M" → ⊥) → (k ≡ code "P" → ⊥) → (k ≡ code "C" → ⊥) → rowFrom k a b ≡ block
+pub row-choice : (k a b : ℕ) → k ≡ code "A" → rowFrom k a b ≡ choice a b
 unfolding rowFrom
-row-block k a b e f g h = rw (ne-eqb k (code "S") e, ne-eqb k (code "M") f, ne-eqb k (code "P") g, ne-eqb k (code "C") h)
+row-choice k a b e = rw e
+
+pub row-block : (k a b : ℕ) → (k ≡ code "S" → ⊥) → (k ≡ code "M" → ⊥) → (k ≡ code "P" → ⊥) → (k ≡ code "C" → ⊥) → (k ≡ code "A" → ⊥)
+    → rowFrom k a b ≡ block
+unfolding rowFrom
+row-block k a b e f g h i =
+    rw (ne-eqb k (code "S") e, ne-eqb k (code "M") f, ne-eqb k (code "P") g, ne-eqb k (code "C") h, ne-eqb k (code "A") i)

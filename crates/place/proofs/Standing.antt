@@ -14,11 +14,11 @@ use Rattle.model.proofs.Bounded.{and-right}
 use Rattle.model.proofs.Standing.{cond-some}
 use Rattle.model.proofs.Walked.{order-parts}
 use Rattle.model.specs.Limits.{sheets, boards, messagesMost}
-use Rattle.model.specs.Rows.{Row, sheet, message, order, block, call}
+use Rattle.model.specs.Rows.{Row, sheet, message, order, block, call, choice}
 use Rattle.model.specs.Place.{withMessage, messageFits, orderFits, isSheet}
 use Rattle.place.specs.Stand.{Stand, isOpen, mayOpen, movedTo, stoodAt, standOf, placedFor, placedAs, FewMessages, BlockAs, PlaceAs}
 use Rattle.place.specs.Letters.{rowFrom}
-use Rattle.place.proofs.Letters.{row-sheet, row-message, row-order, row-call, row-block}
+use Rattle.place.proofs.Letters.{row-sheet, row-message, row-order, row-call, row-choice, row-block}
 use Rattle.place.specs.declared.Placed.{Placed}
 use Rattle.place.specs.declared.Placed.the-variants.{Messages, Nowhere}
 
@@ -39,6 +39,13 @@ module _ (starts : List ℕ) (n : ℕ) (long : length starts ≡ sheets) where
   pub may-open : n < sheets → getD starts n 0 ≡ 0 → true ≡ mayOpen starts n
   unfolding mayOpen isOpen
   may-open h k = rw (lt-ltb n sheets h, k)
+
+-- the two sheets of an A row
+pub sheets-beyond : (m n : ℕ) → sheets ≤ m → false ≡ (ltb m sheets && ltb n sheets)
+sheets-beyond m n h = rw (le-ltb m sheets h)
+
+pub sheets-second : (m n : ℕ) → m < sheets → ltb n sheets ≡ (ltb m sheets && ltb n sheets)
+sheets-second m n h = rw (lt-ltb m sheets h)
 
 -- the boards of the open block's events
 module _ (bs : List ℕ) (m : ℕ) (few : m ≤ messagesMost) (long : length bs ≡ 2 * messagesMost) where
@@ -83,13 +90,14 @@ module _ (bs : List ℕ) (m : ℕ) (few : m ≤ messagesMost) (long : length bs 
 -- a row that is no S row
 not-sheet : (k a b : ℕ) → (k ≡ code "S" → ⊥) → isSheet (rowFrom k a b) ≡ false
 unfolding rowFrom isSheet
-not-sheet k a b h = rw (ne-eqb k (code "S") h) (go (eqb k (code "M")) (eqb k (code "P")) (eqb k (code "C")))
+not-sheet k a b h = rw (ne-eqb k (code "S") h) (go (eqb k (code "M")) (eqb k (code "P")) (eqb k (code "C")) (eqb k (code "A")))
   where
-    go : (x y z : Bool) → isSheet (cond x (message a b) (cond y (order a b) (cond z (call a) block))) ≡ false
-    go true y z = refl
-    go false true z = refl
-    go false false true = refl
-    go false false false = refl
+    go : (x y z w : Bool) → isSheet (cond x (message a b) (cond y (order a b) (cond z (call a) (cond w (choice a b) block)))) ≡ false
+    go true y z w = refl
+    go false true z w = refl
+    go false false true w = refl
+    go false false false true = refl
+    go false false false false = refl
 
 -- a message that fits is no message 129
 room : (bs : List ℕ) (m a b : ℕ) → m ≤ messagesMost → length bs ≡ 2 * messagesMost → messageFits (take (2 * m) bs) a b ≡ true → m < messagesMost
@@ -173,9 +181,17 @@ module _ (k a b m : ℕ) (bs : List ℕ) (few : m ≤ messagesMost) (long : leng
       go true c = block-by (call a) bs (Messages 0) (row-call k a b e) (λ starts i. rw c) (omega arith) long
       go false c = block-by (call a) bs Nowhere (row-call k a b e) (λ starts i. rw c) tt long
 
-  pub block-next : (k ≡ code "S" → ⊥) → (k ≡ code "M" → ⊥) → (k ≡ code "P" → ⊥) → (k ≡ code "C" → ⊥) → BlockAs m (rowFrom k a b) bs bs (Messages 0)
+  pub block-choice : (p : Placed) (fits : Bool) → k ≡ code "A" → fits ≡ (ltb a sheets && ltb b sheets) → p ≡ placedFor fits 0 → BlockAs m (rowFrom k a b) bs bs p
   unfolding movedTo
-  block-next e f g h = block-by block bs (Messages 0) (row-block k a b e f g h) (λ starts i. refl) (omega arith) long
+  block-choice p fits e f q = rw q (go fits f)
+    where
+      go : (t : Bool) → t ≡ (ltb a sheets && ltb b sheets) → BlockAs m (rowFrom k a b) bs bs (placedFor t 0)
+      go true c = block-by (choice a b) bs (Messages 0) (row-choice k a b e) (λ starts i. rw (← c)) (omega arith) long
+      go false c = block-by (choice a b) bs Nowhere (row-choice k a b e) (λ starts i. rw (← c)) tt long
+
+  pub block-next : (k ≡ code "S" → ⊥) → (k ≡ code "M" → ⊥) → (k ≡ code "P" → ⊥) → (k ≡ code "C" → ⊥) → (k ≡ code "A" → ⊥) → BlockAs m (rowFrom k a b) bs bs (Messages 0)
+  unfolding movedTo
+  block-next e f g h n = block-by block bs (Messages 0) (row-block k a b e f g h n) (λ starts i. refl) (omega arith) long
 
 -- any row: an S row, one ahead of any S row, and one behind it
 module _ (row k a b m : ℕ) (starts bs : List ℕ) (long : length starts ≡ sheets) where

@@ -9,7 +9,7 @@ use mathlib.Core.Option.{Option, none, some}
 use lib.Dec.{eqb, ltb}
 use lib.ListN.{length, getD, take, set}
 use Rattle.model.specs.Limits.{sheets, messagesMost}
-use Rattle.model.specs.Rows.{Row, sheet, message, order, block, call}
+use Rattle.model.specs.Rows.{Row, sheet, message, order, block, call, choice}
 use Rattle.model.specs.Place.{withMessage, messageFits, orderFits, isSheet}
 use Rattle.place.specs.declared.Placed.{Placed}
 use Rattle.place.specs.declared.Placed.the-variants.{Messages, Nowhere}
@@ -35,6 +35,7 @@ movedTo i s (message a b) =
 movedTo i s (order x y) = cond (orderFits (s .events) x y) (some s) none
 movedTo i s block = some (record { starts = s .starts; events = [] })
 movedTo i s (call n) = cond (ltb n sheets) (some (record { starts = s .starts; events = [] })) none
+movedTo i s (choice m n) = cond (ltb m sheets && ltb n sheets) (some (record { starts = s .starts; events = [] })) none
 
 -- the first row opens a sheet, so that every later row stands behind an S row
 unfoldable pub stoodAt : ℕ → Stand → Row → Option Stand

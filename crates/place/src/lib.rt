@@ -3,8 +3,9 @@ use model::EVENTS_MOST;
 use model::MESSAGES_MOST;
 use model::SHEETS;
 ghost use mathlib.Core.Path.{_≡_};
-ghost use mathlib.Core.Bool.{cond};
+ghost use mathlib.Core.Bool.{cond, _&&_};
 ghost use Prim.Native.Nat.{_+_, _*_, _≤_, _<_};
+ghost use lib.Dec.{ltb};
 ghost use lib.ListN.{length, take, set};
 ghost use Rattle.model.specs.Limits.{sheets, rowsMost, messagesMost};
 ghost use Rattle.model.specs.Place.{messageFits, orderFits};
@@ -90,6 +91,18 @@ fn placed_if(fits: bool, messages: usize) -> Placed
     }
 }
 
+// The two sheets of an A row: 0 to 31, as a call's.
+fn are_sheets(m: u8, n: u8) -> bool
+    ensures { λ r. ⌜ r ≡ (ltb m sheets && ltb n sheets) ⌝ }
+{
+    let first = m as usize;
+    let second = n as usize;
+    if SHEETS <= first {
+        return false;
+    }
+    second < SHEETS
+}
+
 // A row that is no S row, in a block of so many messages: a message joins the block, an order is within it, any other opens the next.
 fn in_block(kind: u8, one: u8, two: u8, messages: usize, boards: &mut [u8; EVENTS_MOST]) -> Placed
     requires { ⌜ OtherThanS kind × (messages ≤ messagesMost) × (length (now boards) ≡ 2 * messagesMost) ⌝ }
@@ -104,6 +117,9 @@ fn in_block(kind: u8, one: u8, two: u8, messages: usize, boards: &mut [u8; EVENT
     if kind == b'C' {
         let n = one as usize;
         return placed_if(n < SHEETS, 0);
+    }
+    if kind == b'A' {
+        return placed_if(are_sheets(one, two), 0);
     }
     Placed::Messages(0)
 }

@@ -4,8 +4,8 @@ use Prim.Native.Char.{code}
 use native.Mathlib.Nat.{sub-zero}
 use native.Mathlib.Numerals.{add-one}
 use native.Mathlib.Omega.{arith}
-use mathlib.Core.Path.{_≡_, sym, _∙_}
-use mathlib.Core.Bool.{Bool, true, false, not, cond}
+use mathlib.Core.Path.{_≡_, refl, sym, _∙_}
+use mathlib.Core.Bool.{Bool, true, false, not, cond, _||_}
 use mathlib.Core.List.{List}
 use mathlib.Core.Option.{none, some}
 use borrow.Author.Tests.{ne-eqb, not-true, not-false}
@@ -16,49 +16,62 @@ use Rattle.presence.specs.Stray.{isStray, strayIn, absentAt, presenceIn}
 use Rattle.presence.specs.declared.Presence.the-variants.{Complete, Absent}
 
 -- calls of sheets that are not there
-pub stray-call : (k n : ℕ) (starts : List ℕ) (r : Bool) → r ≡ isOpen starts n → k ≡ code "C" → not r ≡ isStray k n starts
+pub stray-call : (k m n : ℕ) (starts : List ℕ) (r : Bool) → r ≡ isOpen starts m → k ≡ code "C" → not r ≡ isStray k m n starts
 unfolding isStray
-stray-call k n starts r p e = rw (e, p)
+stray-call k m n starts r p e = rw (e, p) (go (isOpen starts m))
+  where
+    go : (b : Bool) → not b ≡ (not b || false)
+    go true = refl
+    go false = refl
 
-pub stray-other : (k n : ℕ) (starts : List ℕ) → (k ≡ code "C" → ⊥) → false ≡ isStray k n starts
+pub stray-first : (k m n : ℕ) (starts : List ℕ) (r : Bool) → r ≡ isOpen starts m → k ≡ code "A" → not r ≡ true → true ≡ isStray k m n starts
 unfolding isStray
-stray-other k n starts e = rw (ne-eqb k (code "C") e)
+stray-first k m n starts r p e h = rw (e, ← p, not-true r h)
+
+pub stray-second : (k m n : ℕ) (starts : List ℕ) (r q : Bool) → r ≡ isOpen starts m → k ≡ code "A" → not r ≡ false → q ≡ isOpen starts n
+    → not q ≡ isStray k m n starts
+unfolding isStray
+stray-second k m n starts r q p e h f = rw (e, ← p, not-false r h, f)
+
+pub stray-other : (k m n : ℕ) (starts : List ℕ) → (k ≡ code "C" → ⊥) → (k ≡ code "A" → ⊥) → false ≡ isStray k m n starts
+unfolding isStray
+stray-other k m n starts e f = rw (ne-eqb k (code "C") e, ne-eqb k (code "A") f)
 
 -- no call up to row i is stray
-pub record Searching (kind one starts : List ℕ) (count i : ℕ) : Type 0 where
+pub record Searching (kind one two starts : List ℕ) (count i : ℕ) : Type 0 where
   pub below : i ≤ count
   pub zero : isOpen starts 0 ≡ true
-  pub same : strayIn kind one starts 0 count ≡ strayIn kind one starts i (count - i)
+  pub same : strayIn kind one two starts 0 count ≡ strayIn kind one two starts i (count - i)
 
-pub search-zero : (kind one starts : List ℕ) (count : ℕ) (r : Bool) → r ≡ isOpen starts 0 → not r ≡ true → Absent 0 ≡ presenceIn kind one starts count
+pub search-zero : (kind one two starts : List ℕ) (count : ℕ) (r : Bool) → r ≡ isOpen starts 0 → not r ≡ true → Absent 0 ≡ presenceIn kind one two starts count
 unfolding presenceIn
-search-zero kind one starts count r e h = rw (← e, not-true r h)
+search-zero kind one two starts count r e h = rw (← e, not-true r h)
 
-pub search-begin : (kind one starts : List ℕ) (count : ℕ) (r : Bool) → r ≡ isOpen starts 0 → not r ≡ false → Searching kind one starts count 0
-search-begin kind one starts count r e h = record { below = omega arith; zero = sym e ∙ not-false r h; same = rw (sub-zero count) }
+pub search-begin : (kind one two starts : List ℕ) (count : ℕ) (r : Bool) → r ≡ isOpen starts 0 → not r ≡ false → Searching kind one two starts count 0
+search-begin kind one two starts count r e h = record { below = omega arith; zero = sym e ∙ not-false r h; same = rw (sub-zero count) }
 
-search-at : (kind one starts : List ℕ) (count i : ℕ) → Searching kind one starts count i → i < count
-    → strayIn kind one starts 0 count ≡ cond (isStray (getD kind i 0) (getD one i 0) starts) (some (lineOf i)) (strayIn kind one starts (i + 1) (count - (i + 1)))
+search-at : (kind one two starts : List ℕ) (count i : ℕ) → Searching kind one two starts count i → i < count
+    → strayIn kind one two starts 0 count ≡ cond (isStray (getD kind i 0) (getD one i 0) (getD two i 0) starts) (some (lineOf i)) (strayIn kind one two starts (i + 1) (count - (i + 1)))
 unfolding strayIn
-search-at kind one starts count i v h =
+search-at kind one two starts count i v h =
     let e : count - i ≡ suc (count - (i + 1)) = omega arith in
     v .same ∙ rw (e, add-one i)
 
-pub search-more : (kind one starts : List ℕ) (count i : ℕ) (r : Bool) → Searching kind one starts count i → i < count
-    → r ≡ isStray (getD kind i 0) (getD one i 0) starts → r ≡ false → Searching kind one starts count (i + 1)
-search-more kind one starts count i r v h e f =
-    record { below = omega arith; zero = v .zero; same = search-at kind one starts count i v h ∙ rw (← e, f) }
+pub search-more : (kind one two starts : List ℕ) (count i : ℕ) (r : Bool) → Searching kind one two starts count i → i < count
+    → r ≡ isStray (getD kind i 0) (getD one i 0) (getD two i 0) starts → r ≡ false → Searching kind one two starts count (i + 1)
+search-more kind one two starts count i r v h e f =
+    record { below = omega arith; zero = v .zero; same = search-at kind one two starts count i v h ∙ rw (← e, f) }
 
-pub search-found : (kind one starts : List ℕ) (count i : ℕ) (r : Bool) → Searching kind one starts count i → i < count
-    → r ≡ isStray (getD kind i 0) (getD one i 0) starts → r ≡ true → Absent (i + 2) ≡ presenceIn kind one starts count
+pub search-found : (kind one two starts : List ℕ) (count i : ℕ) (r : Bool) → Searching kind one two starts count i → i < count
+    → r ≡ isStray (getD kind i 0) (getD one i 0) (getD two i 0) starts → r ≡ true → Absent (i + 2) ≡ presenceIn kind one two starts count
 unfolding presenceIn absentAt
-search-found kind one starts count i r v h e f =
-    let s : strayIn kind one starts 0 count ≡ some (lineOf i) = search-at kind one starts count i v h ∙ rw (← e, f) in
+search-found kind one two starts count i r v h e f =
+    let s : strayIn kind one two starts 0 count ≡ some (lineOf i) = search-at kind one two starts count i v h ∙ rw (← e, f) in
     rw (v .zero, s)
 
-pub search-none : (kind one starts : List ℕ) (count i : ℕ) → Searching kind one starts count i → count ≤ i → Complete ≡ presenceIn kind one starts count
+pub search-none : (kind one two starts : List ℕ) (count i : ℕ) → Searching kind one two starts count i → count ≤ i → Complete ≡ presenceIn kind one two starts count
 unfolding presenceIn absentAt strayIn
-search-none kind one starts count i v h =
+search-none kind one two starts count i v h =
     let e : count - i ≡ 0 = omega arith in
-    let s : strayIn kind one starts 0 count ≡ none = v .same ∙ rw e in
+    let s : strayIn kind one two starts 0 count ≡ none = v .same ∙ rw e in
     rw (v .zero, s)

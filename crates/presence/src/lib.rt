@@ -14,16 +14,27 @@ pub enum Presence {
     Absent(usize),
 }
 
-// Row i calls a sheet that is not there.
-fn is_stray(kind: &[u8; ROWS_MOST], one: &[u8; ROWS_MOST], start: &[u16; SHEETS], i: usize) -> bool
+// Row i calls a sheet that is not there; an A row names two calls.
+fn is_stray(
+    kind: &[u8; ROWS_MOST],
+    one: &[u8; ROWS_MOST],
+    two: &[u8; ROWS_MOST],
+    start: &[u16; SHEETS],
+    i: usize,
+) -> bool
     requires { ⌜ (i < rowsMost) × (length (now start) ≡ sheets) ⌝ }
-    ensures { λ r. ⌜ r ≡ isStray (getD (now (kind .entry)) i 0) (getD (now (one .entry)) i 0) (now (start .entry)) ⌝ }
+    ensures { λ r. ⌜ r ≡ isStray (getD (now (kind .entry)) i 0) (getD (now (one .entry)) i 0) (getD (now (two .entry)) i 0) (now (start .entry)) ⌝ }
 {
     if kind[i] == b'C' {
-        !is_open(start, one[i])
-    } else {
-        false
+        return !is_open(start, one[i]);
     }
+    if kind[i] == b'A' {
+        if !is_open(start, one[i]) {
+            return true;
+        }
+        return !is_open(start, two[i]);
+    }
+    false
 }
 
 // Sheet 0 is there, and so is every sheet that so many rows call.
@@ -31,17 +42,18 @@ pub fn complete(
     count: usize,
     kind: &[u8; ROWS_MOST],
     one: &[u8; ROWS_MOST],
+    two: &[u8; ROWS_MOST],
     start: &[u16; SHEETS],
 ) -> Presence
     requires { ⌜ (count ≤ rowsMost) × (length (now start) ≡ sheets) ⌝ }
-    ensures { λ r. ⌜ r ≡ presenceIn (now (kind .entry)) (now (one .entry)) (now (start .entry)) count ⌝ }
+    ensures { λ r. ⌜ r ≡ presenceIn (now (kind .entry)) (now (one .entry)) (now (two .entry)) (now (start .entry)) count ⌝ }
 {
     if !is_open(start, 0) {
         return Presence::Absent(0);
     }
     let mut i = 0;
     while i < count {
-        if is_stray(kind, one, start, i) {
+        if is_stray(kind, one, two, start, i) {
             return Presence::Absent(i + 2);
         }
         i += 1;

@@ -1,6 +1,7 @@
 -- The row at a position of the text, as the model's. Assumes nothing.
 use Prim.Native.Nat.{ℕ}
 use mathlib.Core.Path.{_≡_}
+use mathlib.Core.Bool.{Bool}
 use mathlib.Core.List.{List}
 use mathlib.Core.Option.{Option, none, some}
 use lib.ListN.{drop}
@@ -21,7 +22,7 @@ abbrev pub ReadFrom : List ℕ → ℕ → Reading → Type 0
 ReadFrom text at (reading.Row kind one two next) = Onward text at next
 ReadFrom text at reading.Malformed = Unit {0}
 
--- the row that begins at a position
-pub record RowAs (c : Columns) (text : List ℕ) (at : ℕ) (r : Reading) : Type 0 where
-  pub row : readingFrom r ≡ rowOf c (firstLine (drop at text))
+-- the row that begins at a position, with or without A rows let through
+pub record RowAs (choices : Bool) (c : Columns) (text : List ℕ) (at : ℕ) (r : Reading) : Type 0 where
+  pub row : readingFrom r ≡ rowOf choices c (firstLine (drop at text))
   pub next : ReadFrom text at r

@@ -1,7 +1,7 @@
 -- Code-shaped twin of the model's judgement of a row, and what the code hands back of it. Assumes nothing.
 use Prim.Native.Nat.{ℕ, _*_, _/_, _≤_, _<_}
 use mathlib.Core.Path.{_≡_}
-use mathlib.Core.Bool.{cond}
+use mathlib.Core.Bool.{Bool, cond}
 use mathlib.Core.List.{List}
 use mathlib.Core.Option.{none, some}
 use lib.Dec.{ltb}
@@ -33,9 +33,9 @@ abbrev pub readerBehind : Reader → Row → Stand → Reader
 readerBehind s r q = record { stand = q; words = noted (s .words) (length (s .stand .events) / 2) r }
 
 -- a row and the reader behind it, unless its form (5), else its place (6), else a circle (11) is refused
-unfoldable pub judgedBy : Columns → ℕ → Reader → Line → Out (Row × Reader)
-judgedBy c i s l =
-    elim (cond (ltb i rowsMost) (rowOf c l) none) [
+unfoldable pub judgedBy : Bool → Columns → ℕ → Reader → Line → Out (Row × Reader)
+judgedBy choices c i s l =
+    elim (cond (ltb i rowsMost) (rowOf choices c l) none) [
       | none ↦ refusal rowRefusal (lineOf i)
       | some r ↦ elim (stoodAt i (s .stand) r) [
         | none ↦ refusal placeRefusal (lineOf i)
@@ -62,6 +62,6 @@ StepOn text at row starts boards words (step.Row kind one two next messages) = S
 StepOn text at row starts boards words (step.Refused number) = Unit {0}
 
 -- the row with a number, at a position, judged from what the reader holds
-pub record StepAs (c : Columns) (text : List ℕ) (at row : ℕ) (s : Reader) (starts boards words : List ℕ) (r : Step) : Type 0 where
-  pub step : stepAs r row starts boards words ≡ judgedBy c row s (firstLine (drop at text))
+pub record StepAs (choices : Bool) (c : Columns) (text : List ℕ) (at row : ℕ) (s : Reader) (starts boards words : List ℕ) (r : Step) : Type 0 where
+  pub step : stepAs r row starts boards words ≡ judgedBy choices c row s (firstLine (drop at text))
   pub on : StepOn text at row starts boards words r

@@ -30,24 +30,26 @@ pub enum Step {
     Refused(u8),
 }
 
-// The row with the number `row`, from 0, which begins at `at`, in a block of so many messages, whose order the words hold.
+// The row with the number `row`, from 0, which begins at `at`, in a block of so many messages, whose order the words hold. An A row is
+// one where `choices` lets it through.
 pub fn take_row(
     text: &[u8],
     at: usize,
     row: usize,
     messages: usize,
+    choices: bool,
     columns: Columns,
     start: &mut [u16; SHEETS],
     boards: &mut [u8; EVENTS_MOST],
     words: &mut [u64],
 ) -> Step
     requires { ⌜ (at ≤ length (now text)) × Below columns × (messages ≤ messagesMost) × (length (now start) ≡ sheets) × (length (now boards) ≡ 2 * messagesMost) × (length (now words) ≡ 2 * messagesMost * width) ⌝ }
-    ensures { λ r. ⌜ StepAs (columnsFrom columns) (now (text .entry)) at row (readerOf (now (start .entry)) (now (boards .entry)) messages (now (words .entry))) (now (start .exit)) (now (boards .exit)) (now (words .exit)) r ⌝ }
+    ensures { λ r. ⌜ StepAs choices (columnsFrom columns) (now (text .entry)) at row (readerOf (now (start .entry)) (now (boards .entry)) messages (now (words .entry))) (now (start .exit)) (now (boards .exit)) (now (words .exit)) r ⌝ }
 {
     if model::ROWS_MOST <= row {
         return Step::Refused(model::ROW);
     }
-    let Reading::Row(kind, one, two, next) = row_at(text, at, columns) else {
+    let Reading::Row(kind, one, two, next) = row_at(text, at, choices, columns) else {
         return Step::Refused(model::ROW);
     };
     let Placed::Messages(after) = place::place(row, kind, one, two, messages, start, boards) else {
@@ -60,9 +62,9 @@ pub fn take_row(
 }
 
 // The row at `at`.
-fn row_at(text: &[u8], at: usize, columns: Columns) -> Reading
+fn row_at(text: &[u8], at: usize, choices: bool, columns: Columns) -> Reading
     requires { ⌜ (at ≤ length (now text)) × Below columns ⌝ }
-    ensures { λ r. ⌜ RowAs (columnsFrom columns) (now (text .entry)) at r ⌝ }
+    ensures { λ r. ⌜ RowAs choices (columnsFrom columns) (now (text .entry)) at r ⌝ }
 {
     let Split::Three(cuts) = line::cut(text, at) else {
         return Reading::Malformed;
@@ -74,21 +76,24 @@ fn row_at(text: &[u8], at: usize, columns: Columns) -> Reading
     let Number::Is(two) = fields::number_in(text, cuts, columns.two) else {
         return Reading::Malformed;
     };
-    if !is_formed(kind, one, two) {
+    if !is_formed(choices, kind, one, two) {
         return Reading::Malformed;
     }
     Reading::Row(kind, one, two, cuts.end + 1)
 }
 
-// The letter is one of the five, and an unused field is 0.
-fn is_formed(kind: u8, one: u8, two: u8) -> bool
-    ensures { λ r. ⌜ cond r (some (rowFrom kind one two)) none ≡ formed kind one two ⌝ }
+// The letter is one of the five, or an A that is let through, and an unused field is 0.
+fn is_formed(choices: bool, kind: u8, one: u8, two: u8) -> bool
+    ensures { λ r. ⌜ cond r (some (rowFrom kind one two)) none ≡ formed choices kind one two ⌝ }
 {
     if kind == b'M' {
         return true;
     }
     if kind == b'P' {
         return true;
+    }
+    if kind == b'A' {
+        return choices;
     }
     if two != 0 {
         return false;

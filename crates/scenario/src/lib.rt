@@ -24,7 +24,15 @@ pub fn scenario_of(
     let mut one = [0u8; model::ROWS_MOST];
     let mut two = [0u8; model::ROWS_MOST];
     let mut start = [0u16; model::SHEETS];
-    let verdict = sheet::read(text, &mut kind, &mut one, &mut two, &mut start, words);
+    let verdict = sheet::read(
+        text,
+        false,
+        &mut kind,
+        &mut one,
+        &mut two,
+        &mut start,
+        words,
+    );
     match verdict {
         Verdict::Refused(number, line) => Expanded::Refused(number, line),
         Verdict::Rows(count) => {

@@ -3,7 +3,7 @@ use Prim.Native.Nat.{ℕ, zero, suc, _*_, _≤_}
 use Prim.Native.Char.{code}
 use native.Mathlib.Omega.{arith}
 use mathlib.Core.Path.{_≡_, refl, sym, _∙_, ap, subst}
-use mathlib.Core.Bool.{Bool, true, false, not, cond}
+use mathlib.Core.Bool.{Bool, true, false, not, cond, _&&_, _||_}
 use mathlib.Core.List.{List, _∷_}
 use mathlib.Core.Option.{Option, none, some}
 use borrow.Author.Tests.{eqb-true}
@@ -39,23 +39,28 @@ verdict-complete f count e = rw e
 -- Calls by the columns, and by the rows: a sheet has a start exactly when it is present.
 module _ (starts present : List ℕ) (agree : (n : ℕ) → isOpen starts n ≡ among n present) where
   stray-row : (k a b i : ℕ) (rs : List Row)
-      → strayCall present i (rowFrom k a b ∷ rs) ≡ cond (isStray k a starts) (some (lineOf i)) (strayCall present (suc i) rs)
+      → strayCall present i (rowFrom k a b ∷ rs) ≡ cond (isStray k a b starts) (some (lineOf i)) (strayCall present (suc i) rs)
   unfolding strayCall rowFrom isStray
-  stray-row k a b i rs = go (eqb k (code "S")) (eqb k (code "M")) (eqb k (code "P")) (eqb k (code "C")) refl refl refl refl
+  stray-row k a b i rs = go (eqb k (code "S")) (eqb k (code "M")) (eqb k (code "P")) (eqb k (code "C")) (eqb k (code "A")) refl refl refl refl refl
     where
-      called : (t : Bool) → cond t (strayCall present (suc i) rs) (some (lineOf i)) ≡ cond (not t) (some (lineOf i)) (strayCall present (suc i) rs)
+      called : (t : Bool) → cond t (strayCall present (suc i) rs) (some (lineOf i)) ≡ cond (not t || false) (some (lineOf i)) (strayCall present (suc i) rs)
       called true = refl
       called false = refl
 
-      go : (s m p c : Bool) → eqb k (code "S") ≡ s → eqb k (code "M") ≡ m → eqb k (code "P") ≡ p → eqb k (code "C") ≡ c
-          → strayCall present i (rowFrom k a b ∷ rs) ≡ cond (isStray k a starts) (some (lineOf i)) (strayCall present (suc i) rs)
-      go true m p c e f g h = rw (eqb-true k (code "S") e)
-      go false true p c e f g h = rw (eqb-true k (code "M") f)
-      go false false true c e f g h = rw (eqb-true k (code "P") g)
-      go false false false true e f g h = rw (eqb-true k (code "C") h, agree a) (called (among a present))
-      go false false false false e f g h = rw (e, f, g, h)
+      chosen : (t : Bool) → cond t (strayCall present (suc i) rs) (some (lineOf i)) ≡ cond (not t) (some (lineOf i)) (strayCall present (suc i) rs)
+      chosen true = refl
+      chosen false = refl
 
-  stray-in : (kind one two : List ℕ) (n i : ℕ) → strayIn kind one starts i n ≡ strayCall present i (rowsAt kind one two i n)
+      go : (s m p c d : Bool) → eqb k (code "S") ≡ s → eqb k (code "M") ≡ m → eqb k (code "P") ≡ p → eqb k (code "C") ≡ c → eqb k (code "A") ≡ d
+          → strayCall present i (rowFrom k a b ∷ rs) ≡ cond (isStray k a b starts) (some (lineOf i)) (strayCall present (suc i) rs)
+      go true m p c d e f g h o = rw (eqb-true k (code "S") e)
+      go false true p c d e f g h o = rw (eqb-true k (code "M") f)
+      go false false true c d e f g h o = rw (eqb-true k (code "P") g)
+      go false false false true d e f g h o = rw (eqb-true k (code "C") h, agree a) (called (among a present))
+      go false false false false true e f g h o = rw (eqb-true k (code "A") o, agree a, agree b) (chosen (among a present && among b present))
+      go false false false false false e f g h o = rw (e, f, g, h, o)
+
+  stray-in : (kind one two : List ℕ) (n i : ℕ) → strayIn kind one two starts i n ≡ strayCall present i (rowsAt kind one two i n)
   unfolding strayIn strayCall rowsAt
   stray-in kind one two zero i = refl
   stray-in kind one two (suc n) i =
@@ -63,7 +68,7 @@ module _ (starts present : List ℕ) (agree : (n : ℕ) → isOpen starts n ≡ 
 
 -- the verdict on the columns is that on their rows
 complete-in : (kind one two starts : List ℕ) (count : ℕ) → ((n : ℕ) → isOpen starts n ≡ among n (opens (rowsOf kind one two count)))
-    → outcomeOf (verdictOn (presenceIn kind one starts count) count) kind one two ≡ complete (rowsOf kind one two count)
+    → outcomeOf (verdictOn (presenceIn kind one two starts count) count) kind one two ≡ complete (rowsOf kind one two count)
 unfolding presenceIn absentAt complete verdictOn
 complete-in kind one two starts count agree =
     rw (stray-in starts (opens (rowsOf kind one two count)) agree kind one two count 0, agree 0)
@@ -77,9 +82,9 @@ complete-in kind one two starts count agree =
     go false o = refl
 
 complete-kept : (kind one two start : List ℕ) (count : ℕ) → (count ≤ rowsMost) × Sized (storeOf kind one two start)
-    → KeptOn (storeOf kind one two start) (verdictOn (presenceIn kind one start count) count)
+    → KeptOn (storeOf kind one two start) (verdictOn (presenceIn kind one two start count) count)
 unfolding presenceIn absentAt verdictOn
-complete-kept kind one two start count h = go (isOpen start 0) (strayIn kind one start 0 count)
+complete-kept kind one two start count h = go (isOpen start 0) (strayIn kind one two start 0 count)
   where
     go : (t : Bool) (o : Option ℕ) → KeptOn (storeOf kind one two start) (verdictOn (cond t (absentAt o) (Absent 0)) count)
     go true none = h
@@ -101,23 +106,23 @@ pub no-rows : {C : Type 0} (o : Out (List Row)) (number line : ℕ) (rs : List R
 no-rows o number line rs e f = let z : _≡_ {A = ℕ} 0 1 = cc in absurd (omega arith)
 
 -- the rows refused, and the rows read and judged as a whole
-module _ (c : Columns) (text : List ℕ) (first : ℕ) (kind one two start words : List ℕ) (long : length words ≡ 2 * messagesMost * width) where
+module _ (choices : Bool) (c : Columns) (text : List ℕ) (first : ℕ) (kind one two start words : List ℕ) (long : length words ≡ 2 * messagesMost * width) where
   abbrev lines : List Line
   lines = linesOf (drop first text)
 
-  pub body-refused : (number line : ℕ) → readFrom c 0 (fresh words) lines ≡ refusal number line → BodyAs c text first (storeOf kind one two start) (Refused number line)
+  pub body-refused : (number line : ℕ) → readFrom choices c 0 (fresh words) lines ≡ refusal number line → BodyAs choices c text first (storeOf kind one two start) (Refused number line)
   unfolding andThen
   body-refused number line e =
-      let o : andThen (rowsFrom c 0 outside lines) complete ≡ refusal number line = rw (rows-refused c lines words long number line e) in
+      let o : andThen (rowsFrom choices c 0 outside lines) complete ≡ refusal number line = rw (rows-refused choices c lines words long number line e) in
       record { outcome = sym o; starts = λ rs h. no-rows _ number line rs o h; kept = tt }
 
-  pub body-complete : (count : ℕ) (r : Verdict) → readFrom c 0 (fresh words) lines ≡ ok (record { rows = rowsOf kind one two count; starts = start })
-      → count ≤ rowsMost → Sized (storeOf kind one two start) → r ≡ verdictOn (presenceIn kind one start count) count → BodyAs c text first (storeOf kind one two start) r
+  pub body-complete : (count : ℕ) (r : Verdict) → readFrom choices c 0 (fresh words) lines ≡ ok (record { rows = rowsOf kind one two count; starts = start })
+      → count ≤ rowsMost → Sized (storeOf kind one two start) → r ≡ verdictOn (presenceIn kind one two start count) count → BodyAs choices c text first (storeOf kind one two start) r
   unfolding andThen
   body-complete count r e few sized h =
-      let o : andThen (rowsFrom c 0 outside lines) complete ≡ complete (rowsOf kind one two count) = rw (rows-read c lines words long _ e) in
+      let o : andThen (rowsFrom choices c 0 outside lines) complete ≡ complete (rowsOf kind one two count) = rw (rows-read choices c lines words long _ e) in
       record {
-        outcome = ap (λ (x : Verdict). outcomeOf x kind one two) h ∙ complete-in kind one two start count (open-same c lines words long _ e) ∙ sym o;
-        starts = λ rs g. starts-same c lines words long _ e ∙ ap startsOf (complete-rows (rowsOf kind one two count) rs (sym o ∙ g));
+        outcome = ap (λ (x : Verdict). outcomeOf x kind one two) h ∙ complete-in kind one two start count (open-same choices c lines words long _ e) ∙ sym o;
+        starts = λ rs g. starts-same choices c lines words long _ e ∙ ap startsOf (complete-rows (rowsOf kind one two count) rs (sym o ∙ g));
         kept = subst (λ (x : Verdict). KeptOn (storeOf kind one two start) x) (sym h) (complete-kept kind one two start count (few, sized));
       }

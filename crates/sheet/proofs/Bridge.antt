@@ -3,14 +3,15 @@ use Prim.Native.Nat.{ℕ, zero, suc, _+_, _-_, _≤_, _<_}
 use native.Mathlib.Nat.{add-zero, sub-zero, suc-sub-suc}
 use native.Mathlib.Omega.{arith}
 use mathlib.Core.Path.{_≡_, refl, sym, _∙_, ap, subst}
+use mathlib.Core.Bool.{Bool}
 use mathlib.Core.List.{List}
 use lib.ListN.{length, getD, drop}
 use Rattle.model.specs.Limits.{sheets, rowsMost}
 use Rattle.model.specs.Refusal.{ok, refusal}
 use Rattle.model.specs.Rows.{Row}
-use Rattle.model.specs.Place.{readOf}
+use Rattle.model.specs.Place.{readWith}
 use Rattle.model.proofs.Closure.{cells-at}
-pub use Rattle.place.proofs.Letters.{row-sheet, row-message, row-order, row-call, row-block}
+pub use Rattle.place.proofs.Letters.{row-sheet, row-message, row-order, row-call, row-choice, row-block}
 use Rattle.sheet.specs.Bridge.{rowsAt, rowsOf, startIn, startsOf, outcomeOf, storeOf, Sized, KeptOn, ReadAs}
 use Rattle.sheet.specs.declared.Verdict.{Verdict}
 use Rattle.sheet.specs.declared.Verdict.the-variants.{Rows, Refused}
@@ -34,12 +35,12 @@ pub start-at : (rs : List Row) (n : ℕ) → n < sheets → getD (startsOf rs) n
 start-at rs n h = cells-at sheets (startIn rs) n 0 h
 
 -- a reading, by its verdict
-module _ (text kind one two start : List ℕ) (v : Verdict) (p : ReadAs text kind one two start v) where
-  pub refused-is : (number line : ℕ) → v ≡ Refused number line → readOf text ≡ refusal number line
+module _ (choices : Bool) (text kind one two start : List ℕ) (v : Verdict) (p : ReadAs choices text kind one two start v) where
+  pub refused-is : (number line : ℕ) → v ≡ Refused number line → readWith choices text ≡ refusal number line
   refused-is number line e = sym (p .outcome) ∙ ap (λ (x : Verdict). outcomeOf x kind one two) e
 
   module _ (count : ℕ) (e : v ≡ Rows count) where
-    pub rows-are : readOf text ≡ ok (rowsOf kind one two count)
+    pub rows-are : readWith choices text ≡ ok (rowsOf kind one two count)
     rows-are = sym (p .outcome) ∙ ap (λ (x : Verdict). outcomeOf x kind one two) e
 
     pub starts-are : start ≡ startsOf (rowsOf kind one two count)

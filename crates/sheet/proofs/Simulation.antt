@@ -14,7 +14,7 @@ use Rattle.model.specs.Limits.{sheets, rowsMost, messagesMost}
 use Rattle.model.specs.Bounded.{among}
 use Rattle.model.specs.Refusal.{Out, ok, refusal, rowRefusal, placeRefusal, circleRefusal}
 use Rattle.model.specs.Text.{Line, Columns}
-use Rattle.model.specs.Rows.{Row, sheet, message, order, block, call, rowOf}
+use Rattle.model.specs.Rows.{Row, sheet, message, order, block, call, choice, rowOf}
 use Rattle.model.specs.Place.{Place, blockNext, outside, withMessage, messageFits, orderFits, moved, isSheet, placed, circleAt, lineOf, judged, rowsFrom, opens}
 use Rattle.model.specs.Expansion.{startOf}
 use Rattle.model.proofs.Bounded.{and-left, and-right, not-both}
@@ -94,6 +94,7 @@ module _ (opened starts events : List ℕ) (orders : List (ℕ × ℕ)) (i : ℕ
     move (order x y) = moves (orderFits events x y) events ((x, y) ∷ orders)
     move block = moves true [] []
     move (call n) = moves (ltb n sheets) [] []
+    move (choice m n) = moves (ltb m sheets && ltb n sheets) [] []
 
   -- a sheet is open exactly behind the first row
   place-first : (r : Row) → eqb (length opened) 0 ≡ true → ltb 0 i ≡ false → Moves (placed here r) (stoodAt i stand r)
@@ -103,6 +104,7 @@ module _ (opened starts events : List ℕ) (orders : List (ℕ × ℕ)) (i : ℕ
   place-first (order x y) e f = rw (e, f) neither
   place-first block e f = rw (e, f) neither
   place-first (call n) e f = rw (e, f) neither
+  place-first (choice m n) e f = rw (e, f) neither
 
   place-later : (r : Row) → eqb (length opened) 0 ≡ false → ltb 0 i ≡ true → Moves (placed here r) (stoodAt i stand r)
   unfolding placed stoodAt
@@ -136,11 +138,11 @@ data Judges : Out (Row × Place) → Out (Row × Reader) → Type 0 where
   refused : (number line : ℕ) → Judges (refusal number line) (refusal number line)
   stands : (r : Row) (p : Place) (s : Reader) → Same p s → (length (p .opened) ≡ 0 → ⊥) → Judges (ok (r, p)) (ok (r, s))
 
-module _ (c : Columns) where
+module _ (choices : Bool) (c : Columns) where
   judge : (i : ℕ) (line : Line) (p : Place) (s : Reader) → Same p s → eqb (length (p .opened)) 0 ≡ eqb i 0
-      → Judges (judged c i p line) (judgedBy c i s line)
+      → Judges (judged choices c i p line) (judgedBy choices c i s line)
   unfolding judged judgedBy
-  judge i line p s h z = form (cond (ltb i rowsMost) (rowOf c line) none)
+  judge i line p s h z = form (cond (ltb i rowsMost) (rowOf choices c line) none)
     where
       behind : (r : Row) (q : Place) (t : Stand) → moved p r ≡ some q → Alike q t → (length (q .opened) ≡ 0 → ⊥) → (b : Bool) → circleAt r q ≡ b
           → Judges (cond b (refusal circleRefusal (lineOf i)) (ok (r, q))) (cond b (refusal circleRefusal (lineOf i)) (ok (r, readerBehind s r t)))
@@ -192,18 +194,18 @@ module _ (c : Columns) where
   ahead-same r (refusal number line) m e = rw e
 
   rows-same : (ls : List Line) (i : ℕ) (p : Place) (s : Reader) → Same p s → eqb (length (p .opened)) 0 ≡ eqb i 0
-      → rowsFrom c i p ls ≡ rowsKept (readFrom c i s ls)
+      → rowsFrom choices c i p ls ≡ rowsKept (readFrom choices c i s ls)
   unfolding rowsFrom readFrom rowsKept
   rows-same [] i p s h z = refl
-  rows-same (line ∷ ls) i p s h z = go (judged c i p line) (judgedBy c i s line) (judge i line p s h z) refl refl (λ q t. rows-same ls (suc i) q t)
+  rows-same (line ∷ ls) i p s h z = go (judged choices c i p line) (judgedBy choices c i s line) (judge i line p s h z) refl refl (λ q t. rows-same ls (suc i) q t)
     where
-      go : (x : Out (Row × Place)) (y : Out (Row × Reader)) → Judges x y → judged c i p line ≡ x → judgedBy c i s line ≡ y
-          → ((q : Place) (t : Reader) → Same q t → eqb (length (q .opened)) 0 ≡ eqb (suc i) 0 → rowsFrom c (suc i) q ls ≡ rowsKept (readFrom c (suc i) t ls))
-          → rowsFrom c i p (line ∷ ls) ≡ rowsKept (readFrom c i s (line ∷ ls))
+      go : (x : Out (Row × Place)) (y : Out (Row × Reader)) → Judges x y → judged choices c i p line ≡ x → judgedBy choices c i s line ≡ y
+          → ((q : Place) (t : Reader) → Same q t → eqb (length (q .opened)) 0 ≡ eqb (suc i) 0 → rowsFrom choices c (suc i) q ls ≡ rowsKept (readFrom choices c (suc i) t ls))
+          → rowsFrom choices c i p (line ∷ ls) ≡ rowsKept (readFrom choices c i s (line ∷ ls))
       go x y (refused number line′) e f rest = rw (e, f, rowsFrom, readFrom)
       go x y (stands r q t a o) e f rest =
           rw (e, f, rowsFrom, readFrom)
-          (ahead-same r (readFrom c (suc i) t ls) (rowsFrom c (suc i) q ls)
+          (ahead-same r (readFrom choices c (suc i) t ls) (rowsFrom choices c (suc i) q ls)
           (rest q t a (ne-eqb (length (q .opened)) 0 o ∙ sym (ne-eqb (suc i) 0 (λ w. omega arith)))))
 
 -- The table behind rows i, i + 1, ..: what it held before, and the start of each sheet that they open.
@@ -253,6 +255,11 @@ module _ (i : ℕ) (starts events : List ℕ) (long : length starts ≡ sheets) 
       go : (t : Bool) → Table (call n) (cond t (some (record { starts = starts; events = [] })) none)
       go true = (kept (call n) refl, long)
       go false = tt
+  tabled (choice m n) = go (ltb m sheets && ltb n sheets)
+    where
+      go : (t : Bool) → Table (choice m n) (cond t (some (record { starts = starts; events = [] })) none)
+      go true = (kept (choice m n) refl, long)
+      go false = tt
 
   tabled-stood : (r : Row) → Table r (stoodAt i (record { starts = starts; events = events }) r)
   unfolding stoodAt Table
@@ -262,10 +269,10 @@ module _ (i : ℕ) (starts events : List ℕ) (long : length starts ≡ sheets) 
       go true q h = h
       go false q h = tt
 
-  tabled-judged : (c : Columns) (words : List ℕ) (line : Line)
-      → Stood i starts (judgedBy c i (record { stand = record { starts = starts; events = events }; words = words }) line)
+  tabled-judged : (choices : Bool) (c : Columns) (words : List ℕ) (line : Line)
+      → Stood i starts (judgedBy choices c i (record { stand = record { starts = starts; events = events }; words = words }) line)
   unfolding judgedBy Table Stood
-  tabled-judged c words line = form (cond (ltb i rowsMost) (rowOf c line) none)
+  tabled-judged choices c words line = form (cond (ltb i rowsMost) (rowOf choices c line) none)
     where
       reader : Reader
       reader = record { stand = record { starts = starts; events = events }; words = words }
@@ -324,6 +331,7 @@ module _ (i : ℕ) (starts : List ℕ) (rs : List Row) (m : ℕ) where
   after-kept (order x y) e = rw (one-more (startOf m rs))
   after-kept block e = rw (one-more (startOf m rs))
   after-kept (call n) e = rw (one-more (startOf m rs))
+  after-kept (choice k n) e = rw (one-more (startOf m rs))
 
   after-opened : (n : ℕ) → n < length starts → isOpen starts n ≡ false
       → startAfter (suc i) (set starts n (i + 1)) rs m ≡ startAfter i starts (sheet n ∷ rs) m
@@ -353,19 +361,19 @@ nothing-more i starts n = go (isOpen starts n) refl
     go true e = refl
     go false e = unopened starts n e
 
-finals : (c : Columns) (ls : List Line) (i : ℕ) (s : Reader) → length (s .stand .starts) ≡ sheets → Finals i (s .stand .starts) (readFrom c i s ls)
+finals : (choices : Bool) (c : Columns) (ls : List Line) (i : ℕ) (s : Reader) → length (s .stand .starts) ≡ sheets → Finals i (s .stand .starts) (readFrom choices c i s ls)
 unfolding readFrom Finals Stood
-finals c [] i s l = (l, λ n. nothing-more i (s .stand .starts) n)
-finals c (line ∷ ls) i s l =
-    go (judgedBy c i s line) (tabled-judged i (s .stand .starts) (s .stand .events) l c (s .words) line) refl (λ t. finals c ls (suc i) t)
+finals choices c [] i s l = (l, λ n. nothing-more i (s .stand .starts) n)
+finals choices c (line ∷ ls) i s l =
+    go (judgedBy choices c i s line) (tabled-judged i (s .stand .starts) (s .stand .events) l choices c (s .words) line) refl (λ t. finals choices c ls (suc i) t)
   where
-    go : (x : Out (Row × Reader)) → Stood i (s .stand .starts) x → judgedBy c i s line ≡ x
-        → ((t : Reader) → length (t .stand .starts) ≡ sheets → Finals (suc i) (t .stand .starts) (readFrom c (suc i) t ls))
-        → Finals i (s .stand .starts) (readFrom c i s (line ∷ ls))
+    go : (x : Out (Row × Reader)) → Stood i (s .stand .starts) x → judgedBy choices c i s line ≡ x
+        → ((t : Reader) → length (t .stand .starts) ≡ sheets → Finals (suc i) (t .stand .starts) (readFrom choices c (suc i) t ls))
+        → Finals i (s .stand .starts) (readFrom choices c i s (line ∷ ls))
     go (refusal number line′) t e rest = rw (e, readFrom) tt
     go (ok rq) t e rest =
         rw (e, readFrom)
-        (finals-ahead i (s .stand .starts) (rq .1 .stand .starts) (rq .0) (readFrom c (suc i) (rq .1) ls) (t .0) (rest (rq .1) (t .1)))
+        (finals-ahead i (s .stand .starts) (rq .1 .stand .starts) (rq .0) (readFrom choices c (suc i) (rq .1) ls) (t .0) (rest (rq .1) (t .1)))
 
 -- the table of the whole file
 fresh-open : (n : ℕ) → isOpen (replicate sheets 0) n ≡ false
@@ -402,6 +410,7 @@ module _ (k : Kept) (f : Finals 0 (replicate sheets 0) (ok k)) where
   some-start (order x y ∷ rs) n h e = omega arith
   some-start (block ∷ rs) n h e = omega arith
   some-start (call m ∷ rs) n h e = omega arith
+  some-start (choice j m ∷ rs) n h e = omega arith
 
   open-is : (n : ℕ) → isOpen (k .starts) n ≡ among n (opens (k .rows))
   unfolding isOpen startIn
@@ -416,10 +425,10 @@ unfolding among
 empty n = refl
 
 -- what the twin reads is what the model reads, and its table has the starts of the sheets that the rows open
-module _ (c : Columns) (ls : List Line) (words : List ℕ) (long : length words ≡ 2 * messagesMost * width) where
-  same-rows : rowsFrom c 0 outside ls ≡ rowsKept (readFrom c 0 (fresh words) ls)
+module _ (choices : Bool) (c : Columns) (ls : List Line) (words : List ℕ) (long : length words ≡ 2 * messagesMost * width) where
+  same-rows : rowsFrom choices c 0 outside ls ≡ rowsKept (readFrom choices c 0 (fresh words) ls)
   same-rows =
-      rows-same c ls 0 outside (fresh words)
+      rows-same choices c ls 0 outside (fresh words)
       (record {
         alike = record { agree = λ n. fresh-open n ∙ empty n; long = length-replicate {A = ℕ} sheets 0; events = refl };
         ordered = ordered-empty;
@@ -427,17 +436,17 @@ module _ (c : Columns) (ls : List Line) (words : List ℕ) (long : length words 
       })
       refl
 
-  pub rows-refused : (number line : ℕ) → readFrom c 0 (fresh words) ls ≡ refusal number line → rowsFrom c 0 outside ls ≡ refusal number line
+  pub rows-refused : (number line : ℕ) → readFrom choices c 0 (fresh words) ls ≡ refusal number line → rowsFrom choices c 0 outside ls ≡ refusal number line
   unfolding rowsKept
   rows-refused number line e = same-rows ∙ ap rowsKept e
 
-  module _ (k : Kept) (e : readFrom c 0 (fresh words) ls ≡ ok k) where
-    pub rows-read : rowsFrom c 0 outside ls ≡ ok (k .rows)
+  module _ (k : Kept) (e : readFrom choices c 0 (fresh words) ls ≡ ok k) where
+    pub rows-read : rowsFrom choices c 0 outside ls ≡ ok (k .rows)
     unfolding rowsKept
     rows-read = same-rows ∙ ap rowsKept e
 
     finals-of : Finals 0 (replicate sheets 0) (ok k)
-    finals-of = subst (λ (o : Out Kept). Finals 0 (replicate sheets 0) o) e (finals c ls 0 (fresh words) (length-replicate {A = ℕ} sheets 0))
+    finals-of = subst (λ (o : Out Kept). Finals 0 (replicate sheets 0) o) e (finals choices c ls 0 (fresh words) (length-replicate {A = ℕ} sheets 0))
 
     pub starts-same : k .starts ≡ startsOf (k .rows)
     starts-same = starts-of k finals-of

@@ -4,6 +4,7 @@ use native.Mathlib.Nat.{add-zero, zero-add}
 use native.Mathlib.Numerals.{add-one}
 use native.Mathlib.Omega.{arith}
 use mathlib.Core.Path.{_≡_, refl, sym, _∙_, ap, subst}
+use mathlib.Core.Bool.{Bool}
 use mathlib.Core.List.{List, [], _∷_, _++_}
 use lib.ListN.{length, getD, drop, set, replicate, length-set, length-replicate, drop-of-length-le}
 use lib.Seq.{getD-set-same, getD-set-other}
@@ -71,18 +72,18 @@ ahead-all [] starts = refl
 ahead-all (r ∷ rs) starts = ap (aheadOf r) (ahead-all rs starts)
 
 -- one row judged, and the others behind it
-read-ok : (c : Columns) (i : ℕ) (s : Reader) (l : Line) (ls : List Line) (r : Row) (q : Reader) → ok (r, q) ≡ judgedBy c i s l
-    → readFrom c i s (l ∷ ls) ≡ aheadOf r (readFrom c (suc i) q ls)
+read-ok : (choices : Bool) (c : Columns) (i : ℕ) (s : Reader) (l : Line) (ls : List Line) (r : Row) (q : Reader) → ok (r, q) ≡ judgedBy choices c i s l
+    → readFrom choices c i s (l ∷ ls) ≡ aheadOf r (readFrom choices c (suc i) q ls)
 unfolding readFrom
-read-ok c i s l ls r q e = rw (← e, readFrom)
+read-ok choices c i s l ls r q e = rw (← e, readFrom)
 
-read-refused : (c : Columns) (i : ℕ) (s : Reader) (l : Line) (ls : List Line) (number line′ : ℕ) → refusal number line′ ≡ judgedBy c i s l
-    → readFrom c i s (l ∷ ls) ≡ refusal number line′
+read-refused : (choices : Bool) (c : Columns) (i : ℕ) (s : Reader) (l : Line) (ls : List Line) (number line′ : ℕ) → refusal number line′ ≡ judgedBy choices c i s l
+    → readFrom choices c i s (l ∷ ls) ≡ refusal number line′
 unfolding readFrom
-read-refused c i s l ls number line′ e = rw (← e, readFrom)
+read-refused choices c i s l ls number line′ e = rw (← e, readFrom)
 
 -- the loop over the rows: those read, and what the reader holds; it began with the words lent
-pub record Looping (c : Columns) (text : List ℕ) (first at row messages : ℕ) (kind one two start boards lent words : List ℕ) : Type 0 where
+pub record Looping (choices : Bool) (c : Columns) (text : List ℕ) (first at row messages : ℕ) (kind one two start boards lent words : List ℕ) : Type 0 where
   pub inside : at ≤ length text
   pub few : messages ≤ messagesMost
   pub count : row ≤ rowsMost
@@ -90,14 +91,14 @@ pub record Looping (c : Columns) (text : List ℕ) (first at row messages : ℕ)
   pub allBoards : length boards ≡ 2 * messagesMost
   pub allLent : length lent ≡ 2 * messagesMost * width
   pub allWords : length words ≡ 2 * messagesMost * width
-  pub read : readFrom c 0 (fresh lent) (linesOf (drop first text))
-      ≡ aheadAll (rowsOf kind one two row) (readFrom c row (readerOf start boards messages words) (linesOf (drop at text)))
+  pub read : readFrom choices c 0 (fresh lent) (linesOf (drop first text))
+      ≡ aheadAll (rowsOf kind one two row) (readFrom choices c row (readerOf start boards messages words) (linesOf (drop at text)))
 
-pub loop-begin : (c : Columns) (text : List ℕ) (first : ℕ) (kind one two start words : List ℕ) → first ≤ length text → Sized (storeOf kind one two start)
+pub loop-begin : (choices : Bool) (c : Columns) (text : List ℕ) (first : ℕ) (kind one two start words : List ℕ) → first ≤ length text → Sized (storeOf kind one two start)
     → length words ≡ 2 * messagesMost * width
-    → Looping c text first first 0 0 kind one two (replicate sheets 0) (replicate (2 * messagesMost) 0) words words
+    → Looping choices c text first first 0 0 kind one two (replicate sheets 0) (replicate (2 * messagesMost) 0) words words
 unfolding aheadAll rowsAt
-loop-begin c text first kind one two start words h z l =
+loop-begin choices c text first kind one two start words h z l =
     record {
       inside = h;
       few = omega arith;
@@ -109,25 +110,25 @@ loop-begin c text first kind one two start words h z l =
       read = refl;
     }
 
-module _ (c : Columns) (text : List ℕ) (first at row messages : ℕ) (kind one two start boards lent words start′ boards′ words′ : List ℕ) (r : Step)
-    (p : StepAs c text at row (readerOf start boards messages words) start′ boards′ words′ r)
-    (v : Looping c text first at row messages kind one two start boards lent words) (h : at < length text) where
+module _ (choices : Bool) (c : Columns) (text : List ℕ) (first at row messages : ℕ) (kind one two start boards lent words start′ boards′ words′ : List ℕ) (r : Step)
+    (p : StepAs choices c text at row (readerOf start boards messages words) start′ boards′ words′ r)
+    (v : Looping choices c text first at row messages kind one two start boards lent words) (h : at < length text) where
   -- what is read, with the line at the position ahead of the others
-  read-line : readFrom c 0 (fresh lent) (linesOf (drop first text))
-      ≡ aheadAll (rowsOf kind one two row) (readFrom c row (readerOf start boards messages words) (firstLine (drop at text) ∷ linesOf (behindLine (drop at text))))
-  read-line = v .read ∙ ap (λ (ls : List Line). aheadAll (rowsOf kind one two row) (readFrom c row (readerOf start boards messages words) ls)) (lines-at text at h)
+  read-line : readFrom choices c 0 (fresh lent) (linesOf (drop first text))
+      ≡ aheadAll (rowsOf kind one two row) (readFrom choices c row (readerOf start boards messages words) (firstLine (drop at text) ∷ linesOf (behindLine (drop at text))))
+  read-line = v .read ∙ ap (λ (ls : List Line). aheadAll (rowsOf kind one two row) (readFrom choices c row (readerOf start boards messages words) ls)) (lines-at text at h)
 
-  pub loop-refused : (number : ℕ) → r ≡ step.Refused number → BodyAs c text first (storeOf kind one two start′) (verdict.Refused number (row + 2))
+  pub loop-refused : (number : ℕ) → r ≡ step.Refused number → BodyAs choices c text first (storeOf kind one two start′) (verdict.Refused number (row + 2))
   loop-refused number e =
-      let p′ : StepAs c text at row (readerOf start boards messages words) start′ boards′ words′ (step.Refused number) =
-      subst (λ (x : Step). StepAs c text at row (readerOf start boards messages words) start′ boards′ words′ x) e p in
-      body-refused c text first kind one two start′ lent (v .allLent) number (lineOf row)
-      (read-line ∙ ap (aheadAll (rowsOf kind one two row)) (read-refused c row _ _ _ number (lineOf row) (p′ .step))
+      let p′ : StepAs choices c text at row (readerOf start boards messages words) start′ boards′ words′ (step.Refused number) =
+      subst (λ (x : Step). StepAs choices c text at row (readerOf start boards messages words) start′ boards′ words′ x) e p in
+      body-refused choices c text first kind one two start′ lent (v .allLent) number (lineOf row)
+      (read-line ∙ ap (aheadAll (rowsOf kind one two row)) (read-refused choices c row _ _ _ number (lineOf row) (p′ .step))
       ∙ ahead-refused (rowsOf kind one two row) number (lineOf row))
 
   module _ (k a b next after : ℕ) (e : r ≡ step.Row k a b next after) where
-    stepped : StepAs c text at row (readerOf start boards messages words) start′ boards′ words′ (step.Row k a b next after)
-    stepped = subst (λ (x : Step). StepAs c text at row (readerOf start boards messages words) start′ boards′ words′ x) e p
+    stepped : StepAs choices c text at row (readerOf start boards messages words) start′ boards′ words′ (step.Row k a b next after)
+    stepped = subst (λ (x : Step). StepAs choices c text at row (readerOf start boards messages words) start′ boards′ words′ x) e p
 
     pub loop-room : row < rowsMost
     loop-room = stepped .on .room
@@ -146,13 +147,13 @@ module _ (c : Columns) (text : List ℕ) (first at row messages : ℕ) (kind one
           getD-set-same two row b 0 (omega (arith, loop-room, v .sized .two)),
         )
 
-    pub loop-more : Looping c text first next (row + 1) after (set kind row k) (set one row a) (set two row b) start′ boards′ lent words′
+    pub loop-more : Looping choices c text first next (row + 1) after (set kind row k) (set one row a) (set two row b) start′ boards′ lent words′
     loop-more =
         let on = stepped .on in
-        let rest : Out Kept = readFrom c (suc row) (readerOf start′ boards′ after words′) (linesOf (drop next text)) in
-        let new : readFrom c row (readerOf start boards messages words) (firstLine (drop at text) ∷ linesOf (behindLine (drop at text))) ≡ aheadOf (rowFrom k a b) rest =
-        read-ok c row _ _ _ (rowFrom k a b) (readerOf start′ boards′ after words′) (stepped .step)
-        ∙ ap (λ (l : List ℕ). aheadOf (rowFrom k a b) (readFrom c (suc row) (readerOf start′ boards′ after words′) (linesOf l))) (sym (on .onward .behind)) in
+        let rest : Out Kept = readFrom choices c (suc row) (readerOf start′ boards′ after words′) (linesOf (drop next text)) in
+        let new : readFrom choices c row (readerOf start boards messages words) (firstLine (drop at text) ∷ linesOf (behindLine (drop at text))) ≡ aheadOf (rowFrom k a b) rest =
+        read-ok choices c row _ _ _ (rowFrom k a b) (readerOf start′ boards′ after words′) (stepped .step)
+        ∙ ap (λ (l : List ℕ). aheadOf (rowFrom k a b) (readFrom choices c (suc row) (readerOf start′ boards′ after words′) (linesOf l))) (sym (on .onward .behind)) in
         record {
           inside = on .onward .inside;
           few = on .few;
@@ -170,13 +171,13 @@ module _ (c : Columns) (text : List ℕ) (first at row messages : ℕ) (kind one
               ∙ ap (λ (l : List Row). aheadAll l rest) (sym rows-more));
         }
 
-pub loop-done : (c : Columns) (text : List ℕ) (first at row messages : ℕ) (kind one two start boards lent words : List ℕ) (f : Presence) (r : Verdict)
-    → Looping c text first at row messages kind one two start boards lent words → length text ≤ at → f ≡ presenceIn kind one start row → r ≡ verdictOn f row
-    → BodyAs c text first (storeOf kind one two start) r
+pub loop-done : (choices : Bool) (c : Columns) (text : List ℕ) (first at row messages : ℕ) (kind one two start boards lent words : List ℕ) (f : Presence) (r : Verdict)
+    → Looping choices c text first at row messages kind one two start boards lent words → length text ≤ at → f ≡ presenceIn kind one two start row → r ≡ verdictOn f row
+    → BodyAs choices c text first (storeOf kind one two start) r
 unfolding readFrom linesOf
-loop-done c text first at row messages kind one two start boards lent words f r v h g e =
+loop-done choices c text first at row messages kind one two start boards lent words f r v h g e =
     let d : drop at text ≡ [] = drop-of-length-le text h in
-    body-complete c text first kind one two start lent (v .allLent) row r
-    (v .read ∙ ap (λ (l : List ℕ). aheadAll (rowsOf kind one two row) (readFrom c row (readerOf start boards messages words) (linesOf l))) d
+    body-complete choices c text first kind one two start lent (v .allLent) row r
+    (v .read ∙ ap (λ (l : List ℕ). aheadAll (rowsOf kind one two row) (readFrom choices c row (readerOf start boards messages words) (linesOf l))) d
     ∙ ahead-all (rowsOf kind one two row) start)
     (v .count) (v .sized) (e ∙ ap (λ (x : Presence). verdictOn x row) g)

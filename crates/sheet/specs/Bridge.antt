@@ -2,14 +2,14 @@
 -- Assumes nothing.
 use Prim.Native.Nat.{ℕ, zero, suc, _≤_}
 use mathlib.Core.Path.{_≡_}
-use mathlib.Core.Bool.{cond}
+use mathlib.Core.Bool.{Bool, cond}
 use mathlib.Core.List.{List, [], _∷_}
 use lib.ListN.{length, getD}
 use Rattle.model.specs.Limits.{sheets, rowsMost}
 use Rattle.model.specs.Bounded.{among}
 use Rattle.model.specs.Refusal.{Out, ok, refusal}
 use Rattle.model.specs.Rows.{Row}
-use Rattle.model.specs.Place.{opens, readOf}
+use Rattle.model.specs.Place.{opens, readWith}
 use Rattle.model.specs.Expansion.{startOf}
 use Rattle.model.specs.Closure.{cells}
 unfoldable pub use Rattle.place.specs.Letters.{rowFrom}
@@ -57,8 +57,8 @@ abbrev pub KeptOn : Store → Verdict → Type 0
 KeptOn s (Rows count) = (count ≤ rowsMost) × Sized s
 KeptOn s (Refused number line) = Unit {0}
 
--- The verdict is the paper's, and where there are rows the table has the start of each sheet.
-pub record ReadAs (text kind one two start : List ℕ) (v : Verdict) : Type 0 where
-  pub outcome : outcomeOf v kind one two ≡ readOf text
-  pub starts : (rs : List Row) → readOf text ≡ ok rs → start ≡ startsOf rs
+-- The verdict is the paper's, with or without A rows let through, and where there are rows the table has the start of each sheet.
+pub record ReadAs (choices : Bool) (text kind one two start : List ℕ) (v : Verdict) : Type 0 where
+  pub outcome : outcomeOf v kind one two ≡ readWith choices text
+  pub starts : (rs : List Row) → readWith choices text ≡ ok rs → start ≡ startsOf rs
   pub kept : KeptOn (storeOf kind one two start) v

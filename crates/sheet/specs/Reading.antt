@@ -2,6 +2,7 @@
 -- open block's P rows.
 -- Assumes nothing.
 use Prim.Native.Nat.{ℕ, suc}
+use mathlib.Core.Bool.{Bool}
 use mathlib.Core.List.{List, [], _∷_}
 use lib.ListN.{replicate}
 use Rattle.model.specs.Limits.{sheets}
@@ -20,10 +21,10 @@ aheadOf r (ok k) = ok (record { rows = r ∷ k .rows; starts = k .starts })
 aheadOf r (refusal number line) = refusal number line
 
 -- the rows, read one by one; i is the number of the first
-unfoldable pub readFrom : Columns → ℕ → Reader → List Line → Out Kept
-readFrom c i s [] = ok (record { rows = []; starts = s .stand .starts })
-readFrom c i s (l ∷ ls) =
-    elim (judgedBy c i s l) [ refusal number line ↦ refusal number line | ok rq ↦ aheadOf (rq .0) (readFrom c (suc i) (rq .1) ls) ]
+unfoldable pub readFrom : Bool → Columns → ℕ → Reader → List Line → Out Kept
+readFrom choices c i s [] = ok (record { rows = []; starts = s .stand .starts })
+readFrom choices c i s (l ∷ ls) =
+    elim (judgedBy choices c i s l) [ refusal number line ↦ refusal number line | ok rq ↦ aheadOf (rq .0) (readFrom choices c (suc i) (rq .1) ls) ]
 
 -- a table with no sheet, ahead of the first row, and words of any content
 abbrev pub fresh : List ℕ → Reader

@@ -2,6 +2,7 @@
 -- Assumes nothing.
 use Prim.Native.Nat.{ℕ}
 use mathlib.Core.Path.{_≡_}
+use mathlib.Core.Bool.{Bool}
 use mathlib.Core.List.{List}
 use lib.ListN.{drop}
 use Rattle.model.specs.Refusal.{ok, andThen, absentRefusal}
@@ -20,7 +21,7 @@ verdictOn Complete count = verdict.Rows count
 verdictOn (Absent line) count = verdict.Refused absentRefusal line
 
 -- the rows behind the heading, complete
-pub record BodyAs (c : Columns) (text : List ℕ) (first : ℕ) (s : Store) (v : Verdict) : Type 0 where
-  pub outcome : outcomeOf v (s .kind) (s .one) (s .two) ≡ andThen (rowsFrom c 0 outside (linesOf (drop first text))) complete
-  pub starts : (rs : List Row) → andThen (rowsFrom c 0 outside (linesOf (drop first text))) complete ≡ ok rs → s .start ≡ startsOf rs
+pub record BodyAs (choices : Bool) (c : Columns) (text : List ℕ) (first : ℕ) (s : Store) (v : Verdict) : Type 0 where
+  pub outcome : outcomeOf v (s .kind) (s .one) (s .two) ≡ andThen (rowsFrom choices c 0 outside (linesOf (drop first text))) complete
+  pub starts : (rs : List Row) → andThen (rowsFrom choices c 0 outside (linesOf (drop first text))) complete ≡ ok rs → s .start ≡ startsOf rs
   pub kept : KeptOn s v

@@ -21,11 +21,12 @@ pub enum Verdict {
     Refused(u8, usize),
 }
 
-// Reads a text into three columns of `Rows(count)` rows, and notes at `start[n]` the number of the row behind `S n` (0: no sheet n).
+// Reads a text, with or without A rows let through, into three columns of `Rows(count)` rows, and notes at `start[n]` the number of the row behind `S n` (0: no sheet n).
 // Of the columns only these rows are written, so what they are lent with does not matter but for their lengths. The words hold the open
 // block's order while it is read; what they hold at first does not matter, and nothing is said of what is left in them.
 pub fn read(
     text: &[u8],
+    choices: bool,
     kind: &mut [u8; ROWS_MOST],
     one: &mut [u8; ROWS_MOST],
     two: &mut [u8; ROWS_MOST],
@@ -33,7 +34,7 @@ pub fn read(
     words: &mut [u64],
 ) -> Verdict
     requires { ⌜ Sized (storeOf (now kind) (now one) (now two) (now start)) × (length (now words) ≡ 2 * messagesMost * width) ⌝ }
-    ensures { λ r. ⌜ ReadAs (now (text .entry)) (now (kind .exit)) (now (one .exit)) (now (two .exit)) (now (start .exit)) r ⌝ }
+    ensures { λ r. ⌜ ReadAs choices (now (text .entry)) (now (kind .exit)) (now (one .exit)) (now (two .exit)) (now (start .exit)) r ⌝ }
 {
     if text.len() == 0 {
         return Verdict::Refused(model::LENGTH, 0);
@@ -44,13 +45,14 @@ pub fn read(
     let Heading::Named(columns, first) = heading::heading_of(text) else {
         return Verdict::Refused(model::HEADING, 1);
     };
-    rows(text, first, columns, kind, one, two, start, words)
+    rows(text, first, choices, columns, kind, one, two, start, words)
 }
 
 // All rows from `first` on, which is behind the heading.
 fn rows(
     text: &[u8],
     first: usize,
+    choices: bool,
     columns: Columns,
     kind: &mut [u8; ROWS_MOST],
     one: &mut [u8; ROWS_MOST],
@@ -59,7 +61,7 @@ fn rows(
     words: &mut [u64],
 ) -> Verdict
     requires { ⌜ (first ≤ length (now text)) × Below columns × Sized (storeOf (now kind) (now one) (now two) (now start)) × (length (now words) ≡ 2 * messagesMost * width) ⌝ }
-    ensures { λ r. ⌜ BodyAs (columnsFrom columns) (now (text .entry)) first (storeOf (now (kind .exit)) (now (one .exit)) (now (two .exit)) (now (start .exit))) r ⌝ }
+    ensures { λ r. ⌜ BodyAs choices (columnsFrom columns) (now (text .entry)) first (storeOf (now (kind .exit)) (now (one .exit)) (now (two .exit)) (now (start .exit))) r ⌝ }
 {
     *start = [0u16; SHEETS];
     let mut boards = [0u8; EVENTS_MOST];
@@ -67,7 +69,17 @@ fn rows(
     let mut row = 0;
     let mut messages = 0;
     while at < text.len() {
-        let s = row::take_row(text, at, row, messages, columns, start, &mut boards, words);
+        let s = row::take_row(
+            text,
+            at,
+            row,
+            messages,
+            choices,
+            columns,
+            start,
+            &mut boards,
+            words,
+        );
         match s {
             Step::Refused(number) => {
                 return Verdict::Refused(number, row + 2);
@@ -82,7 +94,7 @@ fn rows(
             }
         }
     }
-    verdict_on(presence::complete(row, kind, one, start), row)
+    verdict_on(presence::complete(row, kind, one, two, start), row)
 }
 
 // The verdict on so many rows, by whether every sheet that they need is there.

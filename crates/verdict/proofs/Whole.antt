@@ -1,5 +1,5 @@
 -- The whole promise, from what the parts of the check hand on. Assumes nothing.
-use mathlib.Core.Path.{_≡_, refl, sym, _∙_, ap, subst⁻¹}
+use mathlib.Core.Path.{_≡_, refl, _∙_}
 use mathlib.Core.Bool.{or-true}
 use mathlib.Core.List.{List, _++_}
 use Prim.Native.Nat.{ℕ, _<_, _≤_}
@@ -8,36 +8,14 @@ use borrow.Author.Tests.{lt-ltb, le-ltb, le-leb}
 use lib.Dec.{ltb}
 use lib.ListN.{length, drop}
 use Rattle.model.specs.Limits.{channels, scratchLeast, traceLeast}
-use Rattle.model.specs.Refusal.{Out, refusal, channelRefusal, benchRefusal}
-use Rattle.model.specs.Order.{Scenario}
-use Rattle.model.specs.Answer.{Numbers, refusedWord, sheetOf, acceptedOf, answerFor, answerOf, numbersOf, scratchBehind, traceAfter}
-use Rattle.model.specs.Verdict.{PointThree, Checked}
-use Rattle.model.proofs.Accepted.{accepted-parts, sheet-meets}
-use Rattle.model.proofs.PointThree.{point-three}
+use Rattle.model.specs.Refusal.{refusal, channelRefusal, benchRefusal}
+use Rattle.model.specs.Answer.{refusedWord, sheetOf, acceptedOf, answerFor, scratchBehind, traceAfter}
+use Rattle.model.specs.Verdict.{Checked}
+use Rattle.model.proofs.PointThree.{checked-from}
 use Rattle.relation.specs.Rows.{cleared}
 use Rattle.scenario.proofs.Laws.{scratch-behind}
 use Rattle.verdict.specs.declared.Answer.{Answer}
 use Rattle.verdict.specs.Parts.{numbersFor, Decides}
-
--- What is answered, and left in the buffers, as the model says of the sheet accepted or refused: then point 3 holds of it.
-checked-from : (text : List ℕ) (code : ℕ) (scratch scratchExit trace traceExit : List ℕ) (r : Numbers) (o : Out Scenario)
-    → acceptedOf text code (length scratch) (length trace) ≡ o → r ≡ numbersOf (answerFor o code) → scratchExit ≡ scratchBehind o scratch
-    → traceExit ≡ traceAfter (answerFor o code) trace → Checked text code scratch scratchExit trace traceExit r
-unfolding answerOf
-checked-from text code scratch scratchExit trace traceExit r o e i s t =
-    let answered : r ≡ numbersOf (answerOf text code (length scratch) (length trace)) = i ∙ ap (λ p. numbersOf (answerFor p code)) (sym e) in
-    let written : traceExit ≡ traceAfter (answerOf text code (length scratch) (length trace)) trace =
-    t ∙ ap (λ p. traceAfter (answerFor p code) trace) (sym e) in
-    record {
-      answer = answered;
-      scratchLeft = s ∙ ap (λ p. scratchBehind p scratch) (sym e);
-      traceLeft = written;
-      causalOrder = λ S h. sheet-meets text S (accepted-parts text code (length scratch) (length trace) S h .sheet);
-      pointThree =
-          subst⁻¹ (λ (n : Numbers). PointThree text code (length scratch) (length trace) n traceExit) answered
-          (subst⁻¹ (λ (l : List ℕ). PointThree text code (length scratch) (length trace) (numbersOf (answerOf text code (length scratch) (length trace))) l)
-          written (point-three text code (length scratch) trace));
-    }
 
 -- What each return of `check` is to show: refusal 1 for a code above 5, refusal 2 for a short buffer, else what the sheet decides.
 module _ (text : List ℕ) (code : ℕ) (scratch trace : List ℕ) where

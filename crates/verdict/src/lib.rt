@@ -43,7 +43,7 @@ fn lock(
 }
 
 // An accepted sheet is locked exactly if its causal order has a race of the channel's kind.
-fn decide(words: &[u64], boards: &[u8], count: usize, code: usize, trace: &mut [u8]) -> Answer
+pub fn decide(words: &[u64], boards: &[u8], count: usize, code: usize, trace: &mut [u8]) -> Answer
     requires { ⌜ Fit count (now boards) (now words) ⌝ }
     requires { ⌜ (code < channels) × (traceLeast ≤ length (now trace)) ⌝ }
     ensures { λ r. ⌜ Decides (ok (scenarioIn count (now (boards .entry)) (now (words .entry)))) code (now (trace .entry)) (now (trace .exit)) r ⌝ }

@@ -14,7 +14,7 @@ use borrow.Author.Tests.{eq-eqb, ne-eqb, eqb-true, lt-ltb, le-ltb, ltb-true}
 use Rattle.model.proofs.Bounded.{and-left, and-right, or-cases, or-left, or-right}
 use Rattle.model.specs.Limits.{boards, messagesMost}
 use Rattle.model.specs.Refusal.{Out, ok, refusal, messagesRefusal}
-use Rattle.model.specs.Rows.{Row, sheet, message, order, block, call}
+use Rattle.model.specs.Rows.{Row, sheet, message, order, block, call, choice}
 use Rattle.model.specs.Place.{lineOf}
 use Rattle.model.specs.Expansion.{Progress, blockOpened, messageMet, orderMet}
 use Rattle.relation.specs.Width.{width}
@@ -116,15 +116,16 @@ module _ (rs : List Row) (i : ℕ) (s : Progress Store) where
 
   other-ends : (letter one two : ℕ) → (eqb letter 77 || eqb letter 80) ≡ false → blockWalked (rowFrom letter one two ∷ rs) i s ≡ ok (i, blockOpened storeOps s)
   unfolding blockWalked rowFrom
-  other-ends letter one two n = go (eqb letter 83) (eqb letter 77) (eqb letter 80) (eqb letter 67) n
+  other-ends letter one two n = go (eqb letter 83) (eqb letter 77) (eqb letter 80) (eqb letter 67) (eqb letter 65) n
     where
-      go : (b m p d : Bool) → (m || p) ≡ false
-          → blockWalked (cond b (sheet one) (cond m (message one two) (cond p (order one two) (cond d (call one) block))) ∷ rs) i s ≡ ok (i, blockOpened storeOps s)
-      go true m p d n = refl
-      go false true p d n = absurd (true≢false n)
-      go false false true d n = absurd (true≢false n)
-      go false false false true n = refl
-      go false false false false n = refl
+      go : (b m p d c : Bool) → (m || p) ≡ false
+          → blockWalked (cond b (sheet one) (cond m (message one two) (cond p (order one two) (cond d (call one) (cond c (choice one two) block)))) ∷ rs) i s ≡ ok (i, blockOpened storeOps s)
+      go true m p d c n = refl
+      go false true p d c n = absurd (true≢false n)
+      go false false true d c n = absurd (true≢false n)
+      go false false false true c n = refl
+      go false false false false true n = refl
+      go false false false false false n = refl
 
 module _ (kind one two : List ℕ) (count row : ℕ) (w₀ : Walk) (t₀ : Store) where
   abbrev whole : Out (ℕ × Progress Store)
@@ -132,7 +133,7 @@ module _ (kind one two : List ℕ) (count row : ℕ) (w₀ : Walk) (t₀ : Store
 
   -- the walk with so many messages met
   abbrev at-met : ℕ → Walk
-  at-met met = record { calls = w₀ .calls; first = w₀ .first; count = met }
+  at-met met = record { calls = w₀ .calls; choices = w₀ .choices; first = w₀ .first; count = met }
 
   -- the rows from row i on, met from here, give what the rows from the first on give
   pub record Meeting (i met : ℕ) (t : Store) : Type 0 where
@@ -247,7 +248,7 @@ module _ (kind one two : List ℕ) (count row : ℕ) (w₀ : Walk) (t₀ : Store
           go (no n) = rw (rows-end kind one two count i (omega arith))
 
       pub meeting-end : (past′ : List ℕ) → past′ ≡ passed width past events words (2 * w₀ .first) (2 * met)
-          → Leaves (To i (record { calls = w₀ .calls; first = met; count = met })) (storeOf events words past′) whole
+          → Leaves (To i (record { calls = w₀ .calls; choices = w₀ .choices; first = met; count = met })) (storeOf events words past′) whole
       unfolding blockOpened storeOps
       meeting-end past′ f =
           let room = j .ready .room in

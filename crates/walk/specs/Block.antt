@@ -9,7 +9,7 @@ use lib.Dec.{eqb, ltb}
 use lib.ListN.{length, getD}
 use Rattle.model.specs.Limits.{boards, messagesMost, rowsMost}
 use Rattle.model.specs.Refusal.{Out, ok, refusal, messagesRefusal}
-use Rattle.model.specs.Rows.{Row, sheet, message, order, block, call}
+use Rattle.model.specs.Rows.{Row, sheet, message, order, block, call, choice}
 use Rattle.model.specs.Place.{lineOf}
 use Rattle.model.specs.Expansion.{Progress, blockOpened, messageMet, orderMet}
 use Rattle.sheet.specs.Bridge.{rowsAt}
@@ -21,11 +21,11 @@ use Rattle.walk.specs.declared.Walked.the-variants.{To, Stopped}
 
 -- a walk that has met nothing yet
 abbrev pub fresh : Walk
-fresh = record { calls = 0; first = 0; count = 0 }
+fresh = record { calls = 0; choices = 0; first = 0; count = 0 }
 
 -- a walk, and what it has collected
 abbrev pub stateOf : Walk → Store → Progress Store
-stateOf w t = record { walk = record { calls = w .calls; first = w .first; count = w .count }; kept = t }
+stateOf w t = record { walk = record { calls = w .calls; choices = w .choices; first = w .first; count = w .count }; kept = t }
 
 -- the rows from row i on, of the first so many
 abbrev pub rowsFrom : List ℕ → List ℕ → List ℕ → ℕ → ℕ → List Row
@@ -48,6 +48,7 @@ blockWalked (message a b ∷ rs) i s =
 blockWalked (order x y ∷ rs) i s = blockWalked rs (i + 1) (orderMet storeOps x y s)
 blockWalked (block ∷ rs) i s = ok (i, blockOpened storeOps s)
 blockWalked (call n ∷ rs) i s = ok (i, blockOpened storeOps s)
+blockWalked (choice m n ∷ rs) i s = ok (i, blockOpened storeOps s)
 
 -- what a block leaves
 abbrev pub walkedOf : Walked → Store → Out (ℕ × Progress Store)
@@ -76,6 +77,7 @@ Stands n (message a b) = (a < boards) × (b < boards)
 Stands n (order x y) = (x < n) × (y < n)
 Stands n block = Unit {0}
 Stands n (call k) = Unit {0}
+Stands n (choice j k) = Unit {0}
 
 -- the events of the open block behind a row
 abbrev pub openBehind : ℕ → Row → ℕ
@@ -84,6 +86,7 @@ openBehind n (message a b) = n + 2
 openBehind n (order x y) = n
 openBehind n block = 0
 openBehind n (call k) = 0
+openBehind n (choice j k) = 0
 
 abbrev pub AllStand : ℕ → List Row → Type 0
 AllStand n [] = Unit {0}

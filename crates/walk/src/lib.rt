@@ -5,15 +5,18 @@ ghost use lib.ListN.{length};
 ghost use Rattle.blocks.specs.Store.{storeOf};
 ghost use Rattle.walk.specs.Block.{fresh, stateOf, rowsFrom, inBlock, RowsFew, Ready, Leaves, blockWalked};
 
-// How far a walk is: calls made, the number of the open block's first message, and messages met.
+// How far a walk is: calls made, A rows met, the number of the open block's first message, and messages met.
 pub struct Walk {
     pub calls: usize,
+    pub choices: usize,
     pub first: usize,
     pub count: usize,
 }
 
 impl Walk {
     pub const CALLS_MOST: usize = model::CALLS_MOST;
+
+    pub const CHOICES_MOST: usize = model::CHOICES_MOST;
 
     pub const MESSAGES_MOST: usize = model::MESSAGES_MOST;
 
@@ -23,6 +26,7 @@ impl Walk {
     {
         Walk {
             calls: 0,
+            choices: 0,
             first: 0,
             count: 0,
         }
@@ -83,6 +87,7 @@ pub fn walk_block(
         at,
         Walk {
             calls: walk.calls,
+            choices: walk.choices,
             first: met,
             count: met,
         },

@@ -1,18 +1,18 @@
 -- `levels::next_block` meets its contract: its loop keeps `Seeking`. It ends, since each turn brings it nearer to the end.
 -- Assumes nothing.
-use native.Mathlib.Omega.{arith}
 use borrow.Author.Needs.{needs}
 use Rattle.levels.specs.Levels.{rank}
-use Rattle.levels.proofs.Seeking.{Seeking, seeking-start, seeking-block, seeking-deep, seeking-calls, seeking-end, seeking-called, seeking-back, seeking-on, called-less, back-less, on-less, on-there, back-inside, call-there, call-sheet}
+use Rattle.levels.proofs.Choosing.{room-left}
+use Rattle.levels.proofs.Seeking.{Seeking, seeking-start, seeking-block, seeking-deep, seeking-calls, seeking-ninth, seeking-end, seeking-called, seeking-back, seeking-on, called-less, back-less, on-less, on-next, back-next, call-line, call-one, call-two, call-sheet}
 use Rattle.levels.proofs.next_block.Statement.{statement}
 use Rattle.levels.proofs.next_block.Tie as tie
 
 abbrev Inv-loop : tie.InvT-loop
-Inv-loop kind one two rows start from₀ depth row made level₀ at₀ calls₀ from level at calls =
-    Seeking kind one two rows from₀ depth row made from level at calls
+Inv-loop kind one two rows start options from₀ depth row made met level₀ at₀ calls₀ choices₀ from level at calls choices =
+    Seeking options kind one two rows from₀ depth row made met from level at calls choices
 
 abbrev μ-loop : tie.MeasureT-loop
-μ-loop kind one two rows start from₀ depth row made level₀ at₀ calls₀ from level at calls = rank rows level at calls
+μ-loop kind one two rows start options from₀ depth row made met level₀ at₀ calls₀ choices₀ from level at calls choices = rank rows level at calls
 
 loop-holds : tie.Need-loop-holds Inv-loop μ-loop
 loop-holds c = search seeking-start
@@ -29,9 +29,11 @@ returns c = search seeking-block
 letter-at-requires : tie.Need-letter-at-requires Inv-loop μ-loop
 letter-at-requires c κs = search needs
 
-add-t17 : tie.Need-add-t17 Inv-loop μ-loop
-add-t17 c =
-    omega (arith, c .before .before .before .before .before .before .before .before .before .before .before .pre .0 .rows .few, call-there _ _ _ _ _ _ _ _ _ _ _ _ (c .before .before .before .before .before .loop .inv) _ (c .before .before .letter-at .ensures) _ (c .before .before .before .before .before .before .before .before .before .before .before .pre .0) (c .before .if2 .taken))
+is-call-requires : tie.Need-is-call-requires Inv-loop μ-loop
+is-call-requires c κs = search needs
+
+add-t21 : tie.Need-add-t21 Inv-loop μ-loop
+add-t21 c = search (call-line, needs)
 
 same-length-2 : tie.Need-same-length-2 Inv-loop μ-loop
 same-length-2 c = search needs
@@ -39,15 +41,38 @@ same-length-2 c = search needs
 returns-2 : tie.Need-returns-2 Inv-loop μ-loop
 returns-2 c = search seeking-deep
 
-add-t18 : tie.Need-add-t18 Inv-loop μ-loop
-add-t18 c =
-    omega (arith, c .before .before .before .before .before .before .before .before .before .before .before .before .pre .0 .rows .few, call-there _ _ _ _ _ _ _ _ _ _ _ _ (c .before .before .before .before .before .before .loop .inv) _ (c .before .before .before .letter-at .ensures) _ (c .before .before .before .before .before .before .before .before .before .before .before .before .pre .0) (c .before .before .if2 .taken))
+add-t22 : tie.Need-add-t22 Inv-loop μ-loop
+add-t22 c = search (call-line, needs)
 
 same-length-3 : tie.Need-same-length-3 Inv-loop μ-loop
 same-length-3 c = search needs
 
 returns-3 : tie.Need-returns-3 Inv-loop μ-loop
 returns-3 c = search seeking-calls
+
+is-ninth-requires : tie.Need-is-ninth-requires Inv-loop μ-loop
+is-ninth-requires c κs = search needs
+
+add-t24 : tie.Need-add-t24 Inv-loop μ-loop
+add-t24 c = search (call-line, needs)
+
+same-length-4 : tie.Need-same-length-4 Inv-loop μ-loop
+same-length-4 c = search needs
+
+returns-4 : tie.Need-returns-4 Inv-loop μ-loop
+returns-4 c = search seeking-ninth
+
+shared-slice-read-called-sheet : tie.Need-shared-slice-read-called-sheet Inv-loop μ-loop
+shared-slice-read-called-sheet c = search (call-one, needs)
+
+shared-slice-read-called-sheet-2 : tie.Need-shared-slice-read-called-sheet-2 Inv-loop μ-loop
+shared-slice-read-called-sheet-2 c = search (call-two, needs)
+
+called-sheet-requires : tie.Need-called-sheet-requires Inv-loop μ-loop
+called-sheet-requires c κs = let n = c .before .before in room-left _ _ _ (n .before .is-ninth .ensures) (n .if5 .left)
+
+choices-behind-requires : tie.Need-choices-behind-requires Inv-loop μ-loop
+choices-behind-requires c κs = let n = c .before .before .before in room-left _ _ _ (n .before .is-ninth .ensures) (n .if5 .left)
 
 add-calls : tie.Need-add-calls Inv-loop μ-loop
 add-calls c = search needs
@@ -61,11 +86,8 @@ slice-write-from c = search needs
 add-level : tie.Need-add-level Inv-loop μ-loop
 add-level c = search needs
 
-called-row-requires : tie.Need-called-row-requires Inv-loop μ-loop
-called-row-requires c κs = (
-  omega (arith, c .before .before .before .before .before .before .before .before .before .before .before .before .pre .0 .rows .oneLong, call-there _ _ _ _ _ _ _ _ _ _ _ _ (c .before .before .before .before .before .before .loop .inv) _ (c .before .before .before .letter-at .ensures) _ (c .before .before .before .before .before .before .before .before .before .before .before .before .pre .0) (c .before .before .if2 .taken)),
-  call-sheet _ _ _ _ _ _ _ _ _ _ _ _ (c .before .before .before .before .before .before .loop .inv) _ (c .before .before .before .letter-at .ensures) _ (c .before .before .before .before .before .before .before .before .before .before .before .before .pre .0) (c .before .before .if2 .taken),
-)
+start-of-requires : tie.Need-start-of-requires Inv-loop μ-loop
+start-of-requires c κs = search call-sheet
 
 loop-less : tie.Need-loop-less Inv-loop μ-loop
 loop-less c = search called-less
@@ -73,11 +95,11 @@ loop-less c = search called-less
 loop-again : tie.Need-loop-again Inv-loop μ-loop
 loop-again c = search seeking-called
 
-same-length-4 : tie.Need-same-length-4 Inv-loop μ-loop
-same-length-4 c = search needs
+same-length-5 : tie.Need-same-length-5 Inv-loop μ-loop
+same-length-5 c = search needs
 
-returns-4 : tie.Need-returns-4 Inv-loop μ-loop
-returns-4 c = search seeking-end
+returns-5 : tie.Need-returns-5 Inv-loop μ-loop
+returns-5 c = search seeking-end
 
 sub-level : tie.Need-sub-level Inv-loop μ-loop
 sub-level c = search needs
@@ -89,8 +111,7 @@ slice-read-at : tie.Need-slice-read-at Inv-loop μ-loop
 slice-read-at c = search needs
 
 add-at : tie.Need-add-at Inv-loop μ-loop
-add-at c =
-    omega (arith, c .before .before .before .before .before .before .before .before .before .before .before .before .before .pre .0 .rows .few, back-inside _ _ _ _ _ _ _ _ _ _ _ _ (c .before .before .before .before .before .before .before .loop .inv) _ (c .before .before .before .before .letter-at .ensures) _ (c .before .before .before .before .before .before .before .before .before .before .before .before .before .pre .0) (c .before .if6 .left))
+add-at c = search (back-next, needs)
 
 loop-less-2 : tie.Need-loop-less-2 Inv-loop μ-loop
 loop-less-2 c = search back-less
@@ -99,8 +120,7 @@ loop-again-2 : tie.Need-loop-again-2 Inv-loop μ-loop
 loop-again-2 c = search seeking-back
 
 add-at-2 : tie.Need-add-at-2 Inv-loop μ-loop
-add-at-2 c =
-    omega (arith, c .before .before .before .before .before .before .before .before .before .before .before .pre .0 .rows .few, on-there _ _ _ _ _ _ _ _ _ _ _ _ (c .before .before .before .before .before .loop .inv) _ (c .before .before .letter-at .ensures) _ (c .before .before .before .before .in-block .ensures) (c .before .before .before .if1 .left) (c .before .if2 .left) (c .if5 .left))
+add-at-2 c = search (on-next, needs)
 
 loop-less-3 : tie.Need-loop-less-3 Inv-loop μ-loop
 loop-less-3 c = search on-less
@@ -119,21 +139,30 @@ next-block-spec =
     same-length
     returns
     letter-at-requires
-    add-t17
+    is-call-requires
+    add-t21
     same-length-2
     returns-2
-    add-t18
+    add-t22
     same-length-3
     returns-3
+    is-ninth-requires
+    add-t24
+    same-length-4
+    returns-4
+    shared-slice-read-called-sheet
+    shared-slice-read-called-sheet-2
+    called-sheet-requires
+    choices-behind-requires
     add-calls
     mul-from
     slice-write-from
     add-level
-    called-row-requires
+    start-of-requires
     loop-less
     loop-again
-    same-length-4
-    returns-4
+    same-length-5
+    returns-5
     sub-level
     mul-at
     slice-read-at

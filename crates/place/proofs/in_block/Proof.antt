@@ -1,5 +1,5 @@
 -- `in_block` meets its contract. Assumes nothing.
-use Rattle.place.proofs.Standing.{block-message, block-order, block-call, block-next}
+use Rattle.place.proofs.Standing.{block-message, block-order, block-call, block-choice, block-next}
 use borrow.Author.Needs.{needs}
 use Rattle.place.proofs.in_block.Statement.{statement}
 use Rattle.place.proofs.in_block.Tie as tie
@@ -31,8 +31,17 @@ placed-if-requires-3 c κs = search needs
 returns-3 : tie.Need-returns-3
 returns-3 c = search block-call
 
+are-sheets-requires : tie.Need-are-sheets-requires
+are-sheets-requires c κs = search needs
+
+placed-if-requires-4 : tie.Need-placed-if-requires-4
+placed-if-requires-4 c κs = search needs
+
 returns-4 : tie.Need-returns-4
-returns-4 c = search block-next
+returns-4 c = search block-choice
+
+returns-5 : tie.Need-returns-5
+returns-5 c = search block-next
 
 pub in-block-spec : {M : Type 1} → statement M
 in-block-spec =
@@ -47,4 +56,7 @@ in-block-spec =
     returns-2
     placed-if-requires-3
     returns-3
-    returns-4)
+    are-sheets-requires
+    placed-if-requires-4
+    returns-4
+    returns-5)

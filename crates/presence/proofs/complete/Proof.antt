@@ -6,10 +6,10 @@ use Rattle.presence.proofs.complete.Statement.{statement}
 use Rattle.presence.proofs.complete.Tie as tie
 
 abbrev Inv-loop : tie.InvT-loop
-Inv-loop count kind one start i₀ i = Searching kind one start count i
+Inv-loop count kind one two start i₀ i = Searching kind one two start count i
 
 abbrev μ-loop : tie.MeasureT-loop
-μ-loop count kind one start i₀ i = count - i
+μ-loop count kind one two start i₀ i = count - i
 
 is-open-requires : tie.Need-is-open-requires Inv-loop μ-loop
 is-open-requires c κs = search needs
@@ -23,8 +23,8 @@ loop-holds c = search search-begin
 is-stray-requires : tie.Need-is-stray-requires Inv-loop μ-loop
 is-stray-requires c κs = search needs
 
-add-t10 : tie.Need-add-t10 Inv-loop μ-loop
-add-t10 c = search needs
+add-t11 : tie.Need-add-t11 Inv-loop μ-loop
+add-t11 c = search needs
 
 returns-2 : tie.Need-returns-2 Inv-loop μ-loop
 returns-2 c = search search-found
@@ -51,7 +51,7 @@ complete-spec =
     returns
     loop-holds
     is-stray-requires
-    add-t10
+    add-t11
     returns-2
     add-i
     loop-less

@@ -1,5 +1,5 @@
 -- `is_stray` meets its contract. Assumes nothing.
-use Rattle.presence.proofs.Searching.{stray-call, stray-other}
+use Rattle.presence.proofs.Searching.{stray-call, stray-first, stray-second, stray-other}
 use borrow.Author.Needs.{needs}
 use Rattle.presence.proofs.is_stray.Statement.{statement}
 use Rattle.presence.proofs.is_stray.Tie as tie
@@ -16,10 +16,43 @@ is-open-requires c κs = search needs
 returns : tie.Need-returns
 returns c = search stray-call
 
+element-copy-out-if2 : tie.Need-element-copy-out-if2
+element-copy-out-if2 c = search needs
+
+element-copy-out-is-open-2 : tie.Need-element-copy-out-is-open-2
+element-copy-out-is-open-2 c = search needs
+
+is-open-requires-2 : tie.Need-is-open-requires-2
+is-open-requires-2 c κs = search needs
+
 returns-2 : tie.Need-returns-2
-returns-2 c = search stray-other
+returns-2 c = search stray-first
+
+element-copy-out-is-open-3 : tie.Need-element-copy-out-is-open-3
+element-copy-out-is-open-3 c = search needs
+
+is-open-requires-3 : tie.Need-is-open-requires-3
+is-open-requires-3 c κs = search needs
+
+returns-3 : tie.Need-returns-3
+returns-3 c = search stray-second
+
+returns-4 : tie.Need-returns-4
+returns-4 c = search stray-other
 
 pub is-stray-spec : {M : Type 1} → statement M
 is-stray-spec =
     tie.close
-    (tie.spec element-copy-out-if1 element-copy-out-is-open is-open-requires returns returns-2)
+    (tie.spec
+    element-copy-out-if1
+    element-copy-out-is-open
+    is-open-requires
+    returns
+    element-copy-out-if2
+    element-copy-out-is-open-2
+    is-open-requires-2
+    returns-2
+    element-copy-out-is-open-3
+    is-open-requires-3
+    returns-3
+    returns-4)

@@ -50,8 +50,8 @@ is-formed-requires c κs = search needs
 returns-4 : tie.Need-returns-4
 returns-4 c = search row-unformed
 
-add-t13 : tie.Need-add-t13
-add-t13 c = search (next-fits, needs)
+add-t14 : tie.Need-add-t14
+add-t14 c = search (next-fits, needs)
 
 returns-5 : tie.Need-returns-5
 returns-5 c = search row-formed
@@ -75,5 +75,5 @@ row-at-spec =
     returns-3
     is-formed-requires
     returns-4
-    add-t13
+    add-t14
     returns-5)

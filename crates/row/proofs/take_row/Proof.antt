@@ -6,7 +6,7 @@ use Rattle.row.proofs.take_row.Statement.{statement}
 use Rattle.row.proofs.take_row.Tie as tie
 
 returns : tie.Need-returns
-returns c = step-full _ _ _ _ _ _ _ _ (omega arith)
+returns c = step-full _ _ _ _ _ _ _ _ _ (omega arith)
 
 row-at-requires : tie.Need-row-at-requires
 row-at-requires c κs = search needs
@@ -50,7 +50,7 @@ returns-5 c =
     let placing = noting .before .before .before in
     let reading = placing .before .before .before .before .before .before in
     let begun = reading .before .before .before .before .before .before in
-    step-row _ _ _ _ _ _ _ _ _ _ _ _ _ (reading .before .before .row-at .ensures) (search) (reading .before .before .before .if1 .left)
+    step-row _ _ _ _ _ _ _ _ _ _ _ _ _ _ (reading .before .before .row-at .ensures) (search) (reading .before .before .before .if1 .left)
     _ _ _ (placing .before .before .place .ensures) _ (search) (begun .pre .2) (begun .pre .4) _ _ (noting .note .ensures) (begun .pre .5) (c .if2 .left)
 
 pub take-row-spec : {M : Type 1} → statement M

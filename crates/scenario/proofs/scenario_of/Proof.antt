@@ -1,6 +1,6 @@
 -- `scenario::scenario_of` meets its contract. Assumes nothing.
 use Rattle.sheet.proofs.Bridge.{kind-long, one-long, two-long, start-long}
-use Rattle.scenario.proofs.Parts.{reading-refuses, rows-read, rows-expanded}
+use Rattle.scenario.proofs.Parts.{reading-refuses, rows-read, rows-plain, rows-expanded}
 use borrow.Author.Needs.{needs}
 use Rattle.scenario.proofs.scenario_of.Statement.{statement}
 use Rattle.scenario.proofs.scenario_of.Tie as tie
@@ -27,7 +27,7 @@ slice-aggregate-expand-4 : tie.Need-slice-aggregate-expand-4
 slice-aggregate-expand-4 c = search start-long
 
 expand-requires : tie.Need-expand-requires
-expand-requires c κs = (search rows-read, (search needs, search needs))
+expand-requires c κs = (search rows-read, (search rows-plain, (search needs, search needs)))
 
 same-length : tie.Need-same-length
 same-length c = search needs

@@ -8,11 +8,11 @@ use Rattle.sheet.proofs.rows.Statement.{statement}
 use Rattle.sheet.proofs.rows.Tie as tie
 
 abbrev Inv-loop : tie.InvT-loop
-Inv-loop text first columns kind₀ one₀ two₀ start₀ words₀ boards₀ at₀ row₀ messages₀ kind one two start words boards at row messages =
-    Looping (columnsFrom columns) text first at row messages kind one two start boards words₀ words
+Inv-loop text first choices columns kind₀ one₀ two₀ start₀ words₀ boards₀ at₀ row₀ messages₀ kind one two start words boards at row messages =
+    Looping choices (columnsFrom columns) text first at row messages kind one two start boards words₀ words
 
 abbrev μ-loop : tie.MeasureT-loop
-μ-loop text first columns kind₀ one₀ two₀ start₀ words₀ boards₀ at₀ row₀ messages₀ kind one two start words boards at row messages =
+μ-loop text first choices columns kind₀ one₀ two₀ start₀ words₀ boards₀ at₀ row₀ messages₀ kind one two start words boards at row messages =
     length text - at
 
 loop-holds : tie.Need-loop-holds Inv-loop μ-loop
@@ -24,8 +24,8 @@ take-row-requires c κs = search needs
 enum-known-s : tie.Need-enum-known-s Inv-loop μ-loop
 enum-known-s c = search needs
 
-add-t26 : tie.Need-add-t26 Inv-loop μ-loop
-add-t26 c = search needs
+add-t27 : tie.Need-add-t27 Inv-loop μ-loop
+add-t27 c = search needs
 
 same-length : tie.Need-same-length Inv-loop μ-loop
 same-length c = search needs
@@ -75,7 +75,7 @@ rows-spec =
     loop-holds
     take-row-requires
     enum-known-s
-    add-t26
+    add-t27
     same-length
     returns
     enum-known-s-2

@@ -1,0 +1,100 @@
+-- The whole promise, from what the parts of the call hand on. Assumes nothing.
+use Prim.Native.Nat.{ℕ, _^_, _<_, _≤_}
+use native.Mathlib.Omega.{arith}
+use mathlib.Core.Path.{_≡_, refl, sym, _∙_, ap, subst, subst⁻¹}
+use mathlib.Core.Bool.{true, or-true}
+use mathlib.Core.List.{List, _++_}
+use borrow.Author.Tests.{lt-ltb, le-ltb, le-leb, lt-leb}
+use lib.Dec.{ltb}
+use lib.ListN.{length, drop}
+use Rattle.model.specs.Limits.{channels, scratchLeast, traceLeast}
+use Rattle.model.specs.Refusal.{Out, ok, refusal, channelRefusal, benchRefusal}
+use Rattle.model.specs.Rows.{Row}
+use Rattle.model.specs.Place.{readWith}
+use Rattle.model.specs.Answer.{scratchBehind}
+use Rattle.model.specs.Choice.{choosable, choiceAnswerFor, choiceAnswerOf, ChoiceNumbers, choiceNumbers, traceChosen, ChoiceChecked}
+use Rattle.model.proofs.Lines.{Reads, read-well}
+use Rattle.model.proofs.WithoutChoices.{choice-checked-from}
+use Rattle.model.proofs.ChoiceBounds.{choice-small}
+use Rattle.relation.specs.Rows.{cleared}
+use Rattle.relation.proofs.Cleared.{cleared-behind}
+use Rattle.choice.specs.Bridge.{numbersFor, Small, Judged}
+use Rattle.choice.specs.declared.Choice.{Choice}
+use Rattle.choice.specs.declared.Choice.the-variants.{Free, Locked, Refused}
+
+-- What each return of `check` is to show: refusal 1 for a code above 5, refusal 2 for a short buffer, else what the text decides.
+module _ (text : List ℕ) (code : ℕ) (scratch trace : List ℕ) where
+  refuses : (number : ℕ) → number ≤ benchRefusal → choosable text code (length scratch) (length trace) ≡ refusal number 0
+      → ChoiceChecked text code scratch scratch trace trace (numbersFor (Refused number 0))
+  unfolding scratchBehind choiceAnswerFor traceChosen
+  refuses number l e =
+      choice-checked-from text code scratch scratch trace trace (numbersFor (Refused number 0)) (refusal number 0) e refl (rw (le-leb number benchRefusal l)) refl
+
+  pub refuses-channel : channels ≤ code → ChoiceChecked text code scratch scratch trace trace (numbersFor (Refused channelRefusal 0))
+  unfolding choosable
+  refuses-channel h = refuses channelRefusal (omega arith) (rw (le-ltb code channels h))
+
+  pub refuses-scratch : code < channels → length scratch < scratchLeast → ChoiceChecked text code scratch scratch trace trace (numbersFor (Refused benchRefusal 0))
+  unfolding choosable
+  refuses-scratch h l = refuses benchRefusal (omega arith) (rw (lt-ltb code channels h, lt-ltb (length scratch) scratchLeast l))
+
+  pub refuses-trace : code < channels → length trace < traceLeast → ChoiceChecked text code scratch scratch trace trace (numbersFor (Refused benchRefusal 0))
+  unfolding choosable
+  refuses-trace h l =
+      refuses benchRefusal (omega arith)
+      (rw (lt-ltb code channels h, lt-ltb (length trace) traceLeast l, or-true (ltb (length scratch) scratchLeast)))
+
+  -- the first words of the scratch were used and the rest not, and then the first 2,048 cleared
+  scratch-behind : (used : List ℕ) (n : ℕ) → length used ≡ n → n ≤ scratchLeast
+      → cleared scratchLeast (used ++ drop n scratch) ≡ scratchBehind (readWith true text) scratch
+  unfolding scratchBehind cleared Reads
+  scratch-behind used n e l = cleared-behind scratchLeast used scratch n e l ∙ go (readWith true text) (read-well true text)
+    where
+      go : (o : Out (List Row)) → Reads o → cleared scratchLeast scratch ≡ scratchBehind o scratch
+      go (refusal number line) w = rw (lt-leb number benchRefusal (w .behind))
+      go (ok rows) w = refl
+
+  pub answers : (scratchExit traceExit used : List ℕ) (n : ℕ) (r : Choice) → code < channels → scratchLeast ≤ length scratch → traceLeast ≤ length trace
+      → length used ≡ n → n ≤ scratchLeast → scratchExit ≡ cleared scratchLeast (used ++ drop n scratch)
+      → Judged (choiceAnswerFor (readWith true text) code) trace traceExit r
+      → ChoiceChecked text code scratch scratchExit trace traceExit (numbersFor r)
+  unfolding choosable
+  answers scratchExit traceExit used n r h l k e m s d =
+      choice-checked-from text code scratch scratchExit trace traceExit (numbersFor r) (readWith true text)
+      (rw (lt-ltb code channels h, le-ltb (length scratch) scratchLeast l, le-ltb (length trace) traceLeast k))
+      (d .answer) (s ∙ scratch-behind used n e m) (d .traceLeft)
+
+-- What `numbers` asks and shows, by the answer.
+module _ (a : Choice) where
+  pub small-locked : (e x steps met number : ℕ) → a ≡ Locked e x steps met number → Small (numbersFor a)
+      → Small (numbersFor (Locked e x steps met number))
+  small-locked e x steps met number i s = subst (λ (b : Choice). Small (numbersFor b)) i s
+
+  pub small-line : (number line : ℕ) → a ≡ Refused number line → Small (numbersFor a) → line < 2 ^ 32
+  small-line number line i s = subst (λ (b : Choice). Small (numbersFor b)) i s .two
+
+  pub free-numbers : a ≡ Free → _≡_ {A = ChoiceNumbers} (record { word = 0; one = 0; two = 0; three = 0; options = 0; choices = 0 }) (numbersFor a)
+  free-numbers i = ap numbersFor (sym i)
+
+  pub locked-numbers : (e x steps met number : ℕ) → a ≡ Locked e x steps met number
+      → _≡_ {A = ChoiceNumbers} (record { word = 1; one = e; two = x; three = steps; options = met; choices = number }) (numbersFor a)
+  locked-numbers e x steps met number i = ap numbersFor (sym i)
+
+  pub refused-numbers : (number line : ℕ) → a ≡ Refused number line
+      → _≡_ {A = ChoiceNumbers} (record { word = 2; one = number; two = line; three = 0; options = 0; choices = 0 }) (numbersFor a)
+  refused-numbers number line i = ap numbersFor (sym i)
+
+-- the numbers answered are small, and handing them on keeps the promise
+pub small-checked : (text : List ℕ) (code : ℕ) (scratch scratchExit trace traceExit : List ℕ) (r : ChoiceNumbers)
+    → ChoiceChecked text code scratch scratchExit trace traceExit r → Small r
+small-checked text code scratch scratchExit trace traceExit r h = subst⁻¹ Small (h .answer) (small text code (length scratch) (length trace))
+  where
+    small : (t : List ℕ) (k m n : ℕ) → Small (choiceNumbers (choiceAnswerOf t k m n))
+    small t k m n =
+        let b = choice-small t k m n in
+        record { one = omega (arith, b .one); two = omega (arith, b .two); three = omega (arith, b .three); options = omega (arith, b .options); choices = omega (arith, b .choices) }
+
+pub same-numbers : (text : List ℕ) (code : ℕ) (scratch scratchExit trace traceExit : List ℕ) (r q : ChoiceNumbers)
+    → ChoiceChecked text code scratch scratchExit trace traceExit r → q ≡ r → ChoiceChecked text code scratch scratchExit trace traceExit q
+same-numbers text code scratch scratchExit trace traceExit r q h i =
+    subst⁻¹ (λ (n : ChoiceNumbers). ChoiceChecked text code scratch scratchExit trace traceExit n) i h

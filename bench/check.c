@@ -410,7 +410,7 @@ trace_check_answer careful_trace_check(const uint8_t *text, size_t text_len, uin
     sheet s;
     walk w;
     if (code > 5) return (trace_check_answer){4, 1, 0};
-    if (scratch_len < 2048) return (trace_check_answer){4, 2, 0};
+    if (scratch_len < 1024) return (trace_check_answer){4, 2, 0};
     trace_check_answer a = {4, 12, 0};
     if (trace_len % 2 == 0 && trace_len <= 768) {
         refusal r = read(text, text_len, &s, scratch, 0);
@@ -418,7 +418,7 @@ trace_check_answer careful_trace_check(const uint8_t *text, size_t text_len, uin
         if (!r.number) r = expand(&s, &w, 0);
         a = r.number ? (trace_check_answer){4, r.number, r.line} : replay(&w, channels[code], trace, trace_len);
     }
-    memset(scratch, 0, 2048 * 8);
+    memset(scratch, 0, 1024 * 8);
     return a;
 }
 
@@ -440,9 +440,9 @@ static channel_check_answer judge(const uint8_t *text, size_t len, uint32_t code
 channel_check_answer careful_check(const uint8_t *text, size_t text_len, uint32_t code, uint64_t *scratch, size_t scratch_len,
                                    uint8_t *trace, size_t trace_len) {
     if (code > 5) return (channel_check_answer){2, 1, 0, 0};
-    if (scratch_len < 2048 || trace_len < 768) return (channel_check_answer){2, 2, 0, 0};
+    if (scratch_len < 1024 || trace_len < 768) return (channel_check_answer){2, 2, 0, 0};
     channel_check_answer a = judge(text, text_len, code, scratch, trace);
-    memset(scratch, 0, 2048 * 8);
+    memset(scratch, 0, 1024 * 8);
     return a;
 }
 
@@ -477,8 +477,8 @@ static choice_check_answer judge_lists(const uint8_t *text, size_t len, uint32_t
 choice_check_answer careful_choice_check(const uint8_t *text, size_t text_len, uint32_t code, uint64_t *scratch, size_t scratch_len,
                                          uint8_t *trace, size_t trace_len) {
     if (code > 5) return (choice_check_answer){2, 1, 0, 0, 0, 0};
-    if (scratch_len < 2048 || trace_len < 768) return (choice_check_answer){2, 2, 0, 0, 0, 0};
+    if (scratch_len < 1024 || trace_len < 768) return (choice_check_answer){2, 2, 0, 0, 0, 0};
     choice_check_answer a = judge_lists(text, text_len, code, scratch, trace);
-    memset(scratch, 0, 2048 * 8);
+    memset(scratch, 0, 1024 * 8);
     return a;
 }

@@ -113,7 +113,7 @@ static void try_trace(const uint8_t *text, size_t len, uint32_t code, size_t wor
 
 int LLVMFuzzerTestOneInput(const uint8_t *data, size_t size) {
     static const uint32_t codes[8] = {0, 1, 2, 3, 4, 5, 6, UINT32_MAX};
-    static const size_t words[8] = {WORDS, WORDS, WORDS, WORDS + 1, WORDS + 9, WORDS, WORDS - 1, 0};
+    static const size_t words[8] = {WORDS, WORDS, WORDS, WORDS + 1, 2 * WORDS, WORDS, WORDS - 1, 0};
     static const size_t bytes[8] = {BYTES, BYTES, BYTES, BYTES + 1, BYTES + 9, BYTES, BYTES - 1, 0};
     if (size < 2) return -1;
     call c = {.choices = data[0] / 8 % 2, .text_len = size - 2, .words = words[data[1] % 8], .bytes = bytes[data[1] / 8 % 8]}, a = c;

@@ -14,7 +14,7 @@ extern "C" {
 #endif
 
 /* The least lengths of the two buffers lent. A shorter one is refusal 2. */
-#define CHANNEL_CHECK_SCRATCH_WORDS 2048
+#define CHANNEL_CHECK_SCRATCH_WORDS 1024
 #define CHANNEL_CHECK_TRACE_BYTES 768
 
 /* word: 0 free, 1 locked, 2 refused.
@@ -31,7 +31,7 @@ typedef struct {
  * text, text_len        the sheet file's bytes; only read. Any bytes and any length are taken.
  * code                  the channel, 0 to 5. Any number is taken; one above 5 is refusal 1.
  * scratch, scratch_len  64-bit words, aligned as uint64_t, to work in. Their contents do not matter.
- *                       After refusals 1 and 2 they are untouched. After every other call the first 2,048 are zero and the
+ *                       After refusals 1 and 2 they are untouched. After every other call the first 1,024 are zero and the
  *                       rest unchanged.
  * trace, trace_len      bytes for the steps. They change only where the answer is locked, and then only the first
  *                       2 * three of them: two for each step, 0 send, 1 deliver, 2 consume, and then the message.

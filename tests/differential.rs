@@ -85,7 +85,7 @@ fn length(r: &mut Random, least: usize) -> usize {
     if r.one_in(40) {
         *r.pick(&[0, 1, least / 2, least - 1])
     } else {
-        *r.pick(&[least, least, least + 1, least + 7])
+        *r.pick(&[least, least, least + 1, least + 7, 2 * least])
     }
 }
 

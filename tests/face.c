@@ -76,6 +76,7 @@ static void exact_and_larger(sheet s, uint32_t code, channel_check_answer e, con
     call(s, code, WORDS, BYTES, e, steps);
     call(s, code, WORDS + 3, BYTES + 5, e, steps);
     call(s, code, WORDS, 2 * BYTES, e, steps);
+    call(s, code, WORDS + 1, BYTES, e, steps);
     call(s, code, 2 * WORDS, BYTES, e, steps);
 }
 

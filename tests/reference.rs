@@ -32,7 +32,7 @@ pub enum Step {
 }
 
 pub const TRACE_LEAST: usize = 768;
-pub const SCRATCH_LEAST: usize = 2048;
+pub const SCRATCH_LEAST: usize = 1024;
 
 // ---------------------------------------------------------------- the sheet file
 

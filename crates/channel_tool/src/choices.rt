@@ -78,8 +78,16 @@ fn print_list(text: &[u8], length: u32, choices: u32) {
     let mut one = [0u8; ROWS_MOST];
     let mut two = [0u8; ROWS_MOST];
     let mut start = [0u16; SHEETS];
-    let mut words = [0u64; scenario::RELATION_WORDS];
-    match sheet::read(text, true, &mut kind, &mut one, &mut two, &mut start, &mut words) {
+    let mut words = [0u64; model::SCRATCH_LEAST];
+    match sheet::read(
+        text,
+        true,
+        &mut kind,
+        &mut one,
+        &mut two,
+        &mut start,
+        &mut words,
+    ) {
         Verdict::Refused(_, _) => {}
         Verdict::Rows(rows) => {
             print_options(&kind, &one, &two, rows, &start, length, choices);

@@ -23,10 +23,7 @@ fn print_usage() {
         STDERR_FILENO,
         b"       channel_tool replay CODE TRACEFILE < SHEET\n",
     );
-    io::write_all(
-        STDERR_FILENO,
-        b"       channel_tool choices CODE < SHEET\n",
-    );
+    io::write_all(STDERR_FILENO, b"       channel_tool choices CODE < SHEET\n");
 }
 
 // The words that name a channel code behind them.

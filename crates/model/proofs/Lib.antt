@@ -30,6 +30,7 @@ pub mod PointThree
 pub mod Choices
 pub mod WithoutChoices
 pub mod ChoiceBounds
+pub mod Scratch
 pub mod Replay
 pub mod Wired
 pub mod FinishedRuns

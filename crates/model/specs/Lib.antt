@@ -18,4 +18,5 @@ pub mod Wired
 pub mod Taps
 pub mod Senders
 pub mod Choice
+pub mod Scratch
 pub mod Marked

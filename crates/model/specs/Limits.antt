@@ -40,9 +40,14 @@ listsMost = 256
 abbrev pub channels : ℕ
 channels = 6
 
--- The buffers lent: scratch of 2,048 words; a trace of 768 bytes, two for each of three steps a message.
+-- The relation "before" has a row for each event, of four words with 64 events each.
+abbrev pub rowWords : ℕ
+rowWords = 4
+
+-- The buffers lent: the relation alone is in the scratch, 1,024 words (request (d)); a trace of 768 bytes, two for each of three steps a
+-- message.
 abbrev pub scratchLeast : ℕ
-scratchLeast = 2048
+scratchLeast = 2 * messagesMost * rowWords
 
 abbrev pub traceLeast : ℕ
 traceLeast = 2 * (3 * messagesMost)

@@ -25,10 +25,13 @@ pub const CALLS_MOST: usize = 1024;
 // A rows of a walk.
 pub const CHOICES_MOST: usize = 8;
 
-// The channels, and the buffers lent.
+// The words of a row of the relation "before".
+pub const ROW_WORDS: usize = 4;
+
+// The channels, and the buffers lent: the relation alone is in the scratch.
 pub const CHANNELS: usize = 6;
 
-pub const SCRATCH_LEAST: usize = 2048;
+pub const SCRATCH_LEAST: usize = EVENTS_MOST * ROW_WORDS;
 
 pub const TRACE_LEAST: usize = 2 * (3 * MESSAGES_MOST);
 

@@ -7,8 +7,8 @@ ghost use Rattle.model.specs.Bounded.{lowest};
 ghost use Rattle.relation.specs.Rows.{holds, marked, joined, joinedFrom, copiedFrom, inserted, cleared, anyOwn};
 ghost use Rattle.relation.specs.Own.{foundIn, isOwn};
 
-// The words of a row. The specs say it once more, as `width`; no other line depends on it.
-pub const WIDTH: usize = 4;
+// The words of a row: the model's limit, as the specs' `width` is.
+pub const WIDTH: usize = model::ROW_WORDS;
 
 // The bits of a word.
 pub const WORD_BITS: usize = 64;

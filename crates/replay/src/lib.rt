@@ -147,7 +147,7 @@ fn judge_trace(text: &[u8], code: u32, scratch: &mut [u64], trace: &[u8]) -> Rep
         relation::clear(scratch, all);
         return Replay::Refused(model::TRACE, 0);
     }
-    let end = scenario::RELATION_WORDS;
+    let end = model::SCRATCH_LEAST;
     let verdict = judge(text, channel, &mut scratch[..end], trace);
     relation::clear(scratch, model::SCRATCH_LEAST);
     verdict

@@ -8,9 +8,6 @@ ghost use Rattle.scenario.specs.Contract.{SheetIn};
 use expansion::Expanded;
 use sheet::Verdict;
 
-// The words of the relation, a row for each event: all that a call keeps in the scratch.
-pub const RELATION_WORDS: usize = model::EVENTS_MOST * relation::WIDTH;
-
 // The scenario of a text: so many messages, the board of each event and the causal order in words; or refusal 3 to 11.
 pub fn scenario_of(
     text: &[u8],

@@ -102,7 +102,7 @@ pub fn fit(
     if output.len() < model::TAP_NUMBERS_LEAST {
         return Answer::Refused(model::BENCH, 0);
     }
-    let end = scenario::RELATION_WORDS;
+    let end = model::SCRATCH_LEAST;
     let answer = judge(text, &mut scratch[..end], first, second, output);
     relation::clear(scratch, model::SCRATCH_LEAST);
     answer

@@ -84,7 +84,7 @@ pub fn check(text: &[u8], code: u32, scratch: &mut [u64], trace: &mut [u8]) -> A
     if trace.len() < model::TRACE_LEAST {
         return Answer::Refused(model::BENCH, 0);
     }
-    let end = scenario::RELATION_WORDS;
+    let end = model::SCRATCH_LEAST;
     let answer = judge(text, channel, &mut scratch[..end], trace);
     relation::clear(scratch, model::SCRATCH_LEAST);
     answer

@@ -31,6 +31,13 @@ static void chain(int n) {
     }
 }
 
+/* The chain, but for its last message, which nothing orders behind the others: its receive is put behind the one before, a race. */
+static void last_race(int n) {
+    chain(n - 1);
+    line("M", (n + 3) % 16, (n - 1) % 16);
+    line("P", 2 * n - 3, 2 * n - 1);
+}
+
 /* As many P rows as the file has room for, each behind the last on one of two boards. */
 static void dense(int n) {
     begin();
@@ -151,7 +158,7 @@ static void choices_locked(int n) { choosing(n, 1); }
 
 static const struct { const char *name; void (*make)(int); } sheets[] = {
     {"longest-trace", longest_trace}, {"chain", chain}, {"dense", dense}, {"calls", calls}, {"blocks", blocks}, {"refused", refused},
-    {"chain-twice", chain_twice}, {"order-rows", order_rows}, {"few", few}, {"case-2", case_2},
+    {"chain-twice", chain_twice}, {"last-race", last_race}, {"order-rows", order_rows}, {"few", few}, {"case-2", case_2},
     {"early-race", early_race}, {"streams", streams}, {"choices", choices}, {"choices-locked", choices_locked},
 };
 

@@ -220,22 +220,32 @@ static refusal expand(const sheet *s, walk *w, uint32_t options) {
 enum rule { BY_EVENT, BY_ORIGIN, NEVER };
 static const enum rule rules[6] = {BY_EVENT, NEVER, BY_ORIGIN, NEVER, BY_ORIGIN, BY_ORIGIN};
 
-static int at_or_before(const walk *w, size_t x, size_t y) { return x == y || test(w->words, y, x); }
+/* the bits of the sends in a word */
+static const uint64_t sends = UINT64_C(0x5555555555555555);
 
-static int is_race(const walk *w, enum rule rule, size_t e, size_t x) {
-    size_t receive = 2 * e + 1;
-    if (w->boards[x] != w->boards[receive] || !test(w->words, receive, x)) return 0;
-    switch (rule) {
-    case BY_EVENT: return !at_or_before(w, x, 2 * e);
-    case BY_ORIGIN: return !at_or_before(w, x - x % 2, 2 * e);
-    default: return 0;
+/* the events of word i that race with e: before its receive, on its board, and not, or with their send not, at or before its send */
+static inline uint64_t race_word(const walk *w, const uint64_t *on, enum rule rule, size_t e, size_t i) {
+    size_t send = 2 * e, receive = send + 1;
+    uint64_t reached = w->words[send * W + i];
+    if (i == send / 64) reached |= UINT64_C(1) << (send % 64);
+    uint64_t outside = ~reached;
+    if (rule == BY_ORIGIN) {
+        outside &= sends;
+        outside |= outside << 1;
     }
+    return w->words[receive * W + i] & on[w->boards[receive] * W + i] & outside;
 }
 
 static int lowest_race(const walk *w, enum rule rule, size_t *e, size_t *x) {
+    uint64_t on[BOARDS * W];
+    if (rule == NEVER) return 0;
+    memset(on, 0, sizeof on);
+    for (size_t k = 0; k < 2 * w->count; k++) mark(on, w->boards[k], k);
     for (*e = 0; *e < w->count; ++*e)
-        for (*x = 0; *x < 2 * w->count; ++*x)
-            if (is_race(w, rule, *e, *x)) return 1;
+        for (size_t i = 0; i < W; i++) {
+            uint64_t word = race_word(w, on, rule, *e, i);
+            if (word) return *x = 64 * i + (size_t)__builtin_ctzll(word), 1;
+        }
     return 0;
 }
 
@@ -293,8 +303,6 @@ static int may_consume(const walk *w, const masks *k, const run *r, size_t m) {
 /* ------------------------------------------------------------------ the schedule */
 
 /* the messages whose step of a class can be allowed at all, as bits of their sends */
-static const uint64_t sends = UINT64_C(0x5555555555555555);
-
 static void held_anywhere(const run *r, uint64_t row[W]) {
     memset(row, 0, W * sizeof *row);
     for (size_t b = 0; b < BOARDS; b++)

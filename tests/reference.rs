@@ -288,7 +288,7 @@ impl Scenario {
         x == y || self.before[x][y]
     }
 
-    fn is_race(&self, code: u32, e: usize, x: usize) -> bool {
+    pub fn is_race(&self, code: u32, e: usize, x: usize) -> bool {
         let origin = if x % 2 == 0 { x } else { x - 1 };
         self.board(x) == self.messages[e].1
             && self.before[x][2 * e + 1]

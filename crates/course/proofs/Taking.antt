@@ -1,7 +1,7 @@
 -- What the loops keep that look for the next event: the row of those left, the words passed, the bits passed. Assumes nothing.
 use mathlib.Core.Path.{_≡_, refl, sym, ap, _∙_, subst, subst⁻¹}
 use mathlib.Core.Bool.{Bool, true, false, not, _&&_, _||_, and-false}
-use mathlib.Core.Logic.{_⊎_, ⊎-elim}
+use mathlib.Core.Logic.{⊎-elim}
 use mathlib.Core.List.{List}
 use mathlib.Core.Option.{Option, none, some}
 use Prim.Native.Nat.{ℕ, _+_, _-_, _*_, _/_, _%_, _^_, _<_, _≤_}
@@ -18,7 +18,7 @@ use Rattle.model.proofs.Bounded.{and-left, and-both, which, not-both, not-is-tr
 use Rattle.relation.specs.Width.{width, wordBits}
 use Rattle.relation.specs.Rows.{has, holds, marked}
 use Rattle.relation.proofs.Bits.{has-zero, has-power, mask-power}
-use Rattle.relation.proofs.Words.{has-and, has-not, some-bit, trailing-clear, trailing-set, alone-row}
+use Rattle.relation.proofs.Words.{has-and, has-not, some-bit, trailing-clear, trailing-set, trailing-below, word-holds, alone-row}
 use Rattle.relation.proofs.Marked.{length-marked}
 use Rattle.run.specs.State.{inRow}
 use Rattle.course.specs.Left.{rowBits, AllLeft, nothingLeft, isFree, FreeInWord, lowestFree}
@@ -58,13 +58,6 @@ module _ (i b : ℕ) (h : b < wordBits) where
       let m : (wordBits * i + b) % wordBits ≡ b = omega arith in
       alone-row width row (wordBits * i + b) ∙ rw (d, m)
 
-  in-word-of : (words : List ℕ) (k : ℕ) → holds width words k (wordBits * i + b) ≡ has (getD words (k * width + i) 0) b
-  unfolding holds
-  in-word-of words k =
-      let d : (wordBits * i + b) / wordBits ≡ i = omega arith in
-      let m : (wordBits * i + b) % wordBits ≡ b = omega arith in
-      rw (d, m)
-
 -- The test of event k: no event of the words passed is left and in row k.
 module _ (words left : List ℕ) (k : ℕ) where
   -- event x is not left, or not before k
@@ -81,7 +74,7 @@ module _ (words left : List ℕ) (k : ℕ) where
   -- the events of word i that are left and in row k
   both : (i b : ℕ) → b < wordBits → apart (wordBits * i + b) ≡ not (has (bitAnd (getD words (k * width + i) 0) (getD left i 0)) b)
   both i b h =
-      rw (in-word-of i b h words k, in-word i b h left, has-and (getD words (k * width + i) 0) (getD left i 0) b)
+      rw (word-holds width words k i b h, in-word i b h left, has-and (getD words (k * width + i) 0) (getD left i 0) b)
 
   pub free-more : (i : ℕ) → Free i → i < width → bitAnd (getD words (k * width + i) 0) (getD left i 0) ≡ 0 → Free (i + 1)
   free-more i f l z = record { passed = λ x h. go x h (decLt x (wordBits * i)); most = omega arith }
@@ -134,11 +127,7 @@ module _ (words left : List ℕ) (w : ℕ) where
     bit = trailingZeros wordBits bits
 
     pub bit-below : bit < wordBits
-    bit-below = go (decLt bit wordBits) (some-bit wordBits bits (t .small) z)
-      where
-        go : Dec (bit < wordBits) → (b : ℕ) × (b < wordBits) × (has bits b ≡ true) → bit < wordBits
-        go (yes l) s = l
-        go (no n) s = not-both (has bits (s .0)) (s .2) (trailing-clear wordBits bits (s .0) (omega (arith, s .1)))
+    bit-below = trailing-below wordBits bits (t .small) z
 
     bit-set : has bits bit ≡ true
     bit-set = trailing-set wordBits bits (t .small) z

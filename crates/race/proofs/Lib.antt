@@ -1,1 +1,2 @@
 pub mod Races
+pub mod Words

@@ -1,27 +1,27 @@
--- The race test at event numbers: what each test of the code says of the model's. Assumes nothing.
+-- The race test at event numbers, and the search for the lowest message that races. Assumes nothing.
 use mathlib.Core.Path.{_≡_, refl, sym, _∙_, ap, subst, subst⁻¹}
 use mathlib.Core.Logic.{⊎-elim}
 use mathlib.Core.Bool.{Bool, true, false, not, cond, _&&_, _||_}
 use mathlib.Core.List.{List}
 use mathlib.Core.Option.{Option, none, some}
-use Prim.Native.Nat.{ℕ, suc, _+_, _*_, _-_, _/_, _%_, _<_, _≤_}
+use Prim.Native.Nat.{ℕ, _+_, _*_, _-_, _/_, _%_, _<_, _≤_}
 use native.Mathlib.Omega.{arith}
 use native.Mathlib.Numerals.{add-one}
 use lib.Dec.{eqb}
 use lib.ListN.{getD}
-use borrow.Author.Tests.{eq-eqb, ne-eqb, not-true, not-false}
-use Rattle.model.specs.Order.{Event, sendOf, receiveOf, number, event, atOrBefore}
-use Rattle.model.specs.Race.{RaceRule, byEvent, byOrigin, origin, escapes, isRace, races, lowestEvent, lowestMessage, lowestRace}
+use borrow.Author.Tests.{ne-eqb}
+use Rattle.model.specs.Order.{Event, sendOf, receiveOf, number, event, board, atOrBefore}
+use Rattle.model.specs.Race.{RaceRule, byEvent, byOrigin, never, origin, escapes, isRace, races, lowestEvent, lowestMessage, lowestRace}
 use Rattle.model.specs.Bounded.{lowest}
 use Rattle.model.proofs.Events.{number-event, at-or-before-same}
 use Rattle.model.proofs.Events.{send-event, receive-event}
-use Rattle.model.proofs.Bounded.{which, not-both, any-from, any-some, lowest-none, lowest-some, lowest-hit, lowest-miss}
+use Rattle.model.proofs.Bounded.{which, not-both, any-from, any-some, lowest-none, lowest-some, lowest-hit, lowest-miss, lowest-nowhere}
 use Rattle.relation.specs.Width.{width}
 use Rattle.relation.specs.Rows.{holds}
 use Rattle.relation.specs.Scenario.{scenarioIn}
 use Rattle.relation.proofs.Scenario.{before-at, board-at}
 use Rattle.race.specs.declared.Rule.{Rule}
-use Rattle.race.specs.declared.Rule.the-variants.{ByEvent, ByOrigin, Never}
+use Rattle.race.specs.declared.Rule.the-variants.{Never}
 use Rattle.race.specs.declared.Found.{Found}
 use Rattle.race.specs.declared.Found.the-variants as found
 use Rattle.race.specs.Bridge.{ruleIn, foundIn}
@@ -68,83 +68,6 @@ module _ (count : ℕ) (boards words : List ℕ) where
   pub at-other : (x y : ℕ) (r : Bool) → (x ≡ y → ⊥) → r ≡ holds width words y x → (x < 2 * count) × (y < 2 * count)
       → r ≡ atOrBefore (scenarioIn count boards words) (event x) (event y)
   at-other x y r d h l = h ∙ sym (at-or-before-at x y (l .0) (l .1) ∙ rw (ne-eqb x y d))
-
-  pub outside-event : (q : Rule) (e x : ℕ) (r : Bool) → q ≡ ByEvent → r ≡ atOrBefore (scenarioIn count boards words) (event x) (event (2 * e))
-      → not r ≡ escapes (scenarioIn count boards words) (ruleIn q) e (event x)
-  outside-event q e x r i h = rw (i, h) (sym (by-event e x))
-
-  pub outside-origin : (q : Rule) (e x : ℕ) (r : Bool) → q ≡ ByOrigin
-      → r ≡ atOrBefore (scenarioIn count boards words) (event (x - x % 2)) (event (2 * e))
-      → not r ≡ escapes (scenarioIn count boards words) (ruleIn q) e (event x)
-  outside-origin q e x r i h = rw (i, h) (sym (by-origin e x))
-
-  pub outside-never : (q : Rule) (e x : ℕ) → q ≡ Never → false ≡ escapes (scenarioIn count boards words) (ruleIn q) e (event x)
-  unfolding escapes
-  outside-never q e x i = rw (i, escapes)
-
-  pub other-board : (q : RaceRule) (e x : ℕ) → (getD boards x 0 ≡ getD boards (2 * e + 1) 0 → ⊥) → (e < count) × (x < 2 * count)
-      → false ≡ isRace (scenarioIn count boards words) q e (event x)
-  other-board q e x d l = sym (race-at q e x (l .0) (l .1) ∙ rw (ne-eqb (getD boards x 0) (getD boards (2 * e + 1) 0) d))
-
-  pub not-before : (q : RaceRule) (e x : ℕ) (t : Bool) → not t ≡ true → t ≡ holds width words (2 * e + 1) x → (e < count) × (x < 2 * count)
-      → false ≡ isRace (scenarioIn count boards words) q e (event x)
-  not-before q e x t f h l = sym (race-at q e x (l .0) (l .1) ∙ rw (← h, not-true t f) (falls (eqb (getD boards x 0) (getD boards (2 * e + 1) 0))))
-    where
-      falls : (b : Bool) → (b && false && escapes (scenarioIn count boards words) q e (event x)) ≡ false
-      falls true = refl
-      falls false = refl
-
-  pub race-if : (q : RaceRule) (e x : ℕ) (t r : Bool) → getD boards x 0 ≡ getD boards (2 * e + 1) 0 → not t ≡ false → t ≡ holds width words (2 * e + 1) x
-      → r ≡ escapes (scenarioIn count boards words) q e (event x) → (e < count) × (x < 2 * count)
-      → r ≡ isRace (scenarioIn count boards words) q e (event x)
-  race-if q e x t r i u h g l =
-      g ∙ sym (race-at q e x (l .0) (l .1) ∙ rw (eq-eqb (getD boards x 0) (getD boards (2 * e + 1) 0) i, ← h, not-false t u))
-
-  -- The search for the lowest event that races with e, a message's two events a turn: none below x races.
-  module _ (q : RaceRule) (e : ℕ) where
-    abbrev racesAt : ℕ → Bool
-    racesAt x = isRace (scenarioIn count boards words) q e (event x)
-
-    pub record Searched (x : ℕ) : Type 0 where
-      pub even : x % 2 ≡ 0
-      pub within : x ≤ 2 * count
-      pub passed : lowest x racesAt ≡ none
-
-    pub search-begins : Searched 0
-    unfolding lowest
-    search-begins = record { even = refl; within = omega arith; passed = refl }
-
-    module _ (x : ℕ) (s : Searched x) where
-      pub search-ends : 2 * count ≤ x → none ≡ lowestEvent (scenarioIn count boards words) q e
-      unfolding lowestEvent
-      search-ends l =
-          let i : x ≡ 2 * count = omega (arith, s .within) in
-          sym (subst (λ (k : ℕ). lowest k racesAt ≡ none) i (s .passed))
-
-      module _ (l : x < 2 * count) (b : Bool) (h : b ≡ racesAt x) where
-        pub receive-inside : x + 1 < 2 * count
-        receive-inside = omega (arith, s .even)
-
-        pub finds-send : b ≡ true → some x ≡ lowestEvent (scenarioIn count boards words) q e
-        unfolding lowestEvent
-        finds-send t = sym (lowest-hit (2 * count) x racesAt (s .passed) (sym h ∙ t) l)
-
-        module _ (f : b ≡ false) (d : Bool) (g : d ≡ racesAt (x + 1)) where
-          send-passed : lowest (x + 1) racesAt ≡ none
-          send-passed = rw add-one (lowest-miss x racesAt (s .passed) (sym h ∙ f))
-
-          pub finds-receive : d ≡ true → some (x + 1) ≡ lowestEvent (scenarioIn count boards words) q e
-          unfolding lowestEvent
-          finds-receive t = sym (lowest-hit (2 * count) (x + 1) racesAt send-passed (sym g ∙ t) receive-inside)
-
-          pub search-goes-on : d ≡ false → Searched (x + 2)
-          search-goes-on t =
-              let i : suc (x + 1) ≡ x + 2 = omega arith in
-              record {
-                even = omega (arith, s .even);
-                within = omega (arith, receive-inside);
-                passed = subst (λ (k : ℕ). lowest k racesAt ≡ none) i (lowest-miss (x + 1) racesAt send-passed (sym g ∙ t));
-              }
 
   -- a message races where its search finds an event
   races-none : (q : RaceRule) (e : ℕ) → lowestEvent (scenarioIn count boards words) q e ≡ none → races (scenarioIn count boards words) q e ≡ false
@@ -196,3 +119,26 @@ module _ (count : ℕ) (boards words : List ℕ) where
       let m : lowest count (races (scenarioIn count boards words) q) ≡ none =
       subst (λ (k : ℕ). lowest k (races (scenarioIn count boards words) q) ≡ none) i (p .passed) in
       sym (rw (m, lowestRace, lowestMessage))
+
+  -- on the lazy channels no message races
+  escapes-never : (e : ℕ) (x : Event) → isRace (scenarioIn count boards words) never e x ≡ false
+  unfolding isRace escapes
+  escapes-never e x = falls (eqb (board (scenarioIn count boards words) x) (getD boards (2 * e + 1) 0)) ((scenarioIn count boards words) .before x (receiveOf e))
+    where
+      falls : (a b : Bool) → (a && b && false) ≡ false
+      falls true true = refl
+      falls true false = refl
+      falls false b = refl
+
+  pub never-races : (r : Rule) → r ≡ Never → none ≡ lowestRace (scenarioIn count boards words) (ruleIn r)
+  unfolding lowestEvent
+  never-races r i =
+      subst⁻¹ (λ (q : RaceRule). none ≡ lowestRace (scenarioIn count boards words) q) (ap ruleIn i)
+      (messages-end never count
+      (record {
+        within = omega arith;
+        passed =
+            lowest-nowhere count (races (scenarioIn count boards words) never)
+            (λ e h. races-none never e (lowest-nowhere (2 * count) (λ j. isRace (scenarioIn count boards words) never e (event j)) (λ k l. escapes-never e (event k))));
+      })
+      (omega arith))

@@ -1,11 +1,17 @@
-// The races of a scenario: the test for a message and an event, and the race named.
+// The races of a scenario: the test of a message, a word of events at once, and the race named.
 ghost use mathlib.Core.Path.{_≡_};
 ghost use Prim.Native.Nat.{_+_, _*_, _<_, _≤_};
+ghost use lib.ListN.{length};
 ghost use Rattle.model.specs.Limits.{channels};
 ghost use Rattle.model.specs.Order.{event, atOrBefore};
-ghost use Rattle.model.specs.Race.{raceRuleOf, escapes, isRace, lowestEvent, lowestRace};
+ghost use Rattle.model.specs.Race.{raceRuleOf, lowestEvent, lowestRace};
+ghost use Rattle.relation.specs.Width.{width, wordBits};
 ghost use Rattle.relation.specs.Scenario.{scenarioIn};
+ghost use Rattle.board.specs.Masks.{Standing};
 ghost use Rattle.race.specs.Bridge.{Lent, ruleIn, foundIn, raceIn};
+ghost use Rattle.race.specs.Word.{ReachedWord, OutsideWord, RaceWord};
+use relation::WIDTH;
+use relation::WORD_BITS;
 
 // What must not be at or before e's send: the event itself, or its origin; on the lazy channels there are no races.
 pub enum Rule {
@@ -43,37 +49,60 @@ pub fn at_or_before(words: &[u64], boards: &[u8], count: usize, x: usize, y: usi
     relation::test(words, y, x)
 }
 
-// Event x, or its origin, is not at or before e's send.
-fn is_outside(words: &[u64], boards: &[u8], count: usize, rule: Rule, e: usize, x: usize) -> bool
-    requires { ⌜ Lent count (now boards) (now words) ⌝ }
-    requires { ⌜ (e < count) × (x < 2 * count) ⌝ }
-    ensures { λ r. ⌜ r ≡ escapes (scenarioIn count (now (boards .entry)) (now (words .entry))) (ruleIn rule) e (event x) ⌝ }
+// Word w of the events at or before e's send: its row, and the send itself.
+fn reached_word(words: &[u64], e: usize, w: usize) -> u64
+    requires { ⌜ 2 * e * width + width ≤ length (now words) ⌝ }
+    requires { ⌜ (2 * e < wordBits * width) × (w < width) ⌝ }
+    ensures { λ r. ⌜ ReachedWord (now (words .entry)) e w r ⌝ }
 {
     let send = 2 * e;
+    let at = send * WIDTH + w;
+    if w != send / WORD_BITS {
+        return words[at];
+    }
+    words[at] | (1 << (send % WORD_BITS))
+}
+
+// The bits of the sends in a word: those of the even events.
+const SENDS: u64 = 0x5555555555555555;
+
+// Word w of the events that the rule does not find at or before e's send. By origin a receive is outside with its send.
+fn outside_word(words: &[u64], rule: Rule, e: usize, w: usize) -> u64
+    requires { ⌜ 2 * e * width + width ≤ length (now words) ⌝ }
+    requires { ⌜ (2 * e < wordBits * width) × (w < width) ⌝ }
+    ensures { λ r. ⌜ OutsideWord (now (words .entry)) (ruleIn rule) e w r ⌝ }
+{
     match rule {
-        Rule::ByEvent => !at_or_before(words, boards, count, x, send),
+        Rule::ByEvent => !reached_word(words, e, w),
         Rule::ByOrigin => {
-            let origin = x - x % 2;
-            !at_or_before(words, boards, count, origin, send)
+            let sends = !reached_word(words, e, w) & SENDS;
+            sends | (sends << 1)
         }
-        Rule::Never => false,
+        Rule::Never => 0,
     }
 }
 
-// Message e and event x are a race.
-fn is_race(words: &[u64], boards: &[u8], count: usize, rule: Rule, e: usize, x: usize) -> bool
-    requires { ⌜ Lent count (now boards) (now words) ⌝ }
-    requires { ⌜ (e < count) × (x < 2 * count) ⌝ }
-    ensures { λ r. ⌜ r ≡ isRace (scenarioIn count (now (boards .entry)) (now (words .entry))) (ruleIn rule) e (event x) ⌝ }
+// The races of message e in word w: a bit is set exactly for each event there that races with e.
+pub fn race_word(
+    words: &[u64],
+    masks: &[u64],
+    boards: &[u8],
+    count: usize,
+    rule: Rule,
+    e: usize,
+    w: usize,
+) -> u64
+    requires { ⌜ Standing count (now boards) (now words) (now masks) ⌝ }
+    requires { ⌜ (e < count) × (w < width) ⌝ }
+    ensures { λ r. ⌜ RaceWord count (now (boards .entry)) (now (words .entry)) (ruleIn rule) e w r ⌝ }
 {
-    let receive = 2 * e + 1;
-    if boards[x] != boards[receive] {
-        return false;
-    }
-    if !relation::test(words, receive, x) {
-        return false;
-    }
-    is_outside(words, boards, count, rule, e, x)
+    let send = 2 * e;
+    let receive = send + 1;
+    let board = board::board_of(boards, receive);
+    let before = receive * WIDTH + w;
+    let on = board * WIDTH + w;
+    let outside = outside_word(words, rule, e, w);
+    words[before] & masks[on] & outside
 }
 
 // The lowest event that races with a message, if one does.
@@ -82,22 +111,23 @@ enum Found {
     Nothing,
 }
 
-fn lowest_event(words: &[u64], boards: &[u8], count: usize, rule: Rule, e: usize) -> Found
-    requires { ⌜ Lent count (now boards) (now words) ⌝ }
+fn lowest_event(
+    words: &[u64],
+    masks: &[u64],
+    boards: &[u8],
+    count: usize,
+    rule: Rule,
+    e: usize,
+) -> Found
+    requires { ⌜ Standing count (now boards) (now words) (now masks) ⌝ }
     requires { ⌜ e < count ⌝ }
     ensures { λ r. ⌜ foundIn r ≡ lowestEvent (scenarioIn count (now (boards .entry)) (now (words .entry))) (ruleIn rule) e ⌝ }
 {
-    let events = 2 * count;
-    let mut send = 0;
-    while send < events {
-        if is_race(words, boards, count, rule, e, send) {
-            return Found::Event(send);
+    for w in 0..WIDTH {
+        let word = race_word(words, masks, boards, count, rule, e, w);
+        if word != 0 {
+            return Found::Event(WORD_BITS * w + u64::trailing_zeros(word) as usize);
         }
-        let receive = send + 1;
-        if is_race(words, boards, count, rule, e, receive) {
-            return Found::Event(receive);
-        }
-        send = send + 2;
     }
     Found::Nothing
 }
@@ -108,16 +138,28 @@ pub enum Lowest {
     Nothing,
 }
 
-pub fn lowest_race(words: &[u64], boards: &[u8], count: usize, rule: Rule) -> Lowest
-    requires { ⌜ Lent count (now boards) (now words) ⌝ }
+fn lowest_message(words: &[u64], masks: &[u64], boards: &[u8], count: usize, rule: Rule) -> Lowest
+    requires { ⌜ Standing count (now boards) (now words) (now masks) ⌝ }
     ensures { λ r. ⌜ raceIn r ≡ lowestRace (scenarioIn count (now (boards .entry)) (now (words .entry))) (ruleIn rule) ⌝ }
 {
     for e in 0..count {
-        let found = lowest_event(words, boards, count, rule, e);
+        let found = lowest_event(words, masks, boards, count, rule, e);
         match found {
             Found::Event(x) => return Lowest::Race(e, x),
             Found::Nothing => {}
         }
     }
     Lowest::Nothing
+}
+
+pub fn lowest_race(words: &[u64], boards: &[u8], count: usize, rule: Rule) -> Lowest
+    requires { ⌜ Lent count (now boards) (now words) ⌝ }
+    ensures { λ r. ⌜ raceIn r ≡ lowestRace (scenarioIn count (now (boards .entry)) (now (words .entry))) (ruleIn rule) ⌝ }
+{
+    if let Rule::Never = rule {
+        return Lowest::Nothing;
+    }
+    let mut masks = [0u64; board::MASK_WORDS];
+    board::board_masks(boards, count, &mut masks);
+    lowest_message(words, &masks, boards, count, rule)
 }

@@ -1,17 +1,18 @@
--- The bits of a word: of an and, of a complement, behind a shift; that a word is zero where none of its bits is set, and that none
+-- The bits of a word: of an and, of a complement, behind a shift either way; that a word is zero where none of its bits is set, and that none
 -- is set below its trailing zeros; and the bits of a row that stands by itself. Assumes nothing.
-use mathlib.Core.Path.{_≡_, refl, _∙_}
+use mathlib.Core.Path.{_≡_, refl, sym, _∙_, subst}
 use mathlib.Core.Bool.{Bool, true, false, not, _&&_, _||_}
 use mathlib.Core.List.{List}
 use Prim.Native.Nat.{ℕ, zero, suc, _+_, _-_, _*_, _/_, _%_, _^_, _<_}
 use native.Mathlib.Nat.{lt-suc-self, le-step, pow-suc, div-one, div-lt-iff-lt-mul, zero-mul, zero-add, not-suc-le-zero, le-of-suc-le-suc}
+use native.Mathlib.Decide.{decLt}
 use native.Mathlib.Omega.{arith}
 use lib.Arith.{lt-one}
 use lib.Bits.{bitAnd, and-shr, and-mod}
 use lib.Count.{trailingZeros, under}
 use lib.Dec.{eqb}
 use lib.ListN.{getD}
-use lib.Pow.{pow-pos, shr-shr}
+use lib.Pow.{pow-pos, shr-shr, field, mod-mod-pow}
 use borrow.Author.Tests.{eqb-false}
 use Rattle.relation.specs.Width.{wordBits}
 use Rattle.relation.specs.Rows.{has, holds}
@@ -108,6 +109,48 @@ trailing-set (suc k) n h z =
     go : (d : ℕ) → n % 2 ≡ d → (n % 2 ≡ 0 → has (n / 2) (trailingZeros k (n / 2)) ≡ true) → has n (under d (trailingZeros k (n / 2))) ≡ true
     go zero e rest = half n (trailingZeros k (n / 2)) ∙ rest e
     go (suc d) e rest = lowest-set n (omega arith)
+
+-- so its trailing zeros are fewer than its bits
+pub trailing-below : (k n : ℕ) → n < 2 ^ k → (n ≡ 0 → ⊥) → trailingZeros k n < k
+trailing-below k n h z = go (decLt (trailingZeros k n) k) (some-bit k n h z)
+  where
+    go : Dec (trailingZeros k n < k) → (b : ℕ) × (b < k) × (has n b ≡ true) → trailingZeros k n < k
+    go (yes l) s = l
+    go (no g) s =
+        let e : true ≡ false = sym (s .2) ∙ trailing-clear k n (s .0) (omega (arith, s .1)) in
+        let z : _≡_ {A = ℕ} 0 1 = cc in absurd (omega arith)
+
+-- a word shifted by one: no bit comes to the lowest place, and every other place has the bit below it
+has-even : (n : ℕ) → has (n * 2) 0 ≡ false
+has-even n = lowest-digit (n * 2) (omega arith)
+
+has-twice : (n j : ℕ) → has (n * 2) (suc j) ≡ has n j
+has-twice n j =
+    let e : n * 2 / 2 ≡ n = omega arith in
+    half (n * 2) j ∙ rw e
+
+-- and the bits that stay in the word are not touched by what is shifted out
+has-mod : (n k b : ℕ) → b < k → has (n % 2 ^ k) b ≡ has n b
+unfolding has
+has-mod n k b h =
+    let split : k - b - 1 + 1 + b ≡ k = omega arith in
+    let parted : n % 2 ^ k / 2 ^ b ≡ n / 2 ^ b % 2 ^ (k - b - 1 + 1) =
+    subst (λ (i : ℕ). n % 2 ^ i / 2 ^ b ≡ n / 2 ^ b % 2 ^ (k - b - 1 + 1)) split (field n (k - b - 1 + 1) b) in
+    rw (parted, mod-mod-pow (n / 2 ^ b) (k - b - 1) 1)
+
+pub shift-lowest : (n : ℕ) → has (n * 2 % 2 ^ wordBits) 0 ≡ false
+shift-lowest n = has-mod (n * 2) wordBits 0 (omega arith) ∙ has-even n
+
+pub shift-higher : (n j : ℕ) → suc j < wordBits → has (n * 2 % 2 ^ wordBits) (suc j) ≡ has n j
+shift-higher n j h = has-mod (n * 2) wordBits (suc j) h ∙ has-twice n j
+
+-- the bits of word i of a row
+pub word-holds : (W : ℕ) (l : List ℕ) (y i b : ℕ) → b < wordBits → holds W l y (wordBits * i + b) ≡ has (getD l (y * W + i) 0) b
+unfolding holds
+word-holds W l y i b h =
+    let d : (wordBits * i + b) / wordBits ≡ i = omega arith in
+    let m : (wordBits * i + b) % wordBits ≡ b = omega arith in
+    rw (d, m)
 
 -- a row by itself begins at word 0
 pub alone-row : (W : ℕ) (row : List ℕ) (k : ℕ) → holds W row 0 k ≡ has (getD row (k / wordBits) 0) (k % wordBits)

@@ -1,56 +1,38 @@
--- `race::lowest_race` meets its contract: no message below e races. Assumes nothing.
-use Prim.Native.Nat.{_-_}
+-- `race::lowest_race` meets its contract. Assumes nothing.
 use borrow.Author.Needs.{needs}
-use Rattle.race.specs.Bridge.{ruleIn}
-use Rattle.race.proofs.Races.{Passed, messages-begin, messages-go-on, messages-find, messages-end}
+use Rattle.race.proofs.Races.{never-races}
 use Rattle.race.proofs.lowest_race.Statement.{statement}
 use Rattle.race.proofs.lowest_race.Tie as tie
 
-abbrev Inv-loop : tie.InvT-loop
-Inv-loop words boards count rule e₀ e = Passed count boards words (ruleIn rule) e
-
-abbrev μ-loop : tie.MeasureT-loop
-μ-loop words boards count rule e₀ e = count - e
-
-loop-holds : tie.Need-loop-holds Inv-loop μ-loop
-loop-holds c = search messages-begin
-
-lowest-event-requires : tie.Need-lowest-event-requires Inv-loop μ-loop
-lowest-event-requires c κs = search needs
-
-enum-known-found : tie.Need-enum-known-found Inv-loop μ-loop
-enum-known-found c = search needs
-
-returns : tie.Need-returns Inv-loop μ-loop
-returns c = search messages-find
-
-enum-told : tie.Need-enum-told Inv-loop μ-loop
+enum-told : tie.Need-enum-told
 enum-told c = search needs
 
-add-e : tie.Need-add-e Inv-loop μ-loop
-add-e c = search needs
+returns : tie.Need-returns
+returns c = search never-races
 
-loop-less : tie.Need-loop-less Inv-loop μ-loop
-loop-less c = search needs
+slice-aggregate-board-masks : tie.Need-slice-aggregate-board-masks
+slice-aggregate-board-masks c = search needs
 
-loop-again : tie.Need-loop-again Inv-loop μ-loop
-loop-again c = search messages-go-on
+board-masks-requires : tie.Need-board-masks-requires
+board-masks-requires c κs = search needs
 
-returns-2 : tie.Need-returns-2 Inv-loop μ-loop
-returns-2 c = search messages-end
+slice-aggregate-lowest-message : tie.Need-slice-aggregate-lowest-message
+slice-aggregate-lowest-message c = search needs
+
+lowest-message-requires : tie.Need-lowest-message-requires
+lowest-message-requires c κs = search needs
+
+returns-2 : tie.Need-returns-2
+returns-2 c = search needs
 
 pub lowest-race-spec : {M : Type 1} → statement M
 lowest-race-spec =
     tie.close
     (tie.spec
-    Inv-loop
-    μ-loop
-    loop-holds
-    lowest-event-requires
-    enum-known-found
-    returns
     enum-told
-    add-e
-    loop-less
-    loop-again
+    returns
+    slice-aggregate-board-masks
+    board-masks-requires
+    slice-aggregate-lowest-message
+    lowest-message-requires
     returns-2)

@@ -1,0 +1,225 @@
+-- The words of the race test, bit by bit, and the search for the lowest event by words. Assumes nothing.
+use mathlib.Core.Path.{_≡_, refl, sym, _∙_, ap, subst}
+use mathlib.Core.Bool.{Bool, true, false, not, _&&_, _||_, and-false, or-false}
+use mathlib.Core.List.{List}
+use mathlib.Core.Option.{none, some}
+use Prim.Native.Nat.{ℕ, zero, suc, _+_, _*_, _-_, _/_, _%_, _^_, _<_, _≤_}
+use native.Mathlib.Decide.{ℕ-discrete, decLt}
+use native.Mathlib.Omega.{arith}
+use lib.Bits.{bitAnd, bitOr}
+use lib.Count.{trailingZeros, leadingZeros, trailing-le, leading-le}
+use lib.Dec.{eqb, ltb}
+use lib.ListN.{getD}
+use borrow.Author.Tests.{eq-eqb, ne-eqb, lt-ltb, le-ltb, ltb-true}
+use Rattle.model.specs.Limits as limits
+use Rattle.model.specs.Order.{event}
+use Rattle.model.specs.Race.{RaceRule, byEvent, byOrigin, never, escapes, isRace, lowestEvent}
+use Rattle.model.specs.Bounded.{every, lowest}
+use Rattle.model.proofs.Bounded.{and-left, and-right, every-at, lowest-hit, lowest-nowhere}
+use Rattle.relation.specs.Width.{width, wordBits}
+use Rattle.relation.specs.Rows.{has, holds}
+use Rattle.relation.specs.Scenario.{scenarioIn}
+use Rattle.relation.proofs.Bits.{has-zero, has-or, has-power, mask-power}
+use Rattle.relation.proofs.Tests.{eqb-same}
+use Rattle.relation.proofs.Words.{has-and, has-not, trailing-clear, trailing-set, trailing-below, shift-lowest, shift-higher, word-holds}
+use Rattle.board.specs.Masks.{Standing}
+use Rattle.race.specs.declared.Rule.{Rule}
+use Rattle.race.specs.declared.Rule.the-variants.{ByEvent, ByOrigin, Never}
+use Rattle.race.specs.Bridge.{ruleIn}
+use Rattle.race.specs.Word.{eventAt, isReached, ReachedWord, isOutside, OutsideWord, RaceWord}
+use Rattle.race.proofs.Races.{at-or-before-at, by-event, by-origin, race-at}
+
+-- the word of the events at or before e's send: where the send stands in another word, and in this one
+module _ (words : List ℕ) (e w : ℕ) where
+  pub reached-elsewhere : (w ≡ 2 * e / wordBits → ⊥) → ReachedWord words e w (getD words (2 * e * width + w) 0)
+  reached-elsewhere n b h =
+      sym (rw (ne-eqb (eventAt w b) (2 * e) (λ i. n (omega arith))) (word-holds width words (2 * e) w b h))
+
+  pub reached-here : w ≡ 2 * e / wordBits
+      → ReachedWord words e w (bitOr (getD words (2 * e * width + w) 0) (1 * 2 ^ (2 * e % wordBits) % 2 ^ wordBits))
+  reached-here at b h =
+      rw (
+        mask-power (2 * e),
+        has-or,
+        has-power,
+        ← word-holds width words (2 * e) w b h,
+        eqb-same b (2 * e % wordBits) (eventAt w b) (2 * e) (λ i. omega arith) (λ i. omega arith),
+      )
+      (swaps (holds width words (2 * e) (eventAt w b)) (eqb (eventAt w b) (2 * e)))
+    where
+      swaps : (p q : Bool) → (p || q) ≡ (q || p)
+      swaps true true = refl
+      swaps true false = refl
+      swaps false true = refl
+      swaps false false = refl
+
+-- the bits of the sends
+abbrev sendBits : ℕ
+sendBits = 6148914691236517205
+
+sends-even : (b : ℕ) → b < wordBits → has sendBits b ≡ eqb (b % 2) 0
+unfolding every has
+sends-even b h = agrees (has sendBits b) (eqb (b % 2) 0) (every-at wordBits (λ k. agree (has sendBits k) (eqb (k % 2) 0)) refl b h)
+  where
+    agree : Bool → Bool → Bool
+    agree true q = q
+    agree false q = not q
+
+    agrees : (p q : Bool) → agree p q ≡ true → p ≡ q
+    agrees true q t = sym t
+    agrees false true t = t
+    agrees false false t = refl
+
+module _ (words : List ℕ) (r : Rule) (e w word : ℕ) where
+  pub outside-event : r ≡ ByEvent → word < 2 ^ wordBits → ReachedWord words e w word → OutsideWord words (ruleIn r) e w (2 ^ wordBits - 1 - word)
+  outside-event i small reached b h = rw (i, ← reached b h) (has-not b wordBits word h small)
+
+  pub outside-never : r ≡ Never → OutsideWord words (ruleIn r) e w 0
+  outside-never i b h = rw i (has-zero b)
+
+  -- by origin: the sends that are not reached
+  module _ (small : word < 2 ^ wordBits) (reached : ReachedWord words e w word) where
+    sendsOut : ℕ
+    sendsOut = bitAnd (2 ^ wordBits - 1 - word) sendBits
+
+    send-out : (b : ℕ) → b < wordBits → b % 2 ≡ 0 → has sendsOut b ≡ not (isReached words e (eventAt w b))
+    unfolding sendsOut
+    send-out b h even =
+        rw (has-and, has-not b wordBits word h small, reached b h, sends-even b h, eq-eqb (b % 2) 0 even) (passes (isReached words e (eventAt w b)))
+      where
+        passes : (p : Bool) → (not p && true) ≡ not p
+        passes true = refl
+        passes false = refl
+
+    receive-out : (b : ℕ) → b < wordBits → b % 2 ≡ 1 → has sendsOut b ≡ false
+    unfolding sendsOut
+    receive-out b h odd =
+        rw (has-and, sends-even b h, ne-eqb (b % 2) 0 (λ z. omega arith)) (and-false (has (2 ^ wordBits - 1 - word) b))
+
+    both-out : (b : ℕ) → b < wordBits → has (bitOr sendsOut (sendsOut * 2 % 2 ^ wordBits)) b ≡ not (isReached words e (eventAt w b - eventAt w b % 2))
+    both-out b h = has-or sendsOut (sendsOut * 2 % 2 ^ wordBits) b ∙ go b h (ℕ-discrete (b % 2) 0)
+      where
+        go : (b : ℕ) → b < wordBits → Dec (b % 2 ≡ 0)
+            → (has sendsOut b || has (sendsOut * 2 % 2 ^ wordBits) b) ≡ not (isReached words e (eventAt w b - eventAt w b % 2))
+        go zero h d =
+            let at : eventAt w 0 - eventAt w 0 % 2 ≡ eventAt w 0 = omega arith in
+            rw (shift-lowest sendsOut, send-out 0 h refl, at) (or-false (not (isReached words e (eventAt w 0))))
+        go (suc j) h (yes even) =
+            let at : eventAt w (suc j) - eventAt w (suc j) % 2 ≡ eventAt w (suc j) = omega arith in
+            rw (shift-higher sendsOut j h, send-out (suc j) h even, receive-out j (omega arith) (omega arith), at)
+            (or-false (not (isReached words e (eventAt w (suc j)))))
+        go (suc j) h (no odd) =
+            let at : eventAt w (suc j) - eventAt w (suc j) % 2 ≡ eventAt w j = omega arith in
+            rw (shift-higher sendsOut j h, receive-out (suc j) h (omega arith), send-out j (omega arith) (omega arith), at)
+
+    pub outside-origin : r ≡ ByOrigin
+        → OutsideWord words (ruleIn r) e w
+        (bitOr (bitAnd (2 ^ wordBits - 1 - word) sendBits) (bitAnd (2 ^ wordBits - 1 - word) sendBits * 2 ^ 1 % 2 ^ wordBits))
+    unfolding sendsOut
+    outside-origin i b h = rw i (both-out b h)
+
+-- e's receive is on a board of the paper
+pub receive-below : {count e b : ℕ} {boards words masks : List ℕ} → Standing count boards words masks → e < count → b ≡ getD boards (2 * e + 1) 0
+    → b < limits.boards
+receive-below {e = e} s l i = rw i (s .boardsBelow (2 * e + 1) (omega arith))
+
+-- the races of e in word w
+module _ (count : ℕ) (boards words masks : List ℕ) (S : Standing count boards words masks) (r : RaceRule) (e : ℕ) (l : e < count) where
+  -- what escapes e's send is what stands outside
+  outside-escapes : (x : ℕ) → x < 2 * count → escapes (scenarioIn count boards words) r e (event x) ≡ isOutside words r e x
+  unfolding escapes
+  outside-escapes x h = go r
+    where
+      go : (q : RaceRule) → escapes (scenarioIn count boards words) q e (event x) ≡ isOutside words q e x
+      go byEvent = by-event count boards words e x ∙ ap not (at-or-before-at count boards words x (2 * e) h (omega arith))
+      go byOrigin =
+          by-origin count boards words e x ∙ ap not (at-or-before-at count boards words (x - x % 2) (2 * e) (omega arith) (omega arith))
+      go never = refl
+
+  pub races-in-word : (w board outside : ℕ) → OutsideWord words r e w outside → board ≡ getD boards (2 * e + 1) 0 → w < width
+      → RaceWord count boards words r e w (bitAnd (bitAnd (getD words ((2 * e + 1) * width + w) 0) (getD masks (board * width + w) 0)) outside)
+  races-in-word w board outside out at hw b h =
+      let x = eventAt w b in
+      let M = S .masksOf in
+      let hb = receive-below S l at in
+      rw (has-and, has-and, ← word-holds width words (2 * e + 1) w b h, ← word-holds width masks board w b h, M .onBoard board x hb (omega arith), out b h, at)
+      (go (decLt x (2 * count)))
+    where
+      turns : (a c d : Bool) → (a && c && d) ≡ (c && a && d)
+      turns true true d = refl
+      turns true false d = refl
+      turns false true d = refl
+      turns false false d = refl
+
+      go : Dec (eventAt w b < 2 * count)
+          → ((holds width words (2 * e + 1) (eventAt w b) && (ltb (eventAt w b) (2 * count) && eqb (getD boards (eventAt w b) 0) (getD boards (2 * e + 1) 0)))
+          && isOutside words r e (eventAt w b))
+          ≡ (ltb (eventAt w b) (2 * count) && isRace (scenarioIn count boards words) r e (event (eventAt w b)))
+      go (yes k) =
+          rw (lt-ltb (eventAt w b) (2 * count) k)
+          (turns (holds width words (2 * e + 1) (eventAt w b)) (eqb (getD boards (eventAt w b) 0) (getD boards (2 * e + 1) 0)) (isOutside words r e (eventAt w b))
+          ∙ sym (race-at count boards words r e (eventAt w b) l k ∙ rw (outside-escapes (eventAt w b) k)))
+      go (no g) =
+          rw (le-ltb (eventAt w b) (2 * count) (omega arith), and-false (holds width words (2 * e + 1) (eventAt w b)))
+
+-- the zeros at either end of a word are at most its bits
+pub zeros-few : (word : ℕ) → (trailingZeros wordBits word ≤ wordBits) × (leadingZeros wordBits word ≤ wordBits)
+zeros-few word = (trailing-le wordBits word, leading-le wordBits word)
+
+-- the search for the lowest event that races with e
+module _ (count : ℕ) (boards words : List ℕ) (r : RaceRule) (e : ℕ) where
+  abbrev racesAt : ℕ → Bool
+  racesAt x = isRace (scenarioIn count boards words) r e (event x)
+
+  -- no event of the words passed races with e
+  pub record Searched (w : ℕ) : Type 0 where
+    pub passed : (x : ℕ) → x < wordBits * w → x < 2 * count → racesAt x ≡ false
+    pub within : w ≤ width
+
+  pub search-begins : Searched 0
+  search-begins = record { passed = λ x h k. absurd (omega arith); within = omega arith }
+
+  module _ (w word : ℕ) (s : Searched w) (R : RaceWord count boards words r e w word) where
+    -- a bit that is not set is of no event that races
+    not-here : (b : ℕ) → b < wordBits → wordBits * w + b < 2 * count → has word b ≡ false → racesAt (wordBits * w + b) ≡ false
+    not-here b h k f = sym (R b h ∙ rw (lt-ltb (wordBits * w + b) (2 * count) k)) ∙ f
+
+    pub search-goes-on : word ≡ 0 → w < width → Searched (w + 1)
+    search-goes-on z h =
+        record { passed = λ x g k. go x g k (decLt x (wordBits * w)); within = omega arith }
+      where
+        go : (x : ℕ) → x < wordBits * (w + 1) → x < 2 * count → Dec (x < wordBits * w) → racesAt x ≡ false
+        go x g k (yes p) = s .passed x p k
+        go x g k (no p) =
+            let at : wordBits * w + (x - wordBits * w) ≡ x = omega arith in
+            subst (λ (y : ℕ). racesAt y ≡ false) at
+            (here (x - wordBits * w) (omega arith) (omega arith))
+          where
+            here : (b : ℕ) → b < wordBits → wordBits * w + b < 2 * count → racesAt (wordBits * w + b) ≡ false
+            here b i j = not-here b i j (ap (λ (n : ℕ). has n b) z ∙ has-zero b)
+
+    pub search-finds : (word ≡ 0 → ⊥) → word < 2 ^ wordBits → w < width
+        → some (wordBits * w + trailingZeros wordBits word) ≡ lowestEvent (scenarioIn count boards words) r e
+    unfolding lowestEvent
+    search-finds z small h =
+        let b = trailingZeros wordBits word in
+        let low : b < wordBits = trailing-below wordBits word small z in
+        let both : (ltb (wordBits * w + b) (2 * count) && racesAt (wordBits * w + b)) ≡ true = sym (R b low) ∙ trailing-set wordBits word small z in
+        let inside : wordBits * w + b < 2 * count = ltb-true _ _ (and-left (ltb (wordBits * w + b) (2 * count)) (racesAt (wordBits * w + b)) both) in
+        sym
+        (lowest-hit (2 * count) (wordBits * w + b) racesAt
+        (lowest-nowhere (wordBits * w + b) racesAt (λ x k. below b low inside (λ i g. trailing-clear wordBits word i g) x k (decLt x (wordBits * w))))
+        (and-right (ltb (wordBits * w + b) (2 * count)) (racesAt (wordBits * w + b)) both)
+        inside)
+      where
+        below : (b : ℕ) → b < wordBits → wordBits * w + b < 2 * count → ((i : ℕ) → i < b → has word i ≡ false)
+            → (x : ℕ) → x < wordBits * w + b → Dec (x < wordBits * w) → racesAt x ≡ false
+        below b low inside clear x k (yes p) = s .passed x p (omega arith)
+        below b low inside clear x k (no p) =
+            let at : wordBits * w + (x - wordBits * w) ≡ x = omega arith in
+            subst (λ (y : ℕ). racesAt y ≡ false) at
+            (not-here (x - wordBits * w) (omega arith) (omega arith) (clear (x - wordBits * w) (omega arith)))
+
+  pub search-ends : (masks : List ℕ) (w : ℕ) → Standing count boards words masks → Searched w → width ≤ w → none ≡ lowestEvent (scenarioIn count boards words) r e
+  unfolding lowestEvent
+  search-ends masks w S s h = sym (lowest-nowhere (2 * count) racesAt (λ x k. s .passed x (omega (arith, S .few)) k))

@@ -1,7 +1,7 @@
 // The channel check for C: each exported call is a few lines over its crate, and promises the whole of it.
 ghost use mathlib.Core.Path.{_≡_};
 ghost use Rattle.model.specs.Verdict.{Checked};
-ghost use Rattle.model.specs.Replay.{Replayed};
+ghost use Rattle.model.specs.Waits.{TraceChecked};
 ghost use Rattle.replay.specs.Bridge as replayed;
 ghost use Rattle.verdict.specs.Parts.{numbersFor};
 ghost use Rattle.channel_check.specs.Numbers.{Small, numbersIn};
@@ -69,7 +69,7 @@ pub extern "C" fn trace_check(
     scratch: &mut [u64],
     trace: &[u8],
 ) -> TraceCheckAnswer
-    ensures { λ r. ⌜ Replayed (now (text .entry)) code (now (scratch .entry)) (now (scratch .exit)) (now (trace .entry)) (replayed.numbersIn r) ⌝ }
+    ensures { λ r. ⌜ TraceChecked (now (text .entry)) code (now (scratch .entry)) (now (scratch .exit)) (now (trace .entry)) (replayed.numbersIn r) (r .waits) ⌝ }
 {
     replay::trace_check(text, code, scratch, trace)
 }

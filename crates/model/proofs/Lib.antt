@@ -26,6 +26,7 @@ pub mod Withholding
 pub mod Orders
 pub mod PointThree
 pub mod Replay
+pub mod Waits
 pub mod Wired
 pub mod FinishedRuns
 pub mod Ahead

@@ -5,6 +5,7 @@ use mathlib.Core.Bool.{Bool, true, false, not, _&&_, _||_}
 use mathlib.Core.List.{List}
 use Prim.Native.Nat.{ℕ, zero, suc, _+_, _-_, _*_, _/_, _%_, _^_, _<_}
 use native.Mathlib.Nat.{lt-suc-self, le-step, pow-suc, div-one, div-lt-iff-lt-mul, zero-mul, zero-add, not-suc-le-zero, le-of-suc-le-suc}
+use native.Mathlib.Decide.{decLt}
 use native.Mathlib.Omega.{arith}
 use lib.Arith.{lt-one}
 use lib.Bits.{bitAnd, and-shr, and-mod}
@@ -13,6 +14,7 @@ use lib.Dec.{eqb}
 use lib.ListN.{getD}
 use lib.Pow.{pow-pos, shr-shr}
 use borrow.Author.Tests.{eqb-false}
+use Rattle.model.proofs.Bounded.{not-both}
 use Rattle.relation.specs.Width.{wordBits}
 use Rattle.relation.specs.Rows.{has, holds}
 use Rattle.relation.proofs.Bits.{by-digits}
@@ -108,6 +110,17 @@ trailing-set (suc k) n h z =
     go : (d : ℕ) → n % 2 ≡ d → (n % 2 ≡ 0 → has (n / 2) (trailingZeros k (n / 2)) ≡ true) → has n (under d (trailingZeros k (n / 2))) ≡ true
     go zero e rest = half n (trailingZeros k (n / 2)) ∙ rest e
     go (suc d) e rest = lowest-set n (omega arith)
+
+-- a word below 2 ^ n that is not zero has fewer than n of them
+pub trailing-below : (n w : ℕ) → w < 2 ^ n → (w ≡ 0 → ⊥) → trailingZeros wordBits w < n
+trailing-below n w small z = go (some-bit n w small z)
+  where
+    go : (k : ℕ) × (k < n) × (has w k ≡ true) → trailingZeros wordBits w < n
+    go (k, h, t) = near (decLt k (trailingZeros wordBits w))
+      where
+        near : Dec (k < trailingZeros wordBits w) → trailingZeros wordBits w < n
+        near (yes l) = not-both (has w k) t (trailing-clear wordBits w k l)
+        near (no l) = omega arith
 
 -- a row by itself begins at word 0
 pub alone-row : (W : ℕ) (row : List ℕ) (k : ℕ) → holds W row 0 k ≡ has (getD row (k / wordBits) 0) (k % wordBits)

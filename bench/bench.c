@@ -171,7 +171,9 @@ static void run(int proved, uint32_t code) {
     for (size_t i = 0; i < sizeof trace; i++) sum = 31 * sum + trace[i];
     printf("%zu bytes, code %u: %u %u %u %u, trace %u\n", len, code, a.word, a.one, a.two, a.three, sum);
     trace_check_answer t = (proved ? trace_check : careful_trace_check)((const uint8_t *)text, len, code, scratch, CHANNEL_CHECK_SCRATCH_WORDS, trace, a.word == 1 ? 2 * a.three : 0);
-    printf("replayed: %u %u %u\n", t.word, t.one, t.two);
+    printf("replayed: %u %u %u, waits", t.word, t.one, t.two);
+    for (size_t b = 0; b < TRACE_CHECK_BOARDS; b++) printf(" %u", t.waits[b]);
+    printf("\n");
     choice_check_answer l = (proved ? choice_check : careful_choice_check)((const uint8_t *)text, len, code, scratch, CHANNEL_CHECK_SCRATCH_WORDS, trace, CHANNEL_CHECK_TRACE_BYTES);
     for (size_t i = 0; i < sizeof trace; i++) sum = 31 * sum + trace[i];
     printf("choices: %u %u %u %u %u %u, trace %u\n", l.word, l.one, l.two, l.three, l.length, l.choices, sum);

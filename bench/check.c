@@ -396,6 +396,30 @@ static int may(const walk *w, const masks *k, channel c, const run *r, uint8_t k
     }
 }
 
+static trace_check_answer told(uint32_t word, uint32_t one, uint32_t two) {
+    trace_check_answer a = {word, one, two, {0}};
+    memset(a.waits, 0xff, sizeof a.waits);
+    return a;
+}
+
+/* the lowest event before x on its board that is not done */
+static uint16_t waits_for(const walk *w, const masks *k, const run *r, size_t x) {
+    const uint64_t *before = w->words + x * W, *on = k->on + w->boards[x] * W;
+    for (size_t i = 0; i < W; i++) {
+        uint64_t left = before[i] & on[i] & ~r->done[i];
+        if (left) return (uint16_t)(64 * i + (size_t)__builtin_ctzll(left));
+    }
+    return TRACE_CHECK_NO_WAIT;
+}
+
+/* for each board, what the lowest message held there whose receive is unready waits for */
+static void board_waits(const walk *w, const masks *k, const run *r, uint16_t *waits) {
+    for (size_t b = 0; b < BOARDS; b++)
+        for (size_t i = 0; i < W && waits[b] == TRACE_CHECK_NO_WAIT; i++)
+            for (uint64_t bits = r->held[b][i]; bits && waits[b] == TRACE_CHECK_NO_WAIT; bits &= bits - 1)
+                waits[b] = waits_for(w, k, r, 64 * i + (size_t)__builtin_ctzll(bits) + 1);
+}
+
 static trace_check_answer replay(const walk *w, channel c, const uint8_t *trace, size_t len) {
     masks k;
     run r;
@@ -403,28 +427,30 @@ static trace_check_answer replay(const walk *w, channel c, const uint8_t *trace,
     boards_masks(w, &k);
     memset(&r, 0, sizeof r);
     for (size_t i = 0; i < len / 2; i++) {
-        if (!may(w, &k, c, &r, trace[2 * i], trace[2 * i + 1])) return (trace_check_answer){3, (uint32_t)i, 0};
+        if (!may(w, &k, c, &r, trace[2 * i], trace[2 * i + 1])) return told(3, (uint32_t)i, 0);
         take(w, &r, trace[2 * i], trace[2 * i + 1]);
     }
     for (size_t x = 0; x < 2 * w->count && finished; x++) finished = has(r.done, x);
-    if (finished) return (trace_check_answer){0, 0, 0};
+    if (finished) return told(0, 0, 0);
     for (size_t m = 0; m < w->count; m++)
-        if (may_send(w, &k, c, &r, m) || may_deliver(w, &k, c, &r, m) || may_consume(w, &k, &r, m)) return (trace_check_answer){2, 0, 0};
-    return (trace_check_answer){1, 0, 0};
+        if (may_send(w, &k, c, &r, m) || may_deliver(w, &k, c, &r, m) || may_consume(w, &k, &r, m)) return told(2, 0, 0);
+    trace_check_answer a = told(1, 0, 0);
+    board_waits(w, &k, &r, a.waits);
+    return a;
 }
 
 trace_check_answer careful_trace_check(const uint8_t *text, size_t text_len, uint32_t code, uint64_t *scratch, size_t scratch_len,
                                        const uint8_t *trace, size_t trace_len) {
     sheet s;
     walk w;
-    if (code > 5) return (trace_check_answer){4, 1, 0};
-    if (scratch_len < 1024) return (trace_check_answer){4, 2, 0};
-    trace_check_answer a = {4, 12, 0};
+    if (code > 5) return told(4, 1, 0);
+    if (scratch_len < 1024) return told(4, 2, 0);
+    trace_check_answer a = told(4, 12, 0);
     if (trace_len % 2 == 0 && trace_len <= 768) {
         refusal r = read(text, text_len, &s, scratch, 0);
         w.words = scratch;
         if (!r.number) r = expand(&s, &w, 0);
-        a = r.number ? (trace_check_answer){4, r.number, r.line} : replay(&w, channels[code], trace, trace_len);
+        a = r.number ? told(4, r.number, r.line) : replay(&w, channels[code], trace, trace_len);
     }
     memset(scratch, 0, 1024 * 8);
     return a;

@@ -50,9 +50,15 @@ channel_check_answer channel_check(const uint8_t *text, size_t text_len, uint32_
 /* word: 0 finished, 1 stuck, 2 open, 3 not allowed, 4 refused.
  * not allowed: one is the index, from 0, of the first step that is not allowed.
  * refused:     one is the refusal's number, 1 to 12; two its line, 0 where the table gives none.
- * Numbers that a word does not name are 0. */
+ * Numbers that a word does not name are 0.
+ * waits has a number for each board. stuck: TRACE_CHECK_NO_WAIT where the board's buffer holds no message whose receive is unready; else
+ *              the event that the lowest such message waits for: the lowest event on that board that is before the receive and not yet
+ *              done (message m has the send 2m and the receive 2m + 1). On every other word all are TRACE_CHECK_NO_WAIT. */
+#define TRACE_CHECK_BOARDS 16
+#define TRACE_CHECK_NO_WAIT 65535
 typedef struct {
     uint32_t word, one, two;
+    uint16_t waits[TRACE_CHECK_BOARDS];
 } trace_check_answer;
 
 /* Says what the step rules say of a trace, from any tool, on a sheet and a channel.

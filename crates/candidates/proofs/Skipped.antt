@@ -18,13 +18,12 @@ use Rattle.model.specs.Limits.{messagesMost}
 use Rattle.model.specs.Order.{sendOf, number, atOrBefore, Scenario}
 use Rattle.model.specs.Run.{ready, allowed, send, deliver, consume}
 use Rattle.model.specs.Channel as model
-use Rattle.model.proofs.Bounded.{not-both}
 use Rattle.relation.specs.Width.{width, wordBits}
 use Rattle.relation.specs.Rows.{has, holds, marked}
 use Rattle.relation.specs.Scenario.{scenarioIn}
 use Rattle.relation.proofs.Bits.{has-zero}
 use Rattle.relation.proofs.Marked.{holds-marked}
-use Rattle.relation.proofs.Words.{or-left-false, or-right-false, has-and, some-bit, shifted, trailing-clear, alone-row, flipped, has-flipped}
+use Rattle.relation.proofs.Words.{or-left-false, or-right-false, has-and, shifted, trailing-clear, trailing-below, alone-row, flipped, has-flipped}
 use Rattle.channel_table.specs.declared.Channel.{Channel}
 use Rattle.channel_table.specs.Table.{channelIn}
 use Rattle.run.specs.declared.Run.{Run}
@@ -35,17 +34,6 @@ use Rattle.candidates.specs.declared.classes.Class.{Class}
 use Rattle.candidates.specs.declared.classes.Class.the-variants.{AnyConsume, NeededSend, AnySend}
 use Rattle.candidates.specs.Candidates.{fits, Undone, Needed, Candidates, NextIn}
 use Rattle.candidates.proofs.EachClass.{Delivers, if-delivers}
-
--- a word below 2 ^ n that is not zero has fewer than n of them
-trailing-below : (n w : ℕ) → w < 2 ^ n → (w ≡ 0 → ⊥) → trailingZeros wordBits w < n
-trailing-below n w small z = go (some-bit n w small z)
-  where
-    go : (k : ℕ) × (k < n) × (has w k ≡ true) → trailingZeros wordBits w < n
-    go (k, h, t) = near (decLt k (trailingZeros wordBits w))
-      where
-        near : Dec (k < trailingZeros wordBits w) → trailingZeros wordBits w < n
-        near (yes l) = not-both (has w k) t (trailing-clear wordBits w k l)
-        near (no l) = omega arith
 
 -- The next message in a row: what is left of m's word, and then the words behind it.
 module _ (row : List ℕ) (m : ℕ) where

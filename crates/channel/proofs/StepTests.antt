@@ -1,17 +1,19 @@
 -- A step is allowed: the tests of the code, one behind the other, are the model's. Assumes nothing.
-use mathlib.Core.Path.{_≡_, refl, sym, _∙_, ap, subst⁻¹}
+use mathlib.Core.Path.{_≡_, refl, sym, _∙_, ap, subst, subst⁻¹}
 use mathlib.Core.Bool.{Bool, true, false}
 use mathlib.Core.List.{List}
 use Prim.Native.Nat.{ℕ, _+_, _*_, _<_, _≤_}
 use native.Mathlib.Omega.{arith}
 use lib.ListN.{getD}
 use borrow.Author.Tests.{lt-ltb, le-ltb}
-use Rattle.model.specs.Order.{Scenario}
+use Rattle.model.specs.Order.{Event, sendOf, receiveOf, Scenario}
 use Rattle.model.specs.Channel as model
 use Rattle.model.specs.Run as model-run
-use Rattle.model.specs.Run.{State, send, deliver, consume, allowed}
+use Rattle.model.specs.Run.{State, send, deliver, consume, ready, allowed}
+use Rattle.model.specs.Waits.{readiness}
 use Rattle.model.specs.Schedule.{messageOfStep}
 use Rattle.model.proofs.Events.{send-event, receive-event}
+use Rattle.model.proofs.Waits.{readyOf, ready-reads}
 use Rattle.relation.specs.Width.{width}
 use Rattle.relation.specs.Rows.{holds}
 use Rattle.relation.specs.Scenario.{scenarioIn}
@@ -26,28 +28,44 @@ use Rattle.step.specs.Steps.{stepIn, messageIn}
 use Rattle.run.specs.State.{inRow, bufferOf, stateOf, BoardAt}
 use Rattle.buffers.specs.Held.{HeldIn}
 use Rattle.rules.specs.Tests.{freeIn}
-use Rattle.rules.specs.Rules.{SaysReady, SaysSendRule, SaysDeliverRule}
+use Rattle.rules.specs.declared.Readiness.{Readiness}
+use Rattle.rules.specs.declared.Readiness.the-variants.{Ready, Done, Waits}
+use Rattle.rules.specs.Rules.{readinessIn, SaysReadiness, SaysSendRule, SaysDeliverRule}
 use Rattle.rules.proofs.Conditions.{free-says}
 use Rattle.channel.specs.Steps.{Says, SaysStep, SaysIn}
 
 module _ (count : ℕ) (on words masks : List ℕ) (standing : Standing count on words masks) (m : ℕ) (inside : m < count) where
   module _ (c : Channel) (way : List ℕ) (buffer : Buffer) where
     module _ (done : List ℕ) where
-      pub send-unready : (r : Bool) → r ≡ false → SaysReady count on words done (2 * m) r → SaysStep count on words c done way buffer (Send m) false
-      unfolding allowed
-      send-unready r f h run d w b = rw (lt-ltb m count inside, ← send-event m, ← h run d, f)
+      -- the send's readiness, as the model's question whether it is ready
+      send-read : (r : Readiness) → SaysReadiness count on words done (2 * m) r → (run : Run) → run .done ≡ done
+          → ready (scenarioIn count on words) (stateOf run) (sendOf m) ≡ readyOf (readinessIn r)
+      send-read r h run d =
+          ready-reads (scenarioIn count on words) (stateOf run) (sendOf m)
+          ∙ ap readyOf (subst (λ (x : Event). readiness (scenarioIn count on words) (stateOf run) x ≡ readinessIn r) (send-event m) (sym (h run d)))
 
-      pub send-unfree : (r t : Bool) → r ≡ true → t ≡ false → SaysReady count on words done (2 * m) r → t ≡ freeIn (c .eager) masks (buffer .held)
+      send-unready : (r : Readiness) → readyOf (readinessIn r) ≡ false → SaysReadiness count on words done (2 * m) r
+          → SaysStep count on words c done way buffer (Send m) false
+      unfolding allowed
+      send-unready r f h run d w b = rw (lt-ltb m count inside, send-read r h run d, f)
+
+      pub send-done : (r : Readiness) → r ≡ Done → SaysReadiness count on words done (2 * m) r → SaysStep count on words c done way buffer (Send m) false
+      send-done r e h = send-unready r (ap (λ (q : Readiness). readyOf (readinessIn q)) e) h
+
+      pub send-waits : (r : Readiness) (k : ℕ) → r ≡ Waits k → SaysReadiness count on words done (2 * m) r → SaysStep count on words c done way buffer (Send m) false
+      send-waits r k e h = send-unready r (ap (λ (q : Readiness). readyOf (readinessIn q)) e) h
+
+      pub send-unfree : (r : Readiness) (t : Bool) → r ≡ Ready → t ≡ false → SaysReadiness count on words done (2 * m) r → t ≡ freeIn (c .eager) masks (buffer .held)
           → SaysStep count on words c done way buffer (Send m) false
       unfolding allowed
       send-unfree r t p f h g run d w b =
-          rw (lt-ltb m count inside, ← send-event m, ← h run d, p, ← free-says count on words masks standing (channelIn c) run (getD on (2 * m) 0) buffer b, ← g, f)
+          rw (lt-ltb m count inside, send-read r h run d ∙ ap (λ (q : Readiness). readyOf (readinessIn q)) p, ← free-says count on words masks standing (channelIn c) run (getD on (2 * m) 0) buffer b, ← g, f)
 
-      pub send-ruled : (r t u : Bool) → SaysSendRule words masks (c .«to_send») way m u → r ≡ true → t ≡ true
-          → SaysReady count on words done (2 * m) r → t ≡ freeIn (c .eager) masks (buffer .held) → SaysStep count on words c done way buffer (Send m) u
+      pub send-ruled : (r : Readiness) (t u : Bool) → SaysSendRule words masks (c .«to_send») way m u → r ≡ Ready → t ≡ true
+          → SaysReadiness count on words done (2 * m) r → t ≡ freeIn (c .eager) masks (buffer .held) → SaysStep count on words c done way buffer (Send m) u
       unfolding allowed
       send-ruled r t u k p q h g run d w b =
-          rw (lt-ltb m count inside, ← send-event m, ← h run d, p, ← free-says count on words masks standing (channelIn c) run (getD on (2 * m) 0) buffer b, ← g, q)
+          rw (lt-ltb m count inside, send-read r h run d ∙ ap (λ (q : Readiness). readyOf (readinessIn q)) p, ← free-says count on words masks standing (channelIn c) run (getD on (2 * m) 0) buffer b, ← g, q)
           (k count on standing inside (channelIn c) run refl w)
 
     under : (run : Run) → run .way ≡ way → inRow (run .way) (2 * m) ≡ holds width way 0 (2 * m)
@@ -76,10 +94,26 @@ module _ (count : ℕ) (on words masks : List ℕ) (standing : Standing count on
     unfolding allowed
     consume-absent r f e c way run d w b = rw (lt-ltb m count inside, b, ← e, f)
 
-    pub consume-ready : (r u : Bool) → SaysReady count on words done (2 * m + 1) u → r ≡ true → r ≡ holds width (buffer .held) 0 (2 * m)
-        → (c : Channel) (way : List ℕ) → SaysStep count on words c done way buffer (Consume m) u
+    consume-read : (r : Bool) (u : Readiness) → SaysReadiness count on words done (2 * m + 1) u → r ≡ true → r ≡ holds width (buffer .held) 0 (2 * m)
+        → (c : Channel) (way : List ℕ) → SaysStep count on words c done way buffer (Consume m) (readyOf (readinessIn u))
     unfolding allowed
-    consume-ready r u h p e c way run d w b = rw (lt-ltb m count inside, b, ← e, p, ← receive-event m) (h run d)
+    consume-read r u h p e c way run d w b =
+        rw (lt-ltb m count inside, b, ← e, p)
+        (sym (ready-reads (scenarioIn count on words) (stateOf run) (receiveOf m)
+        ∙ ap readyOf (subst (λ (x : Event). readiness (scenarioIn count on words) (stateOf run) x ≡ readinessIn u) (receive-event m) (sym (h run d)))))
+
+    module _ (r : Bool) (u : Readiness) (h : SaysReadiness count on words done (2 * m + 1) u) (p : r ≡ true) (e : r ≡ holds width (buffer .held) 0 (2 * m)) where
+      told : (t : Readiness) → u ≡ t → (c : Channel) (way : List ℕ) → SaysStep count on words c done way buffer (Consume m) (readyOf (readinessIn t))
+      told t i = subst (λ (q : Readiness). (c : Channel) (way : List ℕ) → SaysStep count on words c done way buffer (Consume m) (readyOf (readinessIn q))) i (consume-read r u h p e)
+
+      pub consume-ready : u ≡ Ready → (c : Channel) (way : List ℕ) → SaysStep count on words c done way buffer (Consume m) true
+      consume-ready i = told Ready i
+
+      pub consume-done : u ≡ Done → (c : Channel) (way : List ℕ) → SaysStep count on words c done way buffer (Consume m) false
+      consume-done i = told Done i
+
+      pub consume-waits : (k : ℕ) → u ≡ Waits k → (c : Channel) (way : List ℕ) → SaysStep count on words c done way buffer (Consume m) false
+      consume-waits k i = told (Waits k) i
 
 -- The step at hand is one of the three: so is its message.
 pub inside : (at : ℕ → Step) (step : Step) (m count : ℕ) → step ≡ at m → messageIn step < count → messageIn (at m) < count

@@ -8,6 +8,7 @@ use board::board_of;
 use buffers::HELD_WORDS;
 use channel_table::Channel;
 use relation::WIDTH;
+use rules::Readiness;
 use run::Buffer;
 use run::Run;
 use run::board_at;
@@ -30,8 +31,11 @@ fn may_send<'a>(
     ensures { λ r. ⌜ SaysStep count (now (boards .entry)) (now (words .entry)) c (now (done .entry)) (now (way .entry)) sender (Step.Send m) r ⌝ }
 {
     let send = 2 * m;
-    if !rules::ready(words, masks, boards, count, done, send) {
-        return false;
+    let readiness = rules::readiness_of(words, masks, boards, count, done, send);
+    match readiness {
+        Readiness::Ready => {}
+        Readiness::Done => return false,
+        Readiness::Waits(_) => return false,
     }
     if !rules::board_free(masks, c.eager, sender) {
         return false;
@@ -87,7 +91,12 @@ fn may_consume(
         return false;
     }
     let receive = send + 1;
-    rules::ready(words, masks, boards, count, done, receive)
+    let readiness = rules::readiness_of(words, masks, boards, count, done, receive);
+    match readiness {
+        Readiness::Ready => true,
+        Readiness::Done => false,
+        Readiness::Waits(_) => false,
+    }
 }
 
 // The step is allowed, by the parts of a run that it reads: what is done, what is under way, and the buffer of its board.

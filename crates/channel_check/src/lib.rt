@@ -2,7 +2,7 @@
 ghost use mathlib.Core.Path.{_≡_};
 ghost use Rattle.model.specs.Verdict.{Checked};
 ghost use Rattle.model.specs.Choice.{ChoiceChecked};
-ghost use Rattle.model.specs.Replay.{Replayed};
+ghost use Rattle.model.specs.Waits.{TraceChecked};
 ghost use Rattle.choice.specs.Bridge as chosen;
 ghost use Rattle.replay.specs.Bridge as replayed;
 ghost use Rattle.verdict.specs.Parts.{numbersFor};
@@ -72,7 +72,7 @@ pub extern "C" fn trace_check(
     scratch: &mut [u64],
     trace: &[u8],
 ) -> TraceCheckAnswer
-    ensures { λ r. ⌜ Replayed (now (text .entry)) code (now (scratch .entry)) (now (scratch .exit)) (now (trace .entry)) (replayed.numbersIn r) ⌝ }
+    ensures { λ r. ⌜ TraceChecked (now (text .entry)) code (now (scratch .entry)) (now (scratch .exit)) (now (trace .entry)) (replayed.numbersIn r) (r .waits) ⌝ }
 {
     replay::trace_check(text, code, scratch, trace)
 }

@@ -1,8 +1,9 @@
 -- What the tests of specs/Bounded say, one law each. Assumes nothing.
-use Prim.Native.Nat.{ℕ, zero, suc, _<_}
+use Prim.Native.Nat.{ℕ, zero, suc, _<_, _≤_}
 use native.Mathlib.Nat.{not-suc-le-zero, le-of-suc-le-suc, eq-or-lt-of-le, le-step, lt-suc-self}
+use native.Mathlib.Decide.{decLt}
 use native.Mathlib.Omega.{arith}
-use mathlib.Core.Path.{_≡_, refl, sym, ap, subst}
+use mathlib.Core.Path.{_≡_, refl, sym, _∙_, ap, subst}
 use mathlib.Core.Logic.{_⊎_, inl, inr, ⊎-elim}
 use mathlib.Core.Bool.{Bool, true, false, not, cond, _&&_, _||_}
 use mathlib.Core.Option.{Option, none, some}
@@ -191,3 +192,19 @@ lowest-nowhere n p f = go (lowest n p) (lowest-found n p)
     go : (o : Option ℕ) → Found n p o → o ≡ none
     go none h = refl
     go (some k) h = not-both (p k) (h .passes) (f k (h .below))
+
+-- tests that agree below n, of which the first fails from there to m
+pub lowest-within : (n m : ℕ) (p q : ℕ → Bool) → n ≤ m → ((k : ℕ) → k < n → p k ≡ q k) → ((k : ℕ) → n ≤ k → k < m → p k ≡ false)
+    → lowest m p ≡ lowest n q
+lowest-within n m p q l same rest = go (lowest n q) refl
+  where
+    go : (o : Option ℕ) → lowest n q ≡ o → lowest m p ≡ o
+    go none e = lowest-nowhere m p (λ k h. near k h (decLt k n))
+      where
+        near : (k : ℕ) → k < m → Dec (k < n) → p k ≡ false
+        near k h (yes b) = same k b ∙ lowest-none n q e k b
+        near k h (no b) = rest k (omega arith) h
+    go (some k) e =
+        let L = lowest-some n q k e in
+        let inside : k < n = L .below in
+        lowest-hit m k p (lowest-nowhere k p (λ j h. same j (omega arith) ∙ L .first j h)) (same k inside ∙ L .passes) (omega arith)

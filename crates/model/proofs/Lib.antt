@@ -32,6 +32,7 @@ pub mod WithoutChoices
 pub mod ChoiceBounds
 pub mod Scratch
 pub mod Replay
+pub mod Waits
 pub mod Wired
 pub mod FinishedRuns
 pub mod Ahead

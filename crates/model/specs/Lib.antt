@@ -14,6 +14,7 @@ pub mod Schedule
 pub mod Answer
 pub mod Verdict
 pub mod Replay
+pub mod Waits
 pub mod Wired
 pub mod Taps
 pub mod Senders

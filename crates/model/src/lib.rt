@@ -47,6 +47,9 @@ pub const SET_MOST: usize = 65535;
 
 pub const VERDICT_MOST: usize = 1;
 
+// What stands for a board that waits for no event (specs/Waits).
+pub const NO_WAIT: u16 = 65535;
+
 // The refusals, by the numbers of the paper's table.
 pub const CHANNEL: u8 = 1;
 

@@ -1,6 +1,6 @@
 -- The bits of a word: of an and, of a complement, behind a shift either way; that a word is zero where none of its bits is set, and that none
 -- is set below its trailing zeros; and the bits of a row that stands by itself. Assumes nothing.
-use mathlib.Core.Path.{_≡_, refl, sym, _∙_, subst}
+use mathlib.Core.Path.{_≡_, refl, _∙_, subst}
 use mathlib.Core.Bool.{Bool, true, false, not, _&&_, _||_}
 use mathlib.Core.List.{List}
 use Prim.Native.Nat.{ℕ, zero, suc, _+_, _-_, _*_, _/_, _%_, _^_, _<_}
@@ -14,6 +14,7 @@ use lib.Dec.{eqb}
 use lib.ListN.{getD}
 use lib.Pow.{pow-pos, shr-shr, field, mod-mod-pow}
 use borrow.Author.Tests.{eqb-false}
+use Rattle.model.proofs.Bounded.{not-both}
 use Rattle.relation.specs.Width.{wordBits}
 use Rattle.relation.specs.Rows.{has, holds}
 use Rattle.relation.proofs.Bits.{by-digits}
@@ -110,15 +111,16 @@ trailing-set (suc k) n h z =
     go zero e rest = half n (trailingZeros k (n / 2)) ∙ rest e
     go (suc d) e rest = lowest-set n (omega arith)
 
--- so its trailing zeros are fewer than its bits
-pub trailing-below : (k n : ℕ) → n < 2 ^ k → (n ≡ 0 → ⊥) → trailingZeros k n < k
-trailing-below k n h z = go (decLt (trailingZeros k n) k) (some-bit k n h z)
+-- a word below 2 ^ n that is not zero has fewer than n of them
+pub trailing-below : (n w : ℕ) → w < 2 ^ n → (w ≡ 0 → ⊥) → trailingZeros wordBits w < n
+trailing-below n w small z = go (some-bit n w small z)
   where
-    go : Dec (trailingZeros k n < k) → (b : ℕ) × (b < k) × (has n b ≡ true) → trailingZeros k n < k
-    go (yes l) s = l
-    go (no g) s =
-        let e : true ≡ false = sym (s .2) ∙ trailing-clear k n (s .0) (omega (arith, s .1)) in
-        let z : _≡_ {A = ℕ} 0 1 = cc in absurd (omega arith)
+    go : (k : ℕ) × (k < n) × (has w k ≡ true) → trailingZeros wordBits w < n
+    go (k, h, t) = near (decLt k (trailingZeros wordBits w))
+      where
+        near : Dec (k < trailingZeros wordBits w) → trailingZeros wordBits w < n
+        near (yes l) = not-both (has w k) t (trailing-clear wordBits w k l)
+        near (no l) = omega arith
 
 -- a word shifted by one: no bit comes to the lowest place, and every other place has the bit below it
 has-even : (n : ℕ) → has (n * 2) 0 ≡ false

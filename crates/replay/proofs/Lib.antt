@@ -1,3 +1,2 @@
-mod Going
 mod Parts
 mod Whole

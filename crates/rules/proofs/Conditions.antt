@@ -3,23 +3,25 @@ use mathlib.Core.Path.{_≡_, refl, sym, ap, ap₂, _∙_}
 use mathlib.Core.Bool.{Bool, true, false, not, _&&_, _||_, and-false}
 use mathlib.Core.List.{List}
 use Prim.Native.Nat.{ℕ, _+_, _*_, _/_, _%_, _<_, _≤_}
-use native.Mathlib.Decide.{decLt}
 use native.Mathlib.Omega.{arith}
 use mathlib.Core.Logic.{⊎-elim}
 use lib.Dec.{eqb, ltb}
 use lib.ListN.{getD}
 use borrow.Author.Tests.{eq-eqb, lt-ltb, le-ltb, eqb-true, ltb-true}
 use Rattle.model.specs.Limits.{boards, messagesMost}
-use Rattle.model.specs.Bounded.{every}
+use Rattle.model.specs.Bounded.{every, lowest}
 use Rattle.model.specs.Channel as model
 use Rattle.model.specs.Order.{Event, sendOf, receiveOf, number, event, messageOf, boardOf, board, Scenario}
-use Rattle.model.specs.Run.{everyEvent, isAhead, ready, bufferEmpty, boardFree, maySend, mayDeliver}
-use Rattle.model.proofs.Bounded.{and-left, and-right, every-at, every-from, which, not-is-true}
-use Rattle.model.proofs.Events.{event-number, number-event, below-number, below-event}
-use Rattle.model.proofs.Rules.{everyEvent-at, everyEvent-from}
+use Rattle.model.specs.Run.{isAhead, bufferEmpty, boardFree, maySend, mayDeliver}
+use Rattle.model.specs.Waits.{holdsUp, readiness}
+use Rattle.model.proofs.Bounded.{and-left, and-right, every-at, every-from, which, not-is-true, lowest-within}
+use Rattle.model.proofs.Events.{number-event, below-event}
 use Rattle.relation.specs.Width.{width, wordBits}
 use Rattle.relation.specs.Rows.{holds}
 use Rattle.relation.specs.Scenario.{scenarioIn}
+use Rattle.relation.specs.declared.Found.{Found}
+use Rattle.relation.specs.declared.Found.the-variants as found
+use Rattle.relation.specs.Own.{foundIn}
 use Rattle.relation.proofs.Tests.{both-ways, eqb-same}
 use Rattle.channel_table.specs.declared.ToSend.{ToSend}
 use Rattle.channel_table.specs.declared.ToSend.the-variants as to-send
@@ -30,8 +32,9 @@ use Rattle.board.specs.Masks.{isSend, Standing}
 use Rattle.run.specs.declared.Buffer.{Buffer}
 use Rattle.run.specs.declared.Run.{Run}
 use Rattle.run.specs.State.{inRow, Without, bufferOf, stateOf}
-use Rattle.rules.specs.Tests.{undone, noneOfRow, noneIn}
-use Rattle.rules.specs.Rules.{SaysReady, SaysSendRule, SaysDeliverRule}
+use Rattle.rules.specs.declared.Readiness.the-variants.{Ready, Done, Waits}
+use Rattle.rules.specs.Tests.{leftOf, noneOfRow, noneIn}
+use Rattle.rules.specs.Rules.{SaysReadiness, SaysSendRule, SaysDeliverRule}
 
 -- tests that agree below the bound
 every-ext : (n : ℕ) (p q : ℕ → Bool) → ((k : ℕ) → k < n → p k ≡ q k) → every n p ≡ every n q
@@ -39,22 +42,6 @@ every-ext n p q h =
     both-ways (every n p) (every n q)
     (λ t. every-from n q (λ k l. sym (h k l) ∙ every-at n p t k l))
     (λ t. every-from n p (λ k l. h k l ∙ every-at n q t k l))
-
--- every event of the scenario, by its number
-module _ (S : Scenario) (p : Event → Bool) where
-  -- a test over n numbers that the events are among, and that no other number fails
-  events-all : (n : ℕ) (q : ℕ → Bool) → 2 * S .count ≤ n → ((k : ℕ) → k < 2 * S .count → p (event k) ≡ q k)
-      → ((k : ℕ) → 2 * S .count ≤ k → k < n → q k ≡ true) → everyEvent S p ≡ every n q
-  events-all n q room agree rest =
-      both-ways (everyEvent S p) (every n q)
-      (λ t. every-from n q (λ k l. go t k l (decLt k (2 * S .count))))
-      (λ t. everyEvent-from S p (λ x l.
-      let b : number x < 2 * S .count = below-number x (S .count) .0 l in
-      ap p (sym (event-number x)) ∙ agree (number x) b ∙ every-at n q t (number x) (omega arith)))
-    where
-      go : everyEvent S p ≡ true → (k : ℕ) → k < n → Dec (k < 2 * S .count) → q k ≡ true
-      go t k l (yes b) = sym (agree k b) ∙ everyEvent-at S p t (event k) (below-event k (S .count) b)
-      go t k l (no b) = rest k (omega arith) l
 
 -- a test over n numbers that only sends can fail, by messages
 sends-all : (n count : ℕ) (q p : ℕ → Bool) → 2 * count ≤ n → ((k : ℕ) → k < n → q k ≡ true → isSend count k ≡ true)
@@ -81,12 +68,6 @@ board-number : (count : ℕ) (on words : List ℕ) (x : Event) → board (scenar
 unfolding boardOf number
 board-number count on words (sendOf m) = refl
 board-number count on words (receiveOf m) = refl
-
-ahead : (h e d : Bool) → (not (h && e) || d) ≡ not (h && e && not d)
-ahead false e d = refl
-ahead true false d = refl
-ahead true true true = refl
-ahead true true false = refl
 
 other : (a d : Bool) → not (a && not d) ≡ (d || not a)
 other false true = refl
@@ -130,40 +111,46 @@ module _ (count : ℕ) (on words masks : List ℕ) (standing : Standing count on
       (board-number count on words (event k) ∙ ap (λ (n : ℕ). getD on n 0) (number-event k))
       (board-number count on words (event x) ∙ ap (λ (n : ℕ). getD on n 0) (number-event x)))
 
-  settled-says : (done : List ℕ) (x : ℕ) → x < 2 * count
-      → noneOfRow (wordBits * width) width words x masks (getD on x 0) (undone done)
-      ≡ everyEvent S (λ y. not (isAhead S y (event x)) || inRow done (number y))
-  unfolding noneOfRow
-  settled-says done x hx =
-      sym (events-all S (λ y. not (isAhead S y (event x)) || inRow done (number y)) (wordBits * width) _ room agree rest)
+  -- the lowest event before x on its board that is not done, in every run with these events done
+  left-says : (done : List ℕ) (x : ℕ) → x < 2 * count → (run : Run) → run .done ≡ done
+      → lowest (wordBits * width) (leftOf width words x masks (getD on x 0) done) ≡ lowest (2 * count) (holdsUp S (stateOf run) (event x))
+  unfolding leftOf holdsUp
+  left-says done x hx run d =
+      lowest-within (2 * count) (wordBits * width) (leftOf width words x masks (getD on x 0) done) (holdsUp S (stateOf run) (event x)) room agree rest
     where
       mask : (k : ℕ) → k < 2 * count → holds width masks (getD on x 0) k ≡ eqb (getD on k 0) (getD on x 0)
       mask k hk =
           standing .masksOf .onBoard (getD on x 0) k (standing .boardsBelow x hx) (omega (arith, room)) ∙ rw (lt-ltb k (2 * count) hk)
 
       agree : (k : ℕ) → k < 2 * count
-          → (not (isAhead S (event k) (event x)) || inRow done (number (event k)))
-          ≡ not (holds width words x k && holds width masks (getD on x 0) k && not (inRow done k))
+          → leftOf width words x masks (getD on x 0) done k ≡ holdsUp S (stateOf run) (event x) k
       agree k hk =
-          ap₂ (λ (a b : Bool). not a || b) (ahead-is k x hk hx) (ap (inRow done) (number-event k))
-          ∙ ahead (holds width words x k) (eqb (getD on k 0) (getD on x 0)) (inRow done k)
-          ∙ ap (λ (b : Bool). not (holds width words x k && b && not (inRow done k))) (sym (mask k hk))
+          rw (d, number-event k) (ap (λ (a : Bool). a && not (inRow done k)) (ap (λ (b : Bool). holds width words x k && b) (mask k hk) ∙ sym (ahead-is k x hk hx)))
 
-      rest : (k : ℕ) → 2 * count ≤ k → k < wordBits * width
-          → not (holds width words x k && holds width masks (getD on x 0) k && not (inRow done k)) ≡ true
+      rest : (k : ℕ) → 2 * count ≤ k → k < wordBits * width → leftOf width words x masks (getD on x 0) done k ≡ false
       rest k hk h =
           rw (standing .masksOf .onBoard (getD on x 0) k (standing .boardsBelow x hx) h, le-ltb k (2 * count) hk, and-false)
 
-  -- an event is ready: not done, and all events before it on its board are done
-  pub ready-done : (done : List ℕ) (x : ℕ) (t : Bool) → t ≡ holds width done 0 x → t ≡ true → SaysReady count on words done x false
-  unfolding ready
-  ready-done done x t e h run d = rw (d, number-event x, ← e, h)
+  -- what each return of `readiness` is to show
+  pub says-done : (done : List ℕ) (x : ℕ) (t : Bool) → t ≡ holds width done 0 x → t ≡ true → SaysReadiness count on words done x Done
+  unfolding readiness
+  says-done done x t e h run d = rw (d, number-event x, ← e, h)
 
-  pub ready-rest : (done : List ℕ) (x b : ℕ) (t u : Bool) → u ≡ noneOfRow (wordBits * width) width words x masks b (undone done) → t ≡ holds width done 0 x
-      → t ≡ false → b ≡ getD on x 0 → x < 2 * count → SaysReady count on words done x u
-  unfolding ready
-  ready-rest done x b t u s e h i hx run d =
-      rw (d, number-event x, ← e, h) (s ∙ rw i (settled-says done x hx))
+  module _ (done : List ℕ) (x b : ℕ) (t : Bool) (r : Found) (s : foundIn r ≡ lowest (wordBits * width) (leftOf width words x masks b done)) (e : t ≡ holds width done 0 x)
+      (f : t ≡ false) (i : b ≡ getD on x 0) (hx : x < 2 * count) where
+    left-is : (run : Run) → run .done ≡ done → lowest (2 * count) (holdsUp S (stateOf run) (event x)) ≡ foundIn r
+    left-is run d = sym (s ∙ rw i (left-says done x hx run d))
+
+    undone-is : (run : Run) → run .done ≡ done → inRow (run .done) (number (event x)) ≡ false
+    undone-is run d = rw (d, number-event x, ← e) f
+
+    pub says-waits : (k : ℕ) → r ≡ found.Event k → SaysReadiness count on words done x (Waits k)
+    unfolding readiness
+    says-waits k j run d = rw (undone-is run d, left-is run d ∙ ap foundIn j)
+
+    pub says-ready : r ≡ found.Nothing → SaysReadiness count on words done x Ready
+    unfolding readiness
+    says-ready j run d = rw (undone-is run d, left-is run d ∙ ap foundIn j)
 
   -- no message of the mask of all sends is among those given
   none-says : (given : List ℕ) → noneIn (wordBits * width) width masks (2 * boards) given ≡ every count (λ f. not (inRow given (2 * f)))

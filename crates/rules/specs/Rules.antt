@@ -6,7 +6,8 @@ use Prim.Native.Nat.{ℕ, _+_, _*_, _<_}
 use lib.ListN.{getD}
 use Rattle.model.specs.Channel as model
 use Rattle.model.specs.Order.{event}
-use Rattle.model.specs.Run.{ready, maySend, mayDeliver}
+use Rattle.model.specs.Run.{maySend, mayDeliver}
+use Rattle.model.specs.Waits as waits
 use Rattle.relation.specs.Scenario.{scenarioIn}
 use Rattle.channel_table.specs.declared.ToSend.{ToSend}
 use Rattle.channel_table.specs.declared.ToDeliver.{ToDeliver}
@@ -14,11 +15,19 @@ use Rattle.channel_table.specs.Table.{toSendIn, toDeliverIn}
 use Rattle.board.specs.Masks.{Standing}
 use Rattle.run.specs.declared.Run.{Run}
 use Rattle.run.specs.State.{stateOf}
+use Rattle.rules.specs.declared.Readiness.{Readiness}
+use Rattle.rules.specs.declared.Readiness.the-variants.{Ready, Done, Waits}
 
--- event x of `count` messages is ready, event k being on board `getD on k 0`, in every run with these events done
-abbrev pub SaysReady : ℕ → List ℕ → List ℕ → List ℕ → ℕ → Bool → Type 0
-SaysReady count on words done x r =
-    (run : Run) → run .done ≡ done → r ≡ ready (scenarioIn count on words) (stateOf run) (event x)
+-- the code's readiness as the model's
+abbrev pub readinessIn : Readiness → waits.Readiness
+readinessIn Ready = waits.isReady
+readinessIn Done = waits.isDone
+readinessIn (Waits k) = waits.waitsFor k
+
+-- the readiness of event x of `count` messages, event k being on board `getD on k 0`, in every run with these events done
+abbrev pub SaysReadiness : ℕ → List ℕ → List ℕ → List ℕ → ℕ → Readiness → Type 0
+SaysReadiness count on words done x r =
+    (run : Run) → run .done ≡ done → readinessIn r ≡ waits.readiness (scenarioIn count on words) (stateOf run) (event x)
 
 -- the further conditions, of every scenario with these words and masks, and of every run with these messages under way
 abbrev pub SaysSendRule : List ℕ → List ℕ → ToSend → List ℕ → ℕ → Bool → Type 0

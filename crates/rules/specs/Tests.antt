@@ -13,6 +13,10 @@ use Rattle.run.specs.State.{inRow}
 abbrev pub undone : List ℕ → ℕ → Bool
 undone done k = not (inRow done k)
 
+-- an event of row y that is in mask b and not done
+unfoldable pub leftOf : ℕ → List ℕ → ℕ → List ℕ → ℕ → List ℕ → ℕ → Bool
+leftOf W words y masks b done k = holds W words y k && holds W masks b k && undone done k
+
 -- no event of row y that is in mask b passes the test
 unfoldable pub noneOfRow : ℕ → ℕ → List ℕ → ℕ → List ℕ → ℕ → (ℕ → Bool) → Bool
 noneOfRow n W words y masks b test = every n (λ k. not (holds W words y k && holds W masks b k && test k))

@@ -9,36 +9,48 @@ ghost use Rattle.relation.specs.Width.{width};
 ghost use Rattle.board.specs.Boards.{boardsMost};
 ghost use Rattle.board.specs.Masks.{maskRows, Standing};
 ghost use Rattle.rules.specs.Tests.{freeIn};
-ghost use Rattle.rules.specs.Rules.{SaysReady, SaysSendRule, SaysDeliverRule};
+ghost use Rattle.rules.specs.Rules.{SaysReadiness, SaysSendRule, SaysDeliverRule};
 use crate::rows::apart;
+use crate::rows::first_left;
 use crate::rows::none_of;
-use crate::rows::settled;
 use board::SENDS;
 use board::board_of;
 use channel_table::ToDeliver;
 use channel_table::ToSend;
+use relation::Found;
 use relation::WIDTH;
 use run::Buffer;
 use run::without;
 
-// Event x is ready: not done, and all events before it on its board are done.
-pub fn ready(
+// An event is ready; or done already; or it waits for the lowest event before it on its board that is not yet done.
+pub enum Readiness {
+    Ready,
+    Done,
+    Waits(usize),
+}
+
+// The readiness of event x. Done comes first.
+pub fn readiness_of(
     words: &[u64],
     masks: &[u64],
     boards: &[u8],
     count: usize,
     done: &[u64; WIDTH],
     x: usize,
-) -> bool
+) -> Readiness
     requires { ⌜ Standing count (now boards) (now words) (now masks) ⌝ }
     requires { ⌜ x < 2 * count ⌝ }
-    ensures { λ r. ⌜ SaysReady count (now (boards .entry)) (now (words .entry)) (now (done .entry)) x r ⌝ }
+    ensures { λ r. ⌜ SaysReadiness count (now (boards .entry)) (now (words .entry)) (now (done .entry)) x r ⌝ }
 {
     if relation::test(done, 0, x) {
-        return false;
+        return Readiness::Done;
     }
     let board = board_of(boards, x);
-    settled(words, x, masks, board, done)
+    let found = first_left(words, x, masks, board, done);
+    match found {
+        Found::Event(k) => Readiness::Waits(k),
+        Found::Nothing => Readiness::Ready,
+    }
 }
 
 // An eager board sends, or takes a delivery, only while its buffer is empty.

@@ -1,29 +1,41 @@
 // Tests of rows, word by word.
 ghost use mathlib.Core.Path.{_≡_};
-ghost use Prim.Native.Nat.{_+_, _*_, _≤_};
+ghost use Prim.Native.Nat.{_+_, _*_, _^_, _<_, _≤_};
 ghost use lib.ListN.{length};
+ghost use Rattle.model.specs.Bounded.{lowest};
 ghost use Rattle.relation.specs.Width.{width, wordBits};
+ghost use Rattle.relation.specs.Own.{foundIn};
 ghost use Rattle.run.specs.State.{inRow};
-ghost use Rattle.rules.specs.Tests.{undone, noneOfRow, noneIn};
+ghost use Rattle.rules.specs.Tests.{leftOf, noneOfRow, noneIn};
+use relation::Found;
 use relation::WIDTH;
+use relation::WORD_BITS;
 
-// Every event of row y that is in the mask is done.
-pub fn settled(words: &[u64], y: usize, masks: &[u64], mask: usize, done: &[u64]) -> bool
+// A count of bits, as an index.
+fn wide(bits: u32) -> usize
+    ensures { λ r. ⌜ (r ≡ bits) × (r < 2 ^ 32) ⌝ }
+{
+    bits as usize
+}
+
+// The lowest event of row y that is in the mask and not done, by trailing zeros, word by word.
+pub fn first_left(words: &[u64], y: usize, masks: &[u64], mask: usize, done: &[u64]) -> Found
     requires { ⌜ y * width + width ≤ length (now words) ⌝ }
     requires { ⌜ mask * width + width ≤ length (now masks) ⌝ }
     requires { ⌜ width ≤ length (now done) ⌝ }
-    ensures { λ r. ⌜ r ≡ noneOfRow (wordBits * width) width (now (words .entry)) y (now (masks .entry)) mask (undone (now (done .entry))) ⌝ }
+    ensures { λ r. ⌜ foundIn r ≡ lowest (wordBits * width) (leftOf width (now (words .entry)) y (now (masks .entry)) mask (now (done .entry))) ⌝ }
 {
     let row = y * WIDTH;
     let board = mask * WIDTH;
     for i in 0..WIDTH {
         let at = row + i;
         let by = board + i;
-        if words[at] & masks[by] & !done[i] != 0 {
-            return false;
+        let left = words[at] & masks[by] & !done[i];
+        if left != 0 {
+            return Found::Event(WORD_BITS * i + wide(u64::trailing_zeros(left)));
         }
     }
-    true
+    Found::Nothing
 }
 
 // No event of row y is both in the mask and among those given.

@@ -2,7 +2,7 @@
 use mathlib.Core.Path.{_≡_, refl, ap, _∙_, fun-ext, subst, subst⁻¹}
 use mathlib.Core.Bool.{Bool, true, false, not, cond, _&&_, _||_, or-comm, or-false, or-true, and-true, and-false}
 use mathlib.Core.List.{List, [], _∷_}
-use Prim.Native.Nat.{ℕ, zero, suc, _+_, _*_, _/_, _%_, _<_}
+use Prim.Native.Nat.{ℕ, zero, suc, _+_, _*_, _/_, _%_, _<_, _≤_}
 use native.Mathlib.Nat.{not-suc-le-zero, le-of-suc-le-suc}
 use native.Mathlib.Decide.{ℕ-discrete}
 use native.Mathlib.Omega.{arith}
@@ -118,10 +118,10 @@ event-read on (Send m) r = r .from
 event-read on (Deliver m) r = r .below
 event-read on (Consume m) r = r .below
 
-pub event-long : (on : List ℕ) (s : Step) (x : ℕ) → x ≡ eventIn s → Reaches on s → x < length on
-event-long on (Send m) x e r = omega (arith, r .long)
-event-long on (Deliver m) x e r = omega (arith, r .long)
-event-long on (Consume m) x e r = omega (arith, r .long)
+pub event-last : (s : Step) → eventIn s ≤ 2 * messageIn s + 1
+event-last (Send m) = omega arith
+event-last (Deliver m) = omega arith
+event-last (Consume m) = omega arith
 
 pub board-read : (on : List ℕ) (s : Step) (x b : ℕ) → b ≡ getD on x 0 → x ≡ eventIn s → Reaches on s → BoardAt on s b
 board-read on s x b e i r = record { place = rw (e, i); below = rw (e, i) (event-read on s r) }

@@ -1,7 +1,6 @@
--- `channel::may_consume` meets its contract: in the buffer, and ready.
--- Assumes nothing.
+-- `channel::may_consume` meets its contract: held, and ready. Assumes nothing.
 use borrow.Author.Tests.{not-true, not-false}
-use Rattle.channel.proofs.StepTests.{consume-absent, consume-ready}
+use Rattle.channel.proofs.StepTests.{consume-absent, consume-ready, consume-done, consume-waits}
 use borrow.Author.Needs.{needs}
 use Rattle.channel.proofs.may_consume.Statement.{statement}
 use Rattle.channel.proofs.may_consume.Tie as tie
@@ -13,21 +12,44 @@ test-requires : tie.Need-test-requires
 test-requires c κs = search needs
 
 returns : tie.Need-returns
-returns c =
-    let s = c .before .before .before .before .before .before .before .before in
-    consume-absent _ _ _ _ (s .pre .0) _ (s .pre .1) _ _ _ (not-true _ (c .if1 .taken)) (c .before .test .ensures)
+returns c = search (consume-absent, not-true)
 
 add-receive : tie.Need-add-receive
 add-receive c = search needs
 
-ready-requires : tie.Need-ready-requires
-ready-requires c κs = search needs
+readiness-of-requires : tie.Need-readiness-of-requires
+readiness-of-requires c κs = search needs
+
+enum-told : tie.Need-enum-told
+enum-told c = search needs
+
+enum-told-2 : tie.Need-enum-told-2
+enum-told-2 c = search needs
+
+enum-told-3 : tie.Need-enum-told-3
+enum-told-3 c = search needs
 
 returns-2 : tie.Need-returns-2
-returns-2 c =
-    let s = c .before .before .before .before .before .before .before .before .before in
-    consume-ready _ _ _ _ (s .pre .0) _ (s .pre .1) _ _ _ _ (c .ready .ensures) (not-false _ (c .before .if1 .left)) (c .before .before .test .ensures)
+returns-2 c = search (consume-ready, not-false)
+
+returns-3 : tie.Need-returns-3
+returns-3 c = search (consume-done, not-false)
+
+returns-4 : tie.Need-returns-4
+returns-4 c = search (consume-waits, not-false)
 
 pub may-consume-spec : {M : Type 1} → statement M
 may-consume-spec =
-    tie.close (tie.spec mul-send test-requires returns add-receive ready-requires returns-2)
+    tie.close
+    (tie.spec
+    mul-send
+    test-requires
+    returns
+    add-receive
+    readiness-of-requires
+    enum-told
+    enum-told-2
+    enum-told-3
+    returns-2
+    returns-3
+    returns-4)

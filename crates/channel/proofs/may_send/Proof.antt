@@ -1,7 +1,7 @@
 -- `channel::may_send` meets its contract: ready, free, and the further condition, in this order.
 -- Assumes nothing.
 use borrow.Author.Tests.{not-true, not-false}
-use Rattle.channel.proofs.StepTests.{send-unready, send-unfree, send-ruled}
+use Rattle.channel.proofs.StepTests.{send-done, send-waits, send-unfree, send-ruled}
 use borrow.Author.Needs.{needs}
 use Rattle.channel.proofs.may_send.Statement.{statement}
 use Rattle.channel.proofs.may_send.Tie as tie
@@ -9,40 +9,48 @@ use Rattle.channel.proofs.may_send.Tie as tie
 mul-send : tie.Need-mul-send
 mul-send c = search needs
 
-ready-requires : tie.Need-ready-requires
-ready-requires c κs = search needs
+readiness-of-requires : tie.Need-readiness-of-requires
+readiness-of-requires c κs = search needs
+
+enum-told : tie.Need-enum-told
+enum-told c = search needs
+
+enum-told-2 : tie.Need-enum-told-2
+enum-told-2 c = search needs
 
 returns : tie.Need-returns
-returns c =
-    let s = c .before .before .before .before .before in
-    send-unready _ _ _ _ (s .pre .0) _ (s .pre .1) (s .args .c) _ (s .args .sender) _ _ (not-true _ (c .if1 .taken)) (c .before .ready .ensures)
+returns c = search send-done
+
+enum-told-3 : tie.Need-enum-told-3
+enum-told-3 c = search needs
+
+returns-2 : tie.Need-returns-2
+returns-2 c = search send-waits
 
 board-free-requires : tie.Need-board-free-requires
 board-free-requires c κs = search needs
 
-returns-2 : tie.Need-returns-2
-returns-2 c =
-    let s = c .before .before .before .before .before .before .before in
-    send-unfree _ _ _ _ (s .pre .0) _ (s .pre .1) (s .args .c) _ (s .args .sender) _ _ _ (not-false _ (c .before .before .if1 .left)) (not-true _ (c .if2 .taken)) (c .before .before .before .ready .ensures)
-    (c .before .board-free .ensures)
+returns-3 : tie.Need-returns-3
+returns-3 c = search (send-unfree, not-true)
 
 send-rule-requires : tie.Need-send-rule-requires
 send-rule-requires c κs = search needs
 
-returns-3 : tie.Need-returns-3
-returns-3 c =
-    let s = c .before .before .before .before .before .before .before .before in
-    send-ruled _ _ _ _ (s .pre .0) _ (s .pre .1) (s .args .c) _ (s .args .sender) _ _ _ _ (c .send-rule .ensures) (not-false _ (c .before .before .before .if1 .left)) (not-false _ (c .before .if2 .left))
-    (c .before .before .before .before .ready .ensures) (c .before .before .board-free .ensures)
+returns-4 : tie.Need-returns-4
+returns-4 c = search (send-ruled, not-false)
 
 pub may-send-spec : {M : Type 1} → statement M
 may-send-spec =
     tie.close
     (tie.spec
     mul-send
-    ready-requires
+    readiness-of-requires
+    enum-told
+    enum-told-2
     returns
-    board-free-requires
+    enum-told-3
     returns-2
+    board-free-requires
+    returns-3
     send-rule-requires
-    returns-3)
+    returns-4)

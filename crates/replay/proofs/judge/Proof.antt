@@ -1,8 +1,8 @@
 -- `replay::judge` meets its contract. Assumes nothing.
+use native.Mathlib.Omega.{arith}
 use Rattle.scenario.proofs.Laws.{sheet-fits, boards-long}
 use Rattle.replay.proofs.Parts.{scenario-refused, scenario-replayed, scenario-stands}
 use borrow.Author.Needs.{needs}
-use native.Mathlib.Omega.{arith}
 use Rattle.replay.proofs.judge.Statement.{statement}
 use Rattle.replay.proofs.judge.Tie as tie
 
@@ -11,6 +11,9 @@ scenario-of-requires c κs = search needs
 
 enum-known-outcome : tie.Need-enum-known-outcome
 enum-known-outcome c = search needs
+
+unwaited-requires : tie.Need-unwaited-requires
+unwaited-requires c κs = search needs
 
 enum-known-outcome-2 : tie.Need-enum-known-outcome-2
 enum-known-outcome-2 c = search needs
@@ -59,6 +62,7 @@ judge-spec =
     (tie.spec
     scenario-of-requires
     enum-known-outcome
+    unwaited-requires
     enum-known-outcome-2
     slice-aggregate-board-masks
     slice-aggregate-board-masks-2

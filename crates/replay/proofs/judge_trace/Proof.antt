@@ -9,17 +9,26 @@ use borrow.Author.Needs.{needs}
 use Rattle.replay.proofs.judge_trace.Statement.{statement}
 use Rattle.replay.proofs.judge_trace.Tie as tie
 
+unwaited-requires : tie.Need-unwaited-requires
+unwaited-requires c κs = search needs
+
 returns : tie.Need-returns
 returns c = search refuses-channel
 
+unwaited-requires-2 : tie.Need-unwaited-requires-2
+unwaited-requires-2 c κs = search needs
+
 returns-2 : tie.Need-returns-2
-returns-2 c = refuses-scratch _ _ _ _ (search needs) (omega arith)
+returns-2 c = search refuses-scratch
 
 is-trace-requires : tie.Need-is-trace-requires
 is-trace-requires c κs = search needs
 
 clear-requires : tie.Need-clear-requires
 clear-requires c κs = search needs
+
+unwaited-requires-3 : tie.Need-unwaited-requires-3
+unwaited-requires-3 c κs = search needs
 
 same-length : tie.Need-same-length
 same-length c = search needs
@@ -50,17 +59,20 @@ returns-4 c =
     let passed = s .before .before in
     let n = 2 * messagesMost * width in
     let kept = length-take n (passed .before .before .before .before .before .before .before .args .scratch .now) in
-    replays _ _ _ _ _ _ (s .judge .last .1 .1 .0) n (s .judge .result) (passed .if3 .left) (passed .before .is-trace .ensures) (search needs) (search needs) (omega (arith, kept)) (search needs)
+    replays _ _ _ _ (s .judge .result) _ _ (s .judge .last .1 .1 .0) n (passed .if3 .left) (passed .before .is-trace .ensures) (search needs) (search needs) (omega (arith, kept)) (search needs)
     (c .before .before .clear2 .ensures) (s .judge .ensures)
 
 pub judge-trace-spec : {M : Type 1} → statement M
 judge-trace-spec =
     tie.close
     (tie.spec
+    unwaited-requires
     returns
+    unwaited-requires-2
     returns-2
     is-trace-requires
     clear-requires
+    unwaited-requires-3
     same-length
     returns-3
     slice-relend-prefix-judge

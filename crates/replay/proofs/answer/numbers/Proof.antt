@@ -17,19 +17,17 @@ enum-told-3 c = search needs
 enum-known-verdict : tie.Need-enum-known-verdict
 enum-known-verdict c = search needs
 
-cast-t6 : tie.Need-cast-t6
-cast-t6 c =
-    omega (arith, small-index (c .before .before .before .args .verdict) _ (c .before .verdict .given .1) (c .before .before .before .pre))
+cast-t8 : tie.Need-cast-t8
+cast-t8 c = omega (arith, small-index (c .before .before .before .before .args .outcome .verdict) _ (c .before .verdict .given .1) (c .before .before .before .before .pre))
 
 enum-known-verdict-2 : tie.Need-enum-known-verdict-2
 enum-known-verdict-2 c = search needs
 
-cast-t7 : tie.Need-cast-t7
-cast-t7 c = search needs
+cast-t9 : tie.Need-cast-t9
+cast-t9 c = search needs
 
-cast-t8 : tie.Need-cast-t8
-cast-t8 c =
-    omega (arith, small-line (c .before .before .before .args .verdict) _ _ (c .before .verdict2 .given .1) (c .before .before .before .pre))
+cast-t10 : tie.Need-cast-t10
+cast-t10 c = omega (arith, small-line (c .before .before .before .before .args .outcome .verdict) _ _ (c .before .verdict2 .given .1) (c .before .before .before .before .pre))
 
 returns : tie.Need-returns
 returns c = search finished-numbers
@@ -54,10 +52,10 @@ numbers-spec =
     enum-told-2
     enum-told-3
     enum-known-verdict
-    cast-t6
-    enum-known-verdict-2
-    cast-t7
     cast-t8
+    enum-known-verdict-2
+    cast-t9
+    cast-t10
     returns
     returns-2
     returns-3

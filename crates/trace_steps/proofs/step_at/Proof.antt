@@ -1,8 +1,8 @@
--- `replay::step_at` meets its contract. Assumes nothing.
-use Rattle.replay.proofs.Going.{tells-unknown, tells-known}
+-- `trace_steps::step_at` meets its contract. Assumes nothing.
+use Rattle.trace_steps.proofs.Going.{tells-unknown, tells-known}
 use borrow.Author.Needs.{needs}
-use Rattle.replay.proofs.step_at.Statement.{statement}
-use Rattle.replay.proofs.step_at.Tie as tie
+use Rattle.trace_steps.proofs.step_at.Statement.{statement}
+use Rattle.trace_steps.proofs.step_at.Tie as tie
 
 mul-at : tie.Need-mul-at
 mul-at c = search needs

@@ -1,9 +1,9 @@
--- `replay::take_steps` meets its contract. Assumes nothing.
+-- `trace_steps::take_steps` meets its contract. Assumes nothing.
 use Prim.Native.Nat.{_-_}
 use borrow.Author.Needs.{needs}
-use Rattle.replay.proofs.Going.{Going, going-starts, steps-end, next-fits, step-there, tells-none, tells-not, step-inside, step-few, step-reaches, goes-on}
-use Rattle.replay.proofs.take_steps.Statement.{statement}
-use Rattle.replay.proofs.take_steps.Tie as tie
+use Rattle.trace_steps.proofs.Going.{Going, going-starts, steps-end, next-fits, step-there, tells-none, tells-not, step-inside, step-few, step-reaches, goes-on}
+use Rattle.trace_steps.proofs.take_steps.Statement.{statement}
+use Rattle.trace_steps.proofs.take_steps.Tie as tie
 
 abbrev Inv-loop : tie.InvT-loop
 Inv-loop words masks boards count c trace run₀ i₀ i-end run i = Going count boards words c trace i-end run i
@@ -26,6 +26,9 @@ enum-known-told c = search needs
 enum-told : tie.Need-enum-told Inv-loop μ-loop
 enum-told c = search needs
 
+unwaited-requires : tie.Need-unwaited-requires Inv-loop μ-loop
+unwaited-requires c κs = search needs
+
 returns : tie.Need-returns Inv-loop μ-loop
 returns c = search tells-none
 
@@ -40,6 +43,9 @@ element-copy-out-own c = search needs
 
 allowed-requires : tie.Need-allowed-requires Inv-loop μ-loop
 allowed-requires c κs = (search needs, search step-inside)
+
+unwaited-requires-2 : tie.Need-unwaited-requires-2 Inv-loop μ-loop
+unwaited-requires-2 c κs = search needs
 
 returns-2 : tie.Need-returns-2 Inv-loop μ-loop
 returns-2 c = search tells-not
@@ -65,8 +71,8 @@ held-behind-requires c κs =
     let turn = told .before .before .before .before in
     step-few _ _ _ _ (turn .before .before .before .before .before .before .args .trace .now) (turn .loop .i) _ _ (told .before .before .step-at .ensures) (told .told .given .1) (turn .before .before .before .before .before .before .pre .0)
 
-mul-t19 : tie.Need-mul-t19 Inv-loop μ-loop
-mul-t19 c = search needs
+mul-t20 : tie.Need-mul-t20 Inv-loop μ-loop
+mul-t20 c = search needs
 
 element-set-from-run : tie.Need-element-set-from-run Inv-loop μ-loop
 element-set-from-run c = search needs
@@ -79,9 +85,6 @@ loop-less c = search needs
 
 loop-again : tie.Need-loop-again Inv-loop μ-loop
 loop-again c = search goes-on
-
-stand-of-requires : tie.Need-stand-of-requires Inv-loop μ-loop
-stand-of-requires c κs = search needs
 
 stood-requires : tie.Need-stood-requires Inv-loop μ-loop
 stood-requires c κs = search needs
@@ -100,11 +103,13 @@ take-steps-spec =
     step-at-requires
     enum-known-told
     enum-told
+    unwaited-requires
     returns
     board-at-requires
     mul-own
     element-copy-out-own
     allowed-requires
+    unwaited-requires-2
     returns-2
     target-of-requires
     mul-buffer
@@ -112,11 +117,10 @@ take-steps-spec =
     done-behind-requires
     way-behind-requires
     held-behind-requires
-    mul-t19
+    mul-t20
     element-set-from-run
     add-i
     loop-less
     loop-again
-    stand-of-requires
     stood-requires
     returns-3)

@@ -27,6 +27,7 @@ pub mod Orders
 pub mod PointThree
 pub mod Replay
 pub mod Scratch
+pub mod Monitor
 pub mod Wired
 pub mod FinishedRuns
 pub mod Ahead

@@ -48,6 +48,10 @@ circleRefusal = 11
 abbrev pub traceRefusal : ℕ
 traceRefusal = 12
 
+-- request (g): a switch that the state bars
+abbrev pub switchRefusal : ℕ
+switchRefusal = 14
+
 -- an event that the sheet has not, or twice in one list of a tap
 abbrev pub tapRefusal : ℕ
 tapRefusal = 20

@@ -99,7 +99,7 @@ module _ {M : Type 0} (held : M → Held) (zero : M) (text : List ℕ) (code : �
             isSheet = parts .2;
             codeKnown = parts .0;
             state = o .openedWhen S e .3;
-            answers = refl
+            answers = refl;
           }
       go (refusal number line) e =
           let two : r .word ≡ refusedWord = ap (λ (a : MonitorAnswer M). a .word) (o .refusedWhen number line e) in
@@ -117,7 +117,7 @@ module _ {M : Type 0} (held : M → Held) (zero : M) (text : List ℕ) (code : �
         state = rules .state ∙ ap (λ h. behind S h c) (k .state) ∙ sym (held-more S (fresh code) cs c);
         answers = ap (λ ws. ws ++ (r .word ∷ [])) (k .answers)
             ∙ ap (λ w. wordsFrom S (fresh code) cs ++ (w ∷ [])) word
-            ∙ sym (words-more S (fresh code) cs c)
+            ∙ sym (words-more S (fresh code) cs c);
       }
 
   session-kept : {cs : List Call} {words : List ℕ} {m : M} → Session held zero text code cs words m → Kept cs words m
@@ -132,10 +132,12 @@ module _ {M : Type 0} (held : M → Held) (zero : M) (text : List ℕ) (code : �
 pub whole-lists : {M : Type 0} (held : M → Held) (zero : M) → WholeLists held zero
 whole-lists held zero text code cs words m s =
     let k = session-kept held zero text code s in
-    let S = k .scenario in
-    (S, record {
-      isSheet = k .isSheet;
-      state = k .state;
-      answers = k .answers;
-      anOrder = λ only. let o = steps-ordered S cs only (fresh code) in (o .steps, o .isOrder, k .state ∙ o .reached)
-    })
+    let S = k .scenario in (
+      S,
+      record {
+        isSheet = k .isSheet;
+        state = k .state;
+        answers = k .answers;
+        anOrder = λ only. let o = steps-ordered S cs only (fresh code) in (o .steps, o .isOrder, k .state ∙ o .reached);
+      },
+    )

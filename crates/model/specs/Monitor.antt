@@ -5,10 +5,10 @@ use mathlib.Core.Path.{_≡_}
 use mathlib.Core.Bool.{Bool, true, false, not, cond, _&&_, _||_}
 use mathlib.Core.List.{List, [], _∷_, _++_}
 use mathlib.Core.Option.{Option, none, some}
-use lib.Dec.{eqb, ltb}
+use lib.Dec.{eqb, ltb, leb}
 use lib.ListN.{length}
 use Rattle.model.specs.Limits.{boards, messagesMost, channels, scratchLeast}
-use Rattle.model.specs.Bounded.{any}
+use Rattle.model.specs.Bounded.{any, howMany}
 use Rattle.model.specs.Refusal.{Out, ok, refusal, channelRefusal, benchRefusal, switchRefusal}
 use Rattle.model.specs.Order.{Scenario}
 use Rattle.model.specs.Channel.{channelOf}
@@ -39,16 +39,12 @@ watchable text code scratchLength =
     (cond (ltb scratchLength scratchLeast) (refusal benchRefusal 0) (sheetOf text))
     (refusal channelRefusal 0)
 
--- two or more of the numbers below n have the property
-unfoldable pub twoOrMore : ℕ → (ℕ → Bool) → Bool
-twoOrMore n p = any n (λ m. p m && any m p)
-
 -- a switch to the code is refused in the state (14): to an eager code while some board holds two or more messages, or to code 5 while two
 -- or more are under way
 unfoldable pub isBarred : ℕ → State → Bool
 isBarred code s =
-    (channelOf code .eager && any boards (λ b. twoOrMore messagesMost (s .holds b)))
-    || (eqb code 5 && twoOrMore messagesMost (s .underWay))
+    (channelOf code .eager && any boards (λ b. leb 2 (howMany messagesMost (s .holds b))))
+    || (eqb code 5 && leb 2 (howMany messagesMost (s .underWay)))
 
 -- 14 comes behind all others
 unfoldable pub switchable : List ℕ → ℕ → ℕ → State → Out Scenario

@@ -69,6 +69,8 @@ pub const CIRCLE: u8 = 11;
 
 pub const TRACE: u8 = 12;
 
+pub const SWITCH: u8 = 14;
+
 pub const TAP: u8 = 20;
 
 pub const SENDER_TABLE: u8 = 18;

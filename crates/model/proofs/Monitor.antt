@@ -1,13 +1,14 @@
 -- Request (g): what the calls promise one by one, over whole lists of calls.
 use Prim.Native.Nat.{ℕ, _<_, _≤_}
 use native.Mathlib.Omega.{arith}
-use mathlib.Core.Path.{_≡_, refl, sym, _∙_, ap, subst}
+use mathlib.Core.Path.{_≡_, refl, sym, _∙_, ap, subst⁻¹}
 use mathlib.Core.Bool.{Bool, true, false, not, cond, _&&_}
 use mathlib.Core.List.{List, [], _∷_, _++_}
 use mathlib.Core.Option.{Option, none, some}
 use lib.Dec.{eqb, ltb}
 use lib.ListN.{length}
 use borrow.Author.Tests.{ltb-true, ltb-false}
+use Rattle.model.proofs.Bounded.{and-left}
 use Rattle.model.proofs.Refusal.{cond-ok, cond-refused}
 use Rattle.model.specs.Limits.{channels, scratchLeast}
 use Rattle.model.specs.Refusal.{Out, ok, refusal}
@@ -16,7 +17,7 @@ use Rattle.model.specs.Channel.{channelOf}
 use Rattle.model.specs.Run.{State, start, Step, next, allowed, isOrderFrom, after, IsOrder}
 use Rattle.model.specs.Schedule.{stepTold}
 use Rattle.model.specs.Answer.{sheetOf}
-use Rattle.model.specs.Monitor.{Held, takenWord, forbiddenWord, refusedWord, watchable, Call, step, switch, mayTake, taking, wordTo, leaving, behind, heldFrom, wordsFrom, fresh, stepsOnly, MonitorAnswer, Opened, ByTheRules, Stepped, Switched, Session, opening, stepping, switching, WholeList, WholeLists}
+use Rattle.model.specs.Monitor.{Held, takenWord, forbiddenWord, refusedWord, watchable, isBarred, Call, step, switch, mayTake, taking, wordTo, leaving, behind, heldFrom, wordsFrom, fresh, stepsOnly, MonitorAnswer, Opened, ByTheRules, Stepped, Switched, Session, opening, stepping, switching, WholeList, WholeLists}
 
 module _ (S : Scenario) where
   -- one call more
@@ -141,3 +142,34 @@ whole-lists held zero text code cs words m s =
         anOrder = λ only. let o = steps-ordered S cs only (fresh code) in (o .steps, o .isOrder, k .state ∙ o .reached);
       },
     )
+
+-- the code in force is a channel's, as the one that was opened under
+taking-code : (S : Scenario) (h : Held) (told : Option Step) → taking S h told .code ≡ h .code
+unfolding taking
+taking-code S h none = refl
+taking-code S h (some t) = refl
+
+cond-code : (t : Bool) (a b : Held) → (t ≡ true → a .code < channels) → b .code < channels → cond t a b .code < channels
+cond-code true a b p q = p refl
+cond-code false a b p q = q
+
+behind-code : (S : Scenario) (h : Held) (c : Call) → h .code < channels → behind S h c .code < channels
+unfolding behind leaving wordTo
+behind-code S h (step kind m scratchLength) l =
+    cond-code (eqb (cond (ltb scratchLength scratchLeast) refusedWord (cond (mayTake S h (stepTold kind m)) takenWord forbiddenWord)) takenWord)
+    (taking S h (stepTold kind m)) h (λ t. subst⁻¹ (λ (n : ℕ). n < channels) (taking-code S h (stepTold kind m)) l) l
+behind-code S h (switch code scratchLength) l =
+    let known = ltb code channels in
+    let room = not (ltb scratchLength scratchLeast) in
+    let clear = not (isBarred code (h .state)) in
+    cond-code (eqb (cond (known && room && clear) takenWord refusedWord) takenWord) (record { state = h .state; code = code }) h
+    (λ t. ltb-true code channels (and-left known room (and-left (known && room) clear (taken-when (known && room && clear) t)))) l
+  where
+    taken-when : (b : Bool) → eqb (cond b takenWord refusedWord) takenWord ≡ true → b ≡ true
+    taken-when true e = refl
+    taken-when false e = e
+
+pub held-code : (S : Scenario) (cs : List Call) (h : Held) → h .code < channels → heldFrom S h cs .code < channels
+unfolding heldFrom
+held-code S [] h l = l
+held-code S (c ∷ cs) h l = held-code S cs (behind S h c) (behind-code S h c l)

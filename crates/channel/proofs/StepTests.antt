@@ -1,5 +1,5 @@
 -- A step is allowed: the tests of the code, one behind the other, are the model's. Assumes nothing.
-use mathlib.Core.Path.{_≡_, refl, ap, subst⁻¹}
+use mathlib.Core.Path.{_≡_, refl, sym, _∙_, ap, subst⁻¹}
 use mathlib.Core.Bool.{Bool, true, false}
 use mathlib.Core.List.{List}
 use Prim.Native.Nat.{ℕ, _+_, _*_, _<_, _≤_}
@@ -23,11 +23,12 @@ use Rattle.run.specs.declared.Run.{Run}
 use Rattle.step.specs.declared.Step.{Step}
 use Rattle.step.specs.declared.Step.the-variants.{Send, Deliver, Consume}
 use Rattle.step.specs.Steps.{stepIn, messageIn}
-use Rattle.run.specs.State.{inRow, stateOf}
+use Rattle.run.specs.State.{inRow, bufferOf, stateOf, BoardAt}
+use Rattle.buffers.specs.Held.{HeldIn}
 use Rattle.rules.specs.Tests.{freeIn}
 use Rattle.rules.specs.Rules.{SaysReady, SaysSendRule, SaysDeliverRule}
 use Rattle.rules.proofs.Conditions.{free-says}
-use Rattle.channel.specs.Steps.{Says, SaysStep}
+use Rattle.channel.specs.Steps.{Says, SaysStep, SaysIn}
 
 module _ (count : ℕ) (on words masks : List ℕ) (standing : Standing count on words masks) (m : ℕ) (inside : m < count) where
   module _ (c : Channel) (way : List ℕ) (buffer : Buffer) where
@@ -95,6 +96,12 @@ module _ (count : ℕ) (on words : List ℕ) (c : Channel) (step : Step) (m : �
   pub step-consumes : step ≡ Consume m → ((k : Channel) (w : List ℕ) → SaysStep count on words k done w buffer (Consume m) r)
       → SaysStep count on words c done way buffer step r
   step-consumes i h = subst⁻¹ (λ (s : Step). SaysStep count on words c done way buffer s r) i (h c way)
+
+-- the step, with the buffer of its board, in every run with these buffers in rows
+pub by-buffer : (count : ℕ) (on words : List ℕ) (c : Channel) (done way rows : List ℕ) (t : Step) (r : Bool) (buffer : Buffer) (b : ℕ)
+    → SaysStep count on words c done way buffer t r → ((run : Run) → HeldIn run rows → bufferOf run b ≡ buffer) → BoardAt on t b
+    → SaysIn count on words c done way rows t r
+by-buffer count on words c done way rows t r buffer b says held at run d w h = says run d w (ap (bufferOf run) (sym (at .place)) ∙ held run h)
 
 -- its message, as it is read
 pub known : (step : Step) (m count : ℕ) → m ≡ messageIn step → m < count → messageIn step < count

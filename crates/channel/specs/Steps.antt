@@ -13,6 +13,7 @@ use Rattle.run.specs.declared.Run.{Run}
 use Rattle.step.specs.declared.Step.{Step}
 use Rattle.step.specs.Steps.{stepIn, eventIn}
 use Rattle.run.specs.State.{bufferOf, stateOf}
+use Rattle.buffers.specs.Held.{HeldIn}
 
 -- the scenario of `count` messages, event k being on board `getD on k 0`
 module _ (count : ℕ) (on words : List ℕ) where
@@ -24,3 +25,7 @@ module _ (count : ℕ) (on words : List ℕ) where
   abbrev pub SaysStep : Channel → List ℕ → List ℕ → Buffer → Step → Bool → Type 0
   SaysStep c done way buffer step r =
       (run : Run) → run .done ≡ done → run .way ≡ way → bufferOf run (getD on (eventIn step) 0) ≡ buffer → Says c run step r
+
+  -- and of every run with these buffers in rows
+  abbrev pub SaysIn : Channel → List ℕ → List ℕ → List ℕ → Step → Bool → Type 0
+  SaysIn c done way rows step r = (run : Run) → run .done ≡ done → run .way ≡ way → HeldIn run rows → Says c run step r

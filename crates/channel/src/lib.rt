@@ -3,12 +3,14 @@ ghost use mathlib.Core.List.{List};
 ghost use Prim.Native.Nat.{ℕ, _<_};
 ghost use Rattle.board.specs.Masks.{Standing};
 ghost use Rattle.step.specs.Steps.{messageIn};
-ghost use Rattle.channel.specs.Steps.{Says, SaysStep};
+ghost use Rattle.channel.specs.Steps.{Says, SaysStep, SaysIn};
 use board::board_of;
+use buffers::HELD_WORDS;
 use channel_table::Channel;
 use relation::WIDTH;
 use run::Buffer;
 use run::Run;
+use run::board_at;
 use step::Step;
 
 // Message m may be sent: its send is ready, its board, the buffer's, is free, and the further condition holds.
@@ -111,6 +113,27 @@ pub fn allowed<'a>(
     }
 }
 
+// The same, of the buffers in rows.
+pub fn may_step<'a>(
+    words: &[u64],
+    masks: &[u64],
+    boards: &[u8],
+    count: usize,
+    c: Channel,
+    done: &'a [u64; WIDTH],
+    way: &'a [u64; WIDTH],
+    rows: &'a [u64; HELD_WORDS],
+    step: Step,
+) -> bool
+    requires { ⌜ Standing count (now boards) (now words) (now masks) ⌝ }
+    requires { ⌜ messageIn step < count ⌝ }
+    ensures { λ r. ⌜ SaysIn count (now (boards .entry)) (now (words .entry)) c (now (done .entry)) (now (way .entry)) (now (rows .entry)) step r ⌝ }
+{
+    let board = board_at(boards, step);
+    let buffer = buffers::buffer_at(rows, board);
+    allowed(words, masks, boards, count, c, done, way, buffer, step)
+}
+
 // The step is allowed in the run. For single use: each call copies the run. No step on an unknown message is allowed.
 pub fn allowed_in(
     run: Run,
@@ -128,8 +151,7 @@ pub fn allowed_in(
     if count <= m {
         return false;
     }
-    let x = step.event();
-    let board = board_of(boards, x);
+    let board = board_at(boards, step);
     let buffer = run.buffers[board];
     allowed(
         words,

@@ -6,7 +6,7 @@ use mathlib.Core.Option.{Option, none, some}
 use Prim.Native.Nat.{ℕ, zero, suc, _+_, _<_, _≤_}
 use native.Mathlib.Omega.{arith}
 use native.Mathlib.Decide.{ℕ-discrete, decLt}
-use lib.ListN.{getD, drop}
+use lib.ListN.{drop}
 use borrow.Author.Tests.{not-true, not-false}
 use Rattle.model.specs.Limits.{messagesMost}
 use Rattle.model.specs.Bounded.{lowest}
@@ -19,20 +19,19 @@ use Rattle.model.proofs.Bounded.{and-right, not-both, lowest-hit, lowest-miss, 
 use Rattle.relation.specs.Scenario.{scenarioIn}
 use Rattle.channel_table.specs.declared.Channel.{Channel}
 use Rattle.channel_table.specs.Table.{channelIn}
-use Rattle.run.specs.declared.Buffer.{Buffer}
 use Rattle.run.specs.declared.Run.{Run}
 use Rattle.step.specs.declared.Step as code
 use Rattle.step.specs.declared.StepOrNone.{StepOrNone}
 use Rattle.step.specs.declared.StepOrNone.the-variants as maybe
-use Rattle.step.specs.Steps.{stepIn, messageIn, eventIn, stepOrNone}
-use Rattle.run.specs.State.{bufferOf, stateOf}
+use Rattle.step.specs.Steps.{stepIn, messageIn, stepOrNone}
+use Rattle.run.specs.State.{stateOf}
 use Rattle.buffers.specs.Held.{HeldIn}
 use Rattle.candidates.specs.declared.classes.Class.{Class}
 use Rattle.candidates.specs.declared.classes.Class.the-variants.{AnySend}
 use Rattle.candidates.specs.Classes.{classIn, stepFor}
 use Rattle.candidates.specs.Candidates.{fits, OfRuns, Candidates, NextIn}
 use Rattle.candidates.proofs.EachClass.{step-is, message-is}
-use Rattle.channel.specs.Steps.{SaysStep}
+use Rattle.channel.specs.Steps.{SaysIn}
 use Rattle.channel.proofs.StepTests.{unknown-step}
 use Rattle.next_step.specs.Search.{classAt, Fits, Lowest, Chosen}
 
@@ -57,11 +56,10 @@ module _ (count : ℕ) (boards words : List ℕ) (c : Channel) (done way rows : 
   other-class t f h = λ run d w s.
       ap (λ b. b && allowed (scenarioIn count boards words) (channelIn c) (stateOf run) ((classIn (scenarioIn count boards words) e q) .step m)) (sym (not-true t f) ∙ h)
 
-  pub in-class : (t u : Bool) (buffer : Buffer) (step : code.Step) (x b : ℕ) → SaysStep count boards words c done way buffer step u
-      → ((run : Run) → HeldIn run rows → bufferOf run b ≡ buffer) → b ≡ getD boards x 0 → x ≡ eventIn step → step ≡ stepFor q m
+  pub in-class : (t u : Bool) (step : code.Step) → SaysIn count boards words c done way rows step u → step ≡ stepFor q m
       → not t ≡ false → t ≡ (classIn (scenarioIn count boards words) e q) .takes m → Fits count boards words c done way rows e q m u
-  in-class t u buffer step x b says at k j i f h = λ run d w s.
-      says run d w (ap (bufferOf run) (sym (k ∙ ap (λ (n : ℕ). getD boards n 0) j)) ∙ at run s)
+  in-class t u step says i f h = λ run d w s.
+      says run d w s
       ∙ ap (allowed (scenarioIn count boards words) (channelIn c) (stateOf run)) (ap stepIn i ∙ step-is (scenarioIn count boards words) e q m)
       ∙ ap (λ k. k && allowed (scenarioIn count boards words) (channelIn c) (stateOf run) ((classIn (scenarioIn count boards words) e q) .step m)) (sym (not-false t f) ∙ h)
 

@@ -3,9 +3,9 @@ ghost use mathlib.Core.Path.{_≡_};
 ghost use Prim.Native.Nat.{_<_};
 ghost use Rattle.board.specs.Masks.{Standing};
 ghost use Rattle.next_step.specs.Search.{classAt, Fits, Lowest, Chosen};
-use board::board_of;
 use buffers::HELD_WORDS;
 use candidates::Class;
+use channel::may_step;
 use channel_table::Channel;
 use relation::WIDTH;
 use run::Run;
@@ -34,10 +34,7 @@ fn fits_class<'a>(
         return false;
     }
     let step = candidates::step_of(class, m);
-    let x = step.event();
-    let board = board_of(boards, x);
-    let buffer = buffers::buffer_at(rows, board);
-    channel::allowed(words, masks, boards, count, c, done, way, buffer, step)
+    may_step(words, masks, boards, count, c, done, way, rows, step)
 }
 
 // The step of the class on the lowest message that fits, by the same parts of a run.

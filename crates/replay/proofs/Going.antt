@@ -3,47 +3,81 @@ use mathlib.Core.Path.{_≡_, refl, sym, _∙_, ap, subst, subst₂}
 use mathlib.Core.Bool.{Bool, true, false, not, cond}
 use mathlib.Core.List.{List, [], _∷_}
 use mathlib.Core.Option.{Option, none, some}
-use Prim.Native.Nat.{ℕ, suc, _+_, _*_, _/_, _%_, _<_, _≤_}
+use Prim.Native.Nat.{ℕ, zero, suc, _+_, _*_, _/_, _%_, _<_, _≤_}
 use native.Mathlib.Omega.{arith}
-use borrow.Author.Tests.{not-true, not-false, ltb-true}
-use lib.ListN.{length, getD, drop, drop-of-length-le}
-use Rattle.model.specs.Limits.{traceLeast}
+use native.Mathlib.Decide.{decLt}
+use borrow.Author.Tests.{not-true, not-false, lt-ltb, le-ltb}
+use lib.ListN.{length, getD, set, drop, drop-of-length-le}
+use mir.Val.{Fits}
+use mir.Syntax.{w64}
+use Rattle.model.specs.Limits.{messagesMost, traceLeast}
 use Rattle.model.specs.Order.{Scenario}
-use Rattle.model.specs.Run.{State, start, Step, send, deliver, consume, next, allowed}
-use Rattle.model.specs.Channel as model
-use Rattle.model.specs.Schedule.{stepTold, messageOfStep}
+use Rattle.model.specs.Run.{State, Step, next}
+use Rattle.model.specs.Schedule.{messageOfStep, stepTold}
 use Rattle.model.specs.Replay.{notAllowed, stepsIn, standing, replayFrom, replay}
-use Rattle.model.proofs.Bounded.{and-left}
 use Rattle.model.proofs.Trace.{two-more}
 use Rattle.relation.specs.Scenario.{scenarioIn}
 use Rattle.channel_table.specs.declared.Channel.{Channel}
 use Rattle.channel_table.specs.Table.{channelIn}
+use Rattle.board.specs.Boards.{boardsMost}
 use Rattle.board.specs.Masks.{Standing}
+use Rattle.run.specs.declared.Buffer.{Buffer}
 use Rattle.run.specs.declared.Run.{Run}
 use Rattle.step.specs.declared.Step as code
 use Rattle.step.specs.declared.StepOrNone.{StepOrNone}
 use Rattle.step.specs.declared.StepOrNone.the-variants as maybe
 use Rattle.step.specs.Steps.{stepIn, messageIn, stepOrNone}
-use Rattle.run.specs.State.{stateOf, Reaches, Follows}
-use Rattle.channel.specs.Steps.{Says}
+use Rattle.run.specs.State.{stateOf, DoneBehind, WayBehind, HeldBehind, Starts, Reaches, BoardAt, TargetOf, Follows}
+use Rattle.run.proofs.States.{buffer-read, reaches, next-follows, boards-kept}
+use Rattle.channel.specs.Steps.{Says, SaysStep}
+use Rattle.channel.proofs.StepTests.{unknown-step}
 use Rattle.standing.specs.declared.Stand.{Stand}
 use Rattle.standing.specs.Bridge.{standIn}
 use Rattle.replay.specs.declared.Replay.{Replay}
 use Rattle.replay.specs.declared.Replay.the-variants.{NotAllowed}
-use Rattle.replay.specs.Bridge.{replayIn}
+use Rattle.replay.specs.Bridge.{known, StepAt, replayIn}
 
--- a step that is allowed is one on a message of the scenario
-allowed-inside : (S : Scenario) (c : model.Channel) (s : State) (t : Step) → allowed S c s t ≡ true → messageOfStep t < S .count
-unfolding allowed
-allowed-inside S c s (send m) h = ltb-true m (S .count) (and-left _ _ (and-left _ _ (and-left _ _ h)))
-allowed-inside S c s (deliver m) h = ltb-true m (S .count) (and-left _ _ (and-left _ _ (and-left _ _ h)))
-allowed-inside S c s (consume m) h = ltb-true m (S .count) (and-left _ _ (and-left _ _ h))
+-- what `step_at` is to show: a step on a message of the scenario is told as it stands, any other is none
+module _ (trace : List ℕ) (i count m : ℕ) (e : m ≡ getD trace (2 * i + 1) 0) where
+  pub tells-unknown : count ≤ m → StepAt trace i count maybe.Nothing
+  tells-unknown h = rw (← e) (go (getD trace (2 * i) 0))
+    where
+      go : (kind : ℕ) → none ≡ known count (stepTold kind m)
+      go zero = rw (le-ltb m count h)
+      go (suc zero) = rw (le-ltb m count h)
+      go (suc (suc zero)) = rw (le-ltb m count h)
+      go (suc (suc (suc kind))) = refl
 
-pub step-reaches : (count : ℕ) (on words masks : List ℕ) (c : Channel) (run : Run) (t : code.Step) (r : Bool) → Says count on words c run t r
-    → not r ≡ false → Standing count on words masks → Reaches on t
-step-reaches count on words masks c run t r says f s =
-    let inside : messageIn t < count = allowed-inside (scenarioIn count on words) (channelIn c) (stateOf run) (stepIn t) (sym says ∙ not-false r f) in
-    record { few = omega (arith, s .few); long = omega (arith, s .boardsLong); below = s .boardsBelow (2 * messageIn t + 1) (omega arith) }
+  pub tells-known : (kind : ℕ) (r : StepOrNone) → m < count → kind ≡ getD trace (2 * i) 0 → stepOrNone r ≡ stepTold kind m → StepAt trace i count r
+  tells-known kind r h k s = rw (← e, ← k) (s ∙ go kind)
+    where
+      go : (kind : ℕ) → stepTold kind m ≡ known count (stepTold kind m)
+      go zero = rw (lt-ltb m count h)
+      go (suc zero) = rw (lt-ltb m count h)
+      go (suc (suc zero)) = rw (lt-ltb m count h)
+      go (suc (suc (suc kind))) = refl
+
+-- a step that is told is one on a message of the scenario
+known-inside : (count : ℕ) (o : Option Step) (t : Step) → known count o ≡ some t → messageOfStep t < count
+known-inside count none t h = absurd (let n : _≡_ {A = ℕ} 0 1 = cc in omega arith)
+known-inside count (some u) t h = go (decLt (messageOfStep u) count)
+  where
+    go : Dec (messageOfStep u < count) → messageOfStep t < count
+    go (yes l) = let same : some u ≡ some t = rw (lt-ltb (messageOfStep u) count l) at h in let step : u ≡ t = cc in subst (λ (v : Step). messageOfStep v < count) step l
+    go (no g) =
+        let same : none ≡ some t = rw (le-ltb (messageOfStep u) count (omega arith)) at h in
+        absurd (let n : _≡_ {A = ℕ} 0 1 = cc in omega arith)
+
+module _ (count : ℕ) (on words masks : List ℕ) (trace : List ℕ) (i : ℕ) (told : StepOrNone) (t : code.Step) (tells : StepAt trace i count told)
+    (is : told ≡ maybe.Step t) where
+  pub step-inside : messageIn t < count
+  step-inside = known-inside count (stepTold (getD trace (2 * i) 0) (getD trace (2 * i + 1) 0)) (stepIn t) (sym tells ∙ ap stepOrNone is)
+
+  pub step-reaches : Standing count on words masks → Reaches on t
+  step-reaches s = reaches count on words masks t s step-inside
+
+  pub step-few : Standing count on words masks → messageIn t < messagesMost
+  step-few s = step-reaches s .few
 
 module _ (count : ℕ) (on words : List ℕ) (c : Channel) (trace : List ℕ) where
   abbrev S : Scenario
@@ -55,12 +89,13 @@ module _ (count : ℕ) (on words : List ℕ) (c : Channel) (trace : List ℕ) wh
     pub even : length trace % 2 ≡ 0
     pub within : i ≤ end
     pub few : length trace ≤ traceLeast
+    pub wide : length (run .buffers) ≡ boardsMost
     pub rest : replay S (channelIn c) trace ≡ replayFrom S (channelIn c) i (stateOf run) (stepsIn (drop (2 * i) trace))
 
-  pub going-starts : (run : Run) → (length trace % 2 ≡ 0) × (length trace ≤ traceLeast) → stateOf run ≡ start → Going (length trace / 2) run 0
+  pub going-starts : (run : Run) → (length trace % 2 ≡ 0) × (length trace ≤ traceLeast) → Starts run → Going (length trace / 2) run 0
   unfolding replay
   going-starts run e h =
-      record { whole = refl; even = e .0; within = omega arith; few = e .1; rest = ap (λ s. replayFrom S (channelIn c) 0 s (stepsIn trace)) (sym h) }
+      record { whole = refl; even = e .0; within = omega arith; few = e .1; wide = h .boards; rest = ap (λ s. replayFrom S (channelIn c) 0 s (stepsIn trace)) (sym (h .state)) }
 
   pub steps-end : (end : ℕ) (run : Run) (i : ℕ) (d : Stand) (r : Replay) → Going end run i → end ≤ i → replayIn r ≡ standIn d
       → standIn d ≡ standing S (channelIn c) (stateOf run) → replayIn r ≡ replay S (channelIn c) trace
@@ -69,14 +104,31 @@ module _ (count : ℕ) (on words : List ℕ) (c : Channel) (trace : List ℕ) wh
       let none-left : drop (2 * i) trace ≡ [] = drop-of-length-le trace {i = 2 * i} (omega (arith, G .whole, G .within, G .even)) in
       k ∙ h ∙ sym (G .rest ∙ ap (λ t. replayFrom S (channelIn c) i (stateOf run) (stepsIn t)) none-left)
 
-  module _ (end : ℕ) (run : Run) (i kind m : ℕ) (told : StepOrNone) (G : Going end run i) (l : i < end)
-      (tells : stepOrNone told ≡ stepTold kind m) (k : kind ≡ getD trace (2 * i) 0) (n : m ≡ getD trace (2 * i + 1) 0) where
+  pub next-fits : (end : ℕ) (run : Run) (i : ℕ) → Going end run i → i < end → Fits w64 (i + 1)
+  next-fits end run i G l = omega (arith, G .whole, G .few)
+
+  -- a step on an unknown message is as little allowed as none
+  same-told : (i : ℕ) (s : State) (o : Option Step) (rest : List (Option Step))
+      → replayFrom S (channelIn c) i s (o ∷ rest) ≡ replayFrom S (channelIn c) i s (known count o ∷ rest)
+  unfolding replayFrom
+  same-told i s none rest = refl
+  same-told i s (some t) rest = go (decLt (messageOfStep t) count)
+    where
+      go : Dec (messageOfStep t < count) → replayFrom S (channelIn c) i s (some t ∷ rest) ≡ replayFrom S (channelIn c) i s (known count (some t) ∷ rest)
+      go (yes l) = rw (lt-ltb (messageOfStep t) count l)
+      go (no g) = rw (le-ltb (messageOfStep t) count (omega arith), ← unknown-step S (channelIn c) s t (omega arith))
+
+  -- step i is read
+  pub step-there : (end : ℕ) (run : Run) (i : ℕ) → Going end run i → i < end → 2 * i + 1 < length trace
+  step-there end run i G l = omega (arith, G .whole, G .even)
+
+  module _ (end : ℕ) (run : Run) (i : ℕ) (told : StepOrNone) (G : Going end run i) (l : i < end) (tells : StepAt trace i count told) where
     first : replay S (channelIn c) trace ≡ replayFrom S (channelIn c) i (stateOf run) (stepOrNone told ∷ stepsIn (drop (2 * i + 2) trace))
     unfolding stepsIn
     first =
-        let inside : 2 * i + 1 < length trace = omega (arith, G .whole, G .even) in
-        G .rest ∙ ap (λ t. replayFrom S (channelIn c) i (stateOf run) (stepsIn t)) (two-more trace (2 * i) inside)
-        ∙ ap (λ o. replayFrom S (channelIn c) i (stateOf run) (o ∷ stepsIn (drop (2 * i + 2) trace))) (sym (tells ∙ rw (k, n)))
+        G .rest ∙ ap (λ t. replayFrom S (channelIn c) i (stateOf run) (stepsIn t)) (two-more trace (2 * i) (step-there end run i G l))
+        ∙ same-told i (stateOf run) (stepTold (getD trace (2 * i) 0) (getD trace (2 * i + 1) 0)) (stepsIn (drop (2 * i + 2) trace))
+        ∙ ap (λ o. replayFrom S (channelIn c) i (stateOf run) (o ∷ stepsIn (drop (2 * i + 2) trace))) (sym tells)
 
     pub tells-none : told ≡ maybe.Nothing → replayIn (NotAllowed i) ≡ replay S (channelIn c) trace
     unfolding replayFrom
@@ -91,12 +143,16 @@ module _ (count : ℕ) (on words : List ℕ) (c : Channel) (trace : List ℕ) wh
           first ∙ ap (λ (o : StepOrNone). replayFrom S (channelIn c) i (stateOf run) (stepOrNone o ∷ stepsIn (drop (2 * i + 2) trace))) is
           ∙ ap (λ b. cond b (replayFrom S (channelIn c) (suc i) (next S (stateOf run) (stepIn t)) (stepsIn (drop (2 * i + 2) trace))) (notAllowed i)) (sym says)
 
-      pub tells-forbidden : not r ≡ true → replayIn (NotAllowed i) ≡ replay S (channelIn c) trace
+      tells-forbidden : not r ≡ true → replayIn (NotAllowed i) ≡ replay S (channelIn c) trace
       tells-forbidden f =
           sym (taken ∙ ap (λ b. cond b (replayFrom S (channelIn c) (suc i) (next S (stateOf run) (stepIn t)) (stepsIn (drop (2 * i + 2) trace))) (notAllowed i)) (not-true r f))
 
-      pub going-on : (behind : Run) → not r ≡ false → Follows on run (stepIn t) behind → Going end behind (i + 1)
-      going-on behind f follows =
+      going-on : (b : ℕ) (other : Buffer) (done way held : List ℕ) → not r ≡ false
+          → DoneBehind (run .done) t done → WayBehind (run .way) t way → HeldBehind (getD (run .buffers) b other .held) t held → TargetOf on t b
+          → Going end (record { done = done; way = way; buffers = set (run .buffers) b (record { held = held }) }) (i + 1)
+      going-on b other done way held f p q h target =
+          let behind : Run = record { done = done; way = way; buffers = set (run .buffers) b (record { held = held }) } in
+          let follows : Follows on run (stepIn t) behind = next-follows run t on b other done way held p q h target (G .wide) in
           let one : suc i ≡ i + 1 = omega arith in
           let two : 2 * i + 2 ≡ 2 * (i + 1) = omega arith in
           record {
@@ -104,8 +160,23 @@ module _ (count : ℕ) (on words : List ℕ) (c : Channel) (trace : List ℕ) wh
             even = G .even;
             within = omega arith;
             few = G .few;
+            wide = boards-kept run b (record { held = held }) (G .wide);
             rest =
                 taken ∙ ap (λ b. cond b (replayFrom S (channelIn c) (suc i) (next S (stateOf run) (stepIn t)) (stepsIn (drop (2 * i + 2) trace))) (notAllowed i)) (not-false r f)
                 ∙ ap (λ s. replayFrom S (channelIn c) (suc i) s (stepsIn (drop (2 * i + 2) trace))) (sym (follows count words))
                 ∙ subst₂ (λ (a b : ℕ). replayFrom S (channelIn c) (suc i) (stateOf behind) (stepsIn (drop (2 * i + 2) trace)) ≡ replayFrom S (channelIn c) a (stateOf behind) (stepsIn (drop b trace))) one two refl;
           }
+
+    -- the step is judged by the parts of the run, and the buffer of its board
+    module _ (t : code.Step) (is : told ≡ maybe.Step t) (r : Bool) (b : ℕ) (other : Buffer)
+        (says : SaysStep count on words c (run .done) (run .way) (getD (run .buffers) b other) t r) (at : BoardAt on t b) where
+      judged : Says count on words c run t r
+      judged = says run refl refl (buffer-read run on t b other at (G .wide))
+
+      pub tells-not : not r ≡ true → replayIn (NotAllowed i) ≡ replay S (channelIn c) trace
+      tells-not = tells-forbidden t is r judged
+
+      pub goes-on : (to : ℕ) (second : Buffer) (done way held : List ℕ) → not r ≡ false
+          → DoneBehind (run .done) t done → WayBehind (run .way) t way → HeldBehind (getD (run .buffers) to second .held) t held → TargetOf on t to
+          → Going end (record { done = done; way = way; buffers = set (run .buffers) to (record { held = held }) }) (i + 1)
+      goes-on = going-on t is r judged

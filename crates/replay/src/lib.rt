@@ -1,6 +1,6 @@
 // A trace from another tool, gone through by the step rules: finished, stuck, still open, or the first step that is not allowed.
 ghost use mathlib.Core.Path.{_≡_};
-ghost use Prim.Native.Nat.{_*_, _%_, _<_, _≤_};
+ghost use Prim.Native.Nat.{_+_, _*_, _%_, _<_, _≤_};
 ghost use lib.ListN.{length};
 ghost use Rattle.model.specs.Limits.{channels, messagesMost, traceLeast};
 ghost use Rattle.model.specs.Answer.{sheetOf};
@@ -11,11 +11,17 @@ ghost use Rattle.relation.specs.Scenario.{scenarioIn};
 ghost use Rattle.channel_table.specs.Table.{channelIn};
 ghost use Rattle.board.specs.Masks.{Standing};
 ghost use Rattle.standing.specs.Bridge.{standIn};
-ghost use Rattle.replay.specs.Bridge.{replayIn, numbersIn};
+ghost use Rattle.replay.specs.Bridge.{StepAt, replayIn, numbersIn};
 pub use crate::answer::TraceCheckAnswer;
+use channel::allowed;
 use channel_table::Channel;
 use expansion::Expanded;
 use run::Run;
+use run::board_at;
+use run::done_behind;
+use run::held_behind;
+use run::target_of;
+use run::way_behind;
 use standing::Stand;
 use step::Step;
 use step::StepOrNone;
@@ -49,7 +55,21 @@ fn stood(stand: Stand) -> Replay
     }
 }
 
-// The steps of a trace, two bytes each, from the start on.
+// Step i of a trace, two bytes a step. A wrong kind, or a message that the walk has not, is no step.
+fn step_at(trace: &[u8], i: usize, count: usize) -> StepOrNone
+    requires { ⌜ 2 * i + 1 < length (now trace) ⌝ }
+    ensures { λ r. ⌜ StepAt (now (trace .entry)) i count r ⌝ }
+{
+    let at = 2 * i;
+    let behind = at + 1;
+    let m = wide(trace[behind]);
+    if count <= m {
+        return StepOrNone::Nothing;
+    }
+    Step::told(wide(trace[at]), m)
+}
+
+// The steps of a trace, from the start on. The run is one value, and each step changes it in place.
 fn take_steps(
     words: &[u64],
     masks: &[u64],
@@ -64,16 +84,20 @@ fn take_steps(
 {
     let mut run = Run::start();
     for i in 0..trace.len() / 2 {
-        let at = 2 * i;
-        let behind = at + 1;
-        let told = Step::told(wide(trace[at]), wide(trace[behind]));
-        let StepOrNone::Step(step) = told else {
+        let told = step_at(trace, i, count);
+        let StepOrNone::Step(s) = told else {
             return Replay::NotAllowed(i);
         };
-        if !channel::allowed_in(run, words, masks, boards, count, c, step) {
+        let own = run.buffers[board_at(boards, s)];
+        if !allowed(words, masks, boards, count, c, &run.done, &run.way, own, s) {
             return Replay::NotAllowed(i);
         }
-        run = run.next(boards, step);
+        let target = target_of(boards, s);
+        let mut buffer = run.buffers[target];
+        done_behind(&mut run.done, s);
+        way_behind(&mut run.way, s);
+        held_behind(&mut buffer.held, s);
+        run.buffers[target] = buffer;
     }
     stood(standing::stand_of(run, words, masks, boards, count, c))
 }

@@ -7,7 +7,7 @@ use native.Mathlib.Nat.{not-suc-le-zero, le-of-suc-le-suc}
 use native.Mathlib.Decide.{ℕ-discrete}
 use native.Mathlib.Omega.{arith}
 use lib.Dec.{eqb}
-use lib.ListN.{length, length-map, getD, set, replicate}
+use lib.ListN.{length, length-map, length-set, getD, set, replicate}
 use lib.Seq.{getD-set-same, getD-set-other}
 use mir.Val.{Val}
 use denote.Laws.{Is}
@@ -26,8 +26,7 @@ use Rattle.run.specs.declared.Run.{Run}
 use Rattle.step.specs.declared.Step.{Step}
 use Rattle.step.specs.declared.Step.the-variants.{Send, Deliver, Consume}
 use Rattle.step.specs.Steps.{stepIn, messageIn, eventIn}
-use Rattle.step.proofs.Steps.{event-inside}
-use Rattle.run.specs.State.{inRow, With, Without, DoneBehind, WayBehind, HeldBehind, bufferOf, stateOf, Reaches, Follows}
+use Rattle.run.specs.State.{inRow, With, Without, DoneBehind, WayBehind, HeldBehind, bufferOf, stateOf, Starts, Reaches, BoardAt, TargetOf, Follows}
 use Rattle.run.proofs.Run.{the-row}
 
 -- a message is the bit of its send
@@ -94,33 +93,42 @@ getD-inside (a ∷ l) (suc i) d e h = getD-inside l i d e (le-of-suc-le-suc h)
 pub buffers-long : (run : Run) (vs : List Val) → Is the-row run vs → length (run .buffers) ≡ boards
 buffers-long run vs good = simp length-map at (good .1 .1 .1 .1 .0 .1 .0 .1)
 
--- a buffer as the code reads it is that of the board
-pub buffer-read : (run : Run) (b at : ℕ) (other : Buffer) → b ≡ at → b < length (run .buffers) → bufferOf run at ≡ getD (run .buffers) b other
-buffer-read run b at other e h = rw (← e) (getD-inside (run .buffers) b (record { held = [] }) other h)
+-- the buffer of a step's board, as the code reads it
+pub buffer-read : (run : Run) (on : List ℕ) (s : Step) (b : ℕ) (other : Buffer) → BoardAt on s b → length (run .buffers) ≡ boards
+    → bufferOf run (getD on (eventIn s) 0) ≡ getD (run .buffers) b other
+buffer-read run on s b other at long = rw (← at .place) (getD-inside (run .buffers) b (record { held = [] }) other (omega (arith, at .below)))
 
 -- the buffer of a board that there is, whatever stands for one that there is not
 there : (run : Run) (b : ℕ) (other : Buffer) → b < length (run .buffers) → getD (run .buffers) b other .held ≡ bufferOf run b .held
 there run b other inside = ap (λ (u : Buffer). u .held) (getD-inside (run .buffers) b other (record { held = [] }) inside)
 
--- A step on a message of the scenario reaches a board; its event is one of the scenario's, and the board of that has a buffer.
-module _ (count : ℕ) (on words masks : List ℕ) (s : Step) where
-  pub reaches : Standing count on words masks → messageIn s < count → Reaches on s
-  reaches t h =
-      record {
-        few = omega (arith, t .few);
-        long = omega (arith, t .boardsLong);
-        below = t .boardsBelow (2 * messageIn s + 1) (omega arith);
-      }
+-- a step on a message of the scenario reaches a board
+pub reaches : (count : ℕ) (on words masks : List ℕ) (s : Step) → Standing count on words masks → messageIn s < count → Reaches on s
+reaches count on words masks s t h =
+    record {
+      few = omega (arith, t .few);
+      long = omega (arith, t .boardsLong);
+      from = t .boardsBelow (2 * messageIn s) (omega arith);
+      below = t .boardsBelow (2 * messageIn s + 1) (omega arith);
+    }
 
-  pub event-below : (x : ℕ) → x ≡ eventIn s → Standing count on words masks → messageIn s < count → x < length on
-  event-below x i t h = omega (arith, t .boardsLong, event-inside s count h)
+-- the board of a step, as it is read, has a buffer
+event-read : (on : List ℕ) (s : Step) → Reaches on s → getD on (eventIn s) 0 < boards
+event-read on (Send m) r = r .from
+event-read on (Deliver m) r = r .below
+event-read on (Consume m) r = r .below
 
-  pub board-below : (x b : ℕ) → b ≡ getD on x 0 → x ≡ eventIn s → Standing count on words masks → messageIn s < count → b < boards
-  board-below x b e i t h = rw (e, i) (t .boardsBelow (eventIn s) (event-inside s count h))
+pub event-long : (on : List ℕ) (s : Step) (x : ℕ) → x ≡ eventIn s → Reaches on s → x < length on
+event-long on (Send m) x e r = omega (arith, r .long)
+event-long on (Deliver m) x e r = omega (arith, r .long)
+event-long on (Consume m) x e r = omega (arith, r .long)
+
+pub board-read : (on : List ℕ) (s : Step) (x b : ℕ) → b ≡ getD on x 0 → x ≡ eventIn s → Reaches on s → BoardAt on s b
+board-read on s x b e i r = record { place = rw (e, i); below = rw (e, i) (event-read on s r) }
 
 -- the receiver's board, as it is read, has a buffer
-pub target-inside : (on : List ℕ) (s : Step) (m b : ℕ) → b ≡ getD on (2 * m + 1) 0 → m ≡ messageIn s → Reaches on s → b < boards
-target-inside on s m b e i r = rw (e, i) (r .below)
+pub target-read : (on : List ℕ) (s : Step) (m b : ℕ) → b ≡ getD on (2 * m + 1) 0 → m ≡ messageIn s → Reaches on s → TargetOf on s b
+target-read on s m b e i r = record { target = rw (e, i); below = rw (e, i) (r .below) }
 
 -- What each return of `done_behind`, `way_behind` and `held_behind` is to show: P is the promise, made of the row with an event
 -- besides, the row without it, or the row as it was.
@@ -157,31 +165,37 @@ module _ (s : Step) (n : ℕ) (row : List ℕ) where
   held-kept i = subst⁻¹ (λ t. HeldBehind row t row) i refl
 
 -- the run behind a step, whose receiver is board b
-pub next-follows : (run : Run) (s : Step) (m : ℕ) (on : List ℕ) (b : ℕ) (other : Buffer) (done way held : List ℕ)
+pub next-follows : (run : Run) (s : Step) (on : List ℕ) (b : ℕ) (other : Buffer) (done way held : List ℕ)
     → DoneBehind (run .done) s done → WayBehind (run .way) s way → HeldBehind (getD (run .buffers) b other .held) s held
-    → b ≡ getD on (2 * m + 1) 0 → m ≡ messageIn s → b < length (run .buffers)
+    → TargetOf on s b → length (run .buffers) ≡ boards
     → Follows on run (stepIn s) (record { done = done; way = way; buffers = set (run .buffers) b (record { held = held }) })
 unfolding next number
-next-follows run (Send n) m on b other done way held p q h target message inside count words = λ i.
+next-follows run (Send n) on b other done way held p q h target long count words = λ i.
     record {
       done = done-more (run .done) done (sendOf n) p i;
       underWay = fun-ext (message-more (run .way) way n q) i;
-      holds = buffer-same run b inside held (λ k. ap (λ (l : List ℕ). inRow l (2 * k)) (h ∙ there run b other inside)) i;
+      holds = buffer-same run b (omega (arith, target .below)) held (λ k. ap (λ (l : List ℕ). inRow l (2 * k)) (h ∙ there run b other (omega (arith, target .below)))) i;
     }
-next-follows run (Deliver n) m on b other done way held p q h target message inside count words =
-    rw (← (target ∙ ap (λ (k : ℕ). getD on (2 * k + 1) 0) message), p) (λ i.
+next-follows run (Deliver n) on b other done way held p q h target long count words =
+    let inside : b < length (run .buffers) = omega (arith, target .below) in
+    rw (← target .target, p) (λ i.
     record {
       done = stateOf run .done;
       underWay = fun-ext (message-less (run .way) way n q) i;
       holds = buffer-changed run b inside held n true (message-more (bufferOf run b .held) held n (subst (λ (l : List ℕ). With l (2 * n) held) (there run b other inside) h)) i;
     })
-next-follows run (Consume n) m on b other done way held p q h target message inside count words =
-    rw (← (target ∙ ap (λ (k : ℕ). getD on (2 * k + 1) 0) message), q) (λ i.
+next-follows run (Consume n) on b other done way held p q h target long count words =
+    let inside : b < length (run .buffers) = omega (arith, target .below) in
+    rw (← target .target, q) (λ i.
     record {
       done = done-more (run .done) done (receiveOf n) p i;
       underWay = stateOf run .underWay;
       holds = buffer-changed run b inside held n false (message-less (bufferOf run b .held) held n (subst (λ (l : List ℕ). Without l (2 * n) held) (there run b other inside) h)) i;
     })
+
+-- and it has a buffer for each board, as before
+pub boards-kept : (run : Run) (b : ℕ) (buffer : Buffer) → length (run .buffers) ≡ boards → length (set (run .buffers) b buffer) ≡ boards
+boards-kept run b buffer long = simp length-set long
 
 -- rows of zeros, and buffers of them, hold nothing
 zero-row : (n k : ℕ) → inRow (replicate n 0) k ≡ false
@@ -192,10 +206,13 @@ zero-buffers zero b k = zero-row 0 k
 zero-buffers (suc n) zero k = zero-row width k
 zero-buffers (suc n) (suc b) k = zero-buffers n b k
 
-pub start-state : stateOf (record { done = replicate width 0; way = replicate width 0; buffers = replicate boards (record { held = replicate width 0 }) }) ≡ start
+start-state : stateOf (record { done = replicate width 0; way = replicate width 0; buffers = replicate boards (record { held = replicate width 0 }) }) ≡ start
 start-state = λ i.
     record {
       done = fun-ext (λ (x : Event). zero-row width (number x)) i;
       underWay = fun-ext (λ (m : ℕ). zero-row width (2 * m)) i;
       holds = fun-ext (λ (b : ℕ). fun-ext (λ (m : ℕ). zero-buffers boards b (2 * m))) i;
     }
+
+pub starts : Starts (record { done = replicate width 0; way = replicate width 0; buffers = replicate boards (record { held = replicate width 0 }) })
+starts = record { state = start-state; boards = refl }

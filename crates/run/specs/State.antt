@@ -15,7 +15,7 @@ use Rattle.relation.specs.Scenario.{scenarioIn}
 use Rattle.board.specs.Boards.{boardsMost}
 use Rattle.step.specs.declared.Step.{Step}
 use Rattle.step.specs.declared.Step.the-variants as step
-use Rattle.step.specs.Steps.{messageIn}
+use Rattle.step.specs.Steps.{messageIn, eventIn}
 use Rattle.run.specs.declared.Buffer.{Buffer}
 use Rattle.run.specs.declared.Run.{Run}
 
@@ -59,11 +59,27 @@ stateOf run =
       holds = λ b m. inRow (bufferOf run b .held) (2 * m);
     }
 
--- the step's message has a receiver, event k being on board `getD on k 0`
+-- the start of every run, with a buffer for each board
+pub record Starts (run : Run) : Type 0 where
+  pub state : stateOf run ≡ model.start
+  pub boards : length (run .buffers) ≡ boardsMost
+
+-- the step's message has a sender and a receiver, event k being on board `getD on k 0`
 pub record Reaches (on : List ℕ) (s : Step) : Type 0 where
   pub few : messageIn s < messagesMost
   pub long : 2 * messageIn s + 1 < length on
+  pub from : getD on (2 * messageIn s) 0 < boardsMost
   pub below : getD on (2 * messageIn s + 1) 0 < boardsMost
+
+-- the board on which the step is taken
+pub record BoardAt (on : List ℕ) (s : Step) (b : ℕ) : Type 0 where
+  pub place : b ≡ getD on (eventIn s) 0
+  pub below : b < boardsMost
+
+-- the receiver's board
+pub record TargetOf (on : List ℕ) (s : Step) (b : ℕ) : Type 0 where
+  pub target : b ≡ getD on (2 * messageIn s + 1) 0
+  pub below : b < boardsMost
 
 -- the state behind a step, event k being on board `getD on k 0`, whatever else the scenario has
 abbrev pub Follows : List ℕ → Run → model.Step → Run → Type 0

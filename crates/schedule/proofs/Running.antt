@@ -4,8 +4,10 @@ use mathlib.Core.List.{List, [], _∷_, _++_, append-assoc, append-nil}
 use mathlib.Core.Option.{Option, none, some}
 use Prim.Native.Nat.{ℕ, suc, _+_, _*_, _-_, _<_, _≤_}
 use native.Mathlib.Omega.{arith}
-use lib.ListN.{length, drop, set, length-append, length-drop, length-set}
+use lib.ListN.{length, getD, drop, set, length-append, length-drop, length-set}
 use lib.Seq.{set-at, drop-drop, append-snoc}
+use mir.Val.{Fits}
+use mir.Syntax.{w64}
 use Rattle.model.specs.Limits.{messagesMost}
 use Rattle.model.specs.Order.{Scenario}
 use Rattle.model.specs.Channel.{Channel}
@@ -15,14 +17,16 @@ use Rattle.model.proofs.Trace.{bytes-length, bytes-more}
 use Rattle.relation.specs.Scenario.{scenarioIn}
 use Rattle.channel_table.specs.declared.Channel as channel
 use Rattle.channel_table.specs.Table.{channelIn}
+use Rattle.board.specs.Boards.{boardsMost}
 use Rattle.board.specs.Masks.{Standing}
+use Rattle.run.specs.declared.Buffer.{Buffer}
 use Rattle.run.specs.declared.Run.{Run}
 use Rattle.step.specs.declared.Step as code
 use Rattle.step.specs.declared.StepOrNone.{StepOrNone}
 use Rattle.step.specs.declared.StepOrNone.the-variants as maybe
 use Rattle.step.specs.Steps.{stepIn, messageIn, stepOrNone}
-use Rattle.run.specs.State.{stateOf, Reaches, Follows}
-use Rattle.run.proofs.States.{reaches}
+use Rattle.run.specs.State.{stateOf, DoneBehind, WayBehind, HeldBehind, Starts, Reaches, TargetOf, Follows}
+use Rattle.run.proofs.States.{reaches, next-follows, boards-kept}
 use Rattle.next_step.specs.Search.{Chosen}
 use Rattle.schedule.specs.Schedule.{Scheduled}
 use Rattle.next_step.proofs.Searching.{chosen-inside}
@@ -139,19 +143,24 @@ module _ (count : ℕ) (boards words : List ℕ) (c : channel.Channel) (e : ℕ)
   pub record Goes (end : ℕ) (now : List ℕ) (run : Run) (i : ℕ) : Type 0 where
     pub whole : end ≡ 3 * count
     pub within : i ≤ end
+    pub wide : length (run .buffers) ≡ boardsMost
     pub room : 2 * (3 * count) ≤ length now
     pub same-length : length now ≡ length trace
     pub running : Running S (channelIn c) e trace (stateOf run) i now
 
-  pub goes-start : (run : Run) → 2 * (3 * count) ≤ length trace → stateOf run ≡ start → Goes (3 * count) trace run 0
+  pub goes-start : (run : Run) → 2 * (3 * count) ≤ length trace → Starts run → Goes (3 * count) trace run 0
   goes-start run l h =
       record {
         whole = refl;
         within = omega arith;
+        wide = h .boards;
         room = l;
         same-length = refl;
-        running = subst⁻¹ (λ (s : State). Running S (channelIn c) e trace s 0 trace) h (running-starts S (channelIn c) e trace l);
+        running = subst⁻¹ (λ (s : State). Running S (channelIn c) e trace s 0 trace) (h .state) (running-starts S (channelIn c) e trace l);
       }
+
+  pub next-fits : (masks : List ℕ) (end : ℕ) (now : List ℕ) (run : Run) (i : ℕ) → Goes end now run i → i < end → Standing count boards words masks → Fits w64 (i + 1)
+  next-fits masks end now run i G l s = omega (arith, G .whole, s .few)
 
   -- the step chosen is on a message of the scenario
   module _ (run : Run) (r : StepOrNone) (s : code.Step) (h : Chosen count boards words c run e r) (i : r ≡ maybe.Step s) where
@@ -167,15 +176,19 @@ module _ (count : ℕ) (boards words : List ℕ) (c : channel.Channel) (e : ℕ)
     pub step-few : (masks : List ℕ) → Standing count boards words masks → messageIn s < messagesMost
     step-few masks t = step-reaches masks t .few
 
-    pub goes-on : (end : ℕ) (now later : List ℕ) (behind : Run) (k : ℕ) → Goes end now run k
-        → later ≡ set (set now (2 * k) (kindOf (stepIn s))) (2 * k + 1) (messageIn s) → Follows boards run (stepIn s) behind → k < end
-        → Goes end later behind (k + 1)
-    goes-on end now later behind k G w v l =
+    pub goes-on : (end : ℕ) (now later : List ℕ) (k b : ℕ) (other : Buffer) (done way held : List ℕ) → Goes end now run k
+        → later ≡ set (set now (2 * k) (kindOf (stepIn s))) (2 * k + 1) (messageIn s)
+        → DoneBehind (run .done) s done → WayBehind (run .way) s way → HeldBehind (getD (run .buffers) b other .held) s held → TargetOf boards s b → k < end
+        → Goes end later (record { done = done; way = way; buffers = set (run .buffers) b (record { held = held }) }) (k + 1)
+    goes-on end now later k b other done way held G w p q h target l =
+        let behind : Run = record { done = done; way = way; buffers = set (run .buffers) b (record { held = held }) } in
+        let v : Follows boards run (stepIn s) behind = next-follows run s boards b other done way held p q h target (G .wide) in
         let R = running-goes-on S (channelIn c) e trace (stateOf run) k now (stepIn s) (G .running) taken (omega (arith, G .whole)) in
         let kept : length later ≡ length now = ap length w ∙ simp length-set in
         record {
           whole = G .whole;
           within = omega arith;
+          wide = boards-kept run b (record { held = held }) (G .wide);
           room = omega (arith, G .room);
           same-length = kept ∙ G .same-length;
           running =

@@ -12,6 +12,10 @@ ghost use Rattle.schedule.specs.Schedule.{Scheduled};
 use channel_table::Channel;
 use next_step::choose;
 use run::Run;
+use run::done_behind;
+use run::held_behind;
+use run::target_of;
+use run::way_behind;
 use step::Step;
 use step::StepOrNone;
 
@@ -50,7 +54,12 @@ pub fn schedule(
             return i;
         };
         write_step(trace, i, step);
-        run = run.next(boards, step);
+        let target = target_of(boards, step);
+        let mut buffer = run.buffers[target];
+        done_behind(&mut run.done, step);
+        way_behind(&mut run.way, step);
+        held_behind(&mut buffer.held, step);
+        run.buffers[target] = buffer;
     }
     3 * count
 }

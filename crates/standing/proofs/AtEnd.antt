@@ -17,18 +17,12 @@ use Rattle.relation.specs.Rows.{holds}
 use Rattle.relation.specs.Scenario.{scenarioIn}
 use Rattle.channel_table.specs.declared.Channel.{Channel}
 use Rattle.channel_table.specs.Table.{channelIn}
-use Rattle.run.specs.declared.Buffer.{Buffer}
 use Rattle.run.specs.declared.Run.{Run}
-use Rattle.step.specs.declared.Step.{Step}
 use Rattle.step.specs.declared.Step.the-variants as step
-use Rattle.step.specs.Steps.{eventIn, messageIn}
-use Rattle.board.specs.Boards.{boardsMost}
-use Rattle.board.specs.Masks.{Standing}
-use Rattle.step.proofs.Steps.{event-inside}
 use Rattle.run.specs.State.{inRow, bufferOf, stateOf}
 use Rattle.buffers.specs.Held.{HeldIn}
-use Rattle.channel.specs.Steps.{SaysStep}
-use Rattle.standing.specs.Bridge.{standIn, allDone, stillAt, SaysIn, SaysStill}
+use Rattle.channel.specs.Steps.{SaysIn}
+use Rattle.standing.specs.Bridge.{standIn, allDone, stillAt, SaysStill}
 use Rattle.standing.specs.declared.Stand.the-variants.{Finished, Stuck, Open}
 
 -- so far every number passes
@@ -77,21 +71,8 @@ module _ (done : List ℕ) (count : ℕ) where
   pub all-done : (m : ℕ) → Finishing m → count ≤ m → true ≡ allDone count done
   all-done m P l = passing-end count _ m P l
 
--- the event of a step on a message of the scenario is one of its events, and its board has a buffer
-module _ (count : ℕ) (on words masks : List ℕ) (t : Step) (x : ℕ) (i : x ≡ eventIn t) (s : Standing count on words masks) (l : messageIn t < count) where
-  pub event-there : x < length on
-  event-there = omega (arith, s .boardsLong, i, event-inside t count l)
-
-  pub board-there : (b : ℕ) → b ≡ getD on x 0 → b < boardsMost
-  board-there b e = rw (e, i) (s .boardsBelow (eventIn t) (event-inside t count l))
-
--- The step of a message, with the buffer of its board: in every run with these parts.
+-- What each return of `is_held_up` is to show.
 module _ (count : ℕ) (on words : List ℕ) (c : Channel) (done way rows : List ℕ) where
-  pub by-buffer : (t : Step) (r : Bool) (buffer : Buffer) (x b : ℕ) → SaysStep count on words c done way buffer t r
-      → ((run : Run) → HeldIn run rows → bufferOf run b ≡ buffer) → b ≡ getD on x 0 → x ≡ eventIn t → SaysIn count on words c done way rows t r
-  by-buffer t r buffer x b says held e i run d w h =
-      says run d w (ap (bufferOf run) (ap (λ k. getD on k 0) (sym i) ∙ sym e) ∙ held run h)
-
   module _ (m : ℕ) where
     pub may-send : (r : Bool) → r ≡ true → SaysIn count on words c done way rows (step.Send m) r → SaysStill count on words c done way rows m false
     may-send r t h run d w s = rw (← h run d w s, t)

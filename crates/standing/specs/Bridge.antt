@@ -9,11 +9,9 @@ use Rattle.model.specs.Replay.{Replay, finishes, sticks, open′}
 use Rattle.relation.specs.Scenario.{scenarioIn}
 use Rattle.channel_table.specs.declared.Channel.{Channel}
 use Rattle.channel_table.specs.Table.{channelIn}
-use Rattle.step.specs.declared.Step.{Step}
 use Rattle.run.specs.declared.Run.{Run}
 use Rattle.run.specs.State.{inRow, stateOf}
 use Rattle.buffers.specs.Held.{HeldIn}
-use Rattle.channel.specs.Steps.{Says}
 use Rattle.standing.specs.declared.Stand.{Stand}
 use Rattle.standing.specs.declared.Stand.the-variants.{Finished, Stuck, Open}
 
@@ -32,12 +30,7 @@ stillAt count on words c run m =
     let may = allowed (scenarioIn count on words) (channelIn c) (stateOf run) in
     not (may (send m)) && not (may (deliver m)) && not (may (consume m))
 
--- of every run with these events done, these messages under way and these buffers in rows: whether the step is allowed
-abbrev pub SaysIn : ℕ → List ℕ → List ℕ → Channel → List ℕ → List ℕ → List ℕ → Step → Bool → Type 0
-SaysIn count on words c done way rows step r =
-    (run : Run) → run .done ≡ done → run .way ≡ way → HeldIn run rows → Says count on words c run step r
-
--- and whether no step on message m is
+-- the same of every run with these events done, these messages under way and these buffers in rows
 abbrev pub SaysStill : ℕ → List ℕ → List ℕ → Channel → List ℕ → List ℕ → List ℕ → ℕ → Bool → Type 0
 SaysStill count on words c done way rows m r =
     (run : Run) → run .done ≡ done → run .way ≡ way → HeldIn run rows → r ≡ stillAt count on words c run m

@@ -8,10 +8,9 @@ ghost use Rattle.relation.specs.Scenario.{scenarioIn};
 ghost use Rattle.channel_table.specs.Table.{channelIn};
 ghost use Rattle.board.specs.Masks.{Standing};
 ghost use Rattle.run.specs.State.{stateOf};
-ghost use Rattle.step.specs.Steps.{messageIn};
-ghost use Rattle.standing.specs.Bridge.{standIn, allDone, SaysIn, SaysStill};
-use board::board_of;
+ghost use Rattle.standing.specs.Bridge.{standIn, allDone, SaysStill};
 use buffers::HELD_WORDS;
+use channel::may_step;
 use channel_table::Channel;
 use relation::WIDTH;
 use run::Run;
@@ -42,29 +41,7 @@ fn is_finished(done: &[u64; WIDTH], count: usize) -> bool
     true
 }
 
-// The step is allowed, by the parts of a run: what is done, what is under way, and the rows of the buffers.
-fn may_step<'a>(
-    words: &[u64],
-    masks: &[u64],
-    boards: &[u8],
-    count: usize,
-    c: Channel,
-    done: &'a [u64; WIDTH],
-    way: &'a [u64; WIDTH],
-    rows: &'a [u64; HELD_WORDS],
-    step: Step,
-) -> bool
-    requires { ⌜ Standing count (now boards) (now words) (now masks) ⌝ }
-    requires { ⌜ messageIn step < count ⌝ }
-    ensures { λ r. ⌜ SaysIn count (now (boards .entry)) (now (words .entry)) c (now (done .entry)) (now (way .entry)) (now (rows .entry)) step r ⌝ }
-{
-    let x = step.event();
-    let board = board_of(boards, x);
-    let buffer = buffers::buffer_at(rows, board);
-    channel::allowed(words, masks, boards, count, c, done, way, buffer, step)
-}
-
-// No step on message m is allowed, by the same parts of a run.
+// No step on message m is allowed, by the parts of a run: what is done, what is under way, and the rows of the buffers.
 fn is_held_up<'a>(
     words: &[u64],
     masks: &[u64],

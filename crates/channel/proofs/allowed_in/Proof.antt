@@ -1,10 +1,7 @@
 -- `channel::allowed_in` meets its contract. Assumes nothing.
-use mathlib.Core.Path.{refl, _∙_}
-use Prim.Native.Nat.{_<_}
-use native.Mathlib.Omega.{arith}
+use mathlib.Core.Path.{refl}
 use borrow.Author.Needs.{needs}
-use Rattle.model.specs.Limits.{boards}
-use Rattle.run.proofs.States.{buffers-long, buffer-read, event-below, board-below}
+use Rattle.run.proofs.States.{buffers-long, buffer-read, reaches}
 use Rattle.channel.proofs.StepTests.{known, unknown}
 use Rattle.channel.proofs.allowed_in.Statement.{statement}
 use Rattle.channel.proofs.allowed_in.Tie as tie
@@ -15,17 +12,14 @@ message-requires c κs = search needs
 returns : tie.Need-returns
 returns c = search unknown
 
-event-requires : tie.Need-event-requires
-event-requires c κs = search needs
-
-board-of-requires : tie.Need-board-of-requires
-board-of-requires c κs = search (event-below, known)
+board-at-requires : tie.Need-board-at-requires
+board-at-requires c κs = search (reaches, known)
 
 mul-buffer : tie.Need-mul-buffer
-mul-buffer c = let there : c .board-of .result < boards = search (board-below, known) in search needs
+mul-buffer c = search needs
 
 element-copy-out-buffer : tie.Need-element-copy-out-buffer
-element-copy-out-buffer c = search (board-below, known)
+element-copy-out-buffer c = search needs
 
 allowed-requires : tie.Need-allowed-requires
 allowed-requires c κs = search needs
@@ -33,11 +27,9 @@ allowed-requires c κs = search needs
 returns-2 : tie.Need-returns-2
 returns-2 c =
     let w = c .before .before .before .before .before in
-    let e = w .before in
-    let s = e .before .before .before .before .before .before in
+    let s = w .before .before .before .before .before .before in
     let long = buffers-long (s .args .t1) _ (s .good .0) in
-    let there : w .board-of .result < boards = search (board-below, known) in
-    c .allowed .ensures (s .args .t1) refl refl (buffer-read (s .args .t1) _ _ _ (w .board-of .ensures ∙ rw (e .event .ensures)) (omega arith))
+    c .allowed .ensures (s .args .t1) refl refl (buffer-read (s .args .t1) _ _ _ _ (w .board-at .ensures) long)
 
 pub allowed-in-spec : {M : Type 1} → statement M
 allowed-in-spec =
@@ -45,8 +37,7 @@ allowed-in-spec =
     (tie.spec
     message-requires
     returns
-    event-requires
-    board-of-requires
+    board-at-requires
     mul-buffer
     element-copy-out-buffer
     allowed-requires

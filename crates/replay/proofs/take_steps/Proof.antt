@@ -1,8 +1,7 @@
 -- `replay::take_steps` meets its contract. Assumes nothing.
 use Prim.Native.Nat.{_-_}
-use native.Mathlib.Omega.{arith}
-use Rattle.replay.proofs.Going.{Going, going-starts, steps-end, tells-none, tells-forbidden, step-reaches, going-on}
 use borrow.Author.Needs.{needs}
+use Rattle.replay.proofs.Going.{Going, going-starts, steps-end, next-fits, step-there, tells-none, tells-not, step-inside, step-few, step-reaches, goes-on}
 use Rattle.replay.proofs.take_steps.Statement.{statement}
 use Rattle.replay.proofs.take_steps.Tie as tie
 
@@ -18,26 +17,8 @@ start-requires c κs = search needs
 loop-holds : tie.Need-loop-holds Inv-loop μ-loop
 loop-holds c = search going-starts
 
-mul-at : tie.Need-mul-at Inv-loop μ-loop
-mul-at c = search needs
-
-add-behind : tie.Need-add-behind Inv-loop μ-loop
-add-behind c = search needs
-
-shared-slice-read-wide : tie.Need-shared-slice-read-wide Inv-loop μ-loop
-shared-slice-read-wide c = search needs
-
-wide-requires : tie.Need-wide-requires Inv-loop μ-loop
-wide-requires c κs = search needs
-
-shared-slice-read-wide-2 : tie.Need-shared-slice-read-wide-2 Inv-loop μ-loop
-shared-slice-read-wide-2 c = search needs
-
-wide-requires-2 : tie.Need-wide-requires-2 Inv-loop μ-loop
-wide-requires-2 c κs = search needs
-
-told-requires : tie.Need-told-requires Inv-loop μ-loop
-told-requires c κs = search needs
+step-at-requires : tie.Need-step-at-requires Inv-loop μ-loop
+step-at-requires c κs = search step-there
 
 enum-known-told : tie.Need-enum-known-told Inv-loop μ-loop
 enum-known-told c = search needs
@@ -48,25 +29,56 @@ enum-told c = search needs
 returns : tie.Need-returns Inv-loop μ-loop
 returns c = search tells-none
 
-allowed-in-requires : tie.Need-allowed-in-requires Inv-loop μ-loop
-allowed-in-requires c κs = search needs
+board-at-requires : tie.Need-board-at-requires Inv-loop μ-loop
+board-at-requires c κs = search step-reaches
+
+mul-own : tie.Need-mul-own Inv-loop μ-loop
+mul-own c = search needs
+
+element-copy-out-own : tie.Need-element-copy-out-own Inv-loop μ-loop
+element-copy-out-own c = search needs
+
+allowed-requires : tie.Need-allowed-requires Inv-loop μ-loop
+allowed-requires c κs = (search needs, search step-inside)
 
 returns-2 : tie.Need-returns-2 Inv-loop μ-loop
-returns-2 c = search tells-forbidden
+returns-2 c = search tells-not
 
-next-requires : tie.Need-next-requires Inv-loop μ-loop
-next-requires c κs =
-    let entry = c .before .before .before .before .before .before .before .before .before .before .before .before .before .before .before .before .before in
-    step-reaches _ _ _ _ (entry .args .c) (c .before .before .before .before .before .before .before .before .before .before .before .loop .run) _ _ (c .before .allowed-in .ensures) (c .if1 .left) (entry .pre .0)
+target-of-requires : tie.Need-target-of-requires Inv-loop μ-loop
+target-of-requires c κs = search step-reaches
+
+mul-buffer : tie.Need-mul-buffer Inv-loop μ-loop
+mul-buffer c = search needs
+
+element-copy-out-buffer : tie.Need-element-copy-out-buffer Inv-loop μ-loop
+element-copy-out-buffer c = search needs
+
+done-behind-requires : tie.Need-done-behind-requires Inv-loop μ-loop
+done-behind-requires c κs = search step-few
+
+way-behind-requires : tie.Need-way-behind-requires Inv-loop μ-loop
+way-behind-requires c κs = search step-few
+
+held-behind-requires : tie.Need-held-behind-requires Inv-loop μ-loop
+held-behind-requires c κs =
+    let told = c .before .before .before .before .before .before .before .before .before .before .before .before .before .before .before in
+    let turn = told .before .before .before .before in
+    step-few _ _ _ _ (turn .before .before .before .before .before .before .args .trace .now) (turn .loop .i) _ _ (told .before .before .step-at .ensures) (told .told .given .1) (turn .before .before .before .before .before .before .pre .0)
+
+mul-t19 : tie.Need-mul-t19 Inv-loop μ-loop
+mul-t19 c = search needs
+
+element-set-from-run : tie.Need-element-set-from-run Inv-loop μ-loop
+element-set-from-run c = search needs
 
 add-i : tie.Need-add-i Inv-loop μ-loop
-add-i c = let turn = c .before .before .before .before .before .before .before .before .before .before .before in omega (arith, turn .loop-test .taken, turn .before .loop .inv .whole, turn .before .loop .inv .few)
+add-i c = search next-fits
 
 loop-less : tie.Need-loop-less Inv-loop μ-loop
 loop-less c = search needs
 
 loop-again : tie.Need-loop-again Inv-loop μ-loop
-loop-again c = search going-on
+loop-again c = search goes-on
 
 stand-of-requires : tie.Need-stand-of-requires Inv-loop μ-loop
 stand-of-requires c κs = search needs
@@ -85,19 +97,23 @@ take-steps-spec =
     μ-loop
     start-requires
     loop-holds
-    mul-at
-    add-behind
-    shared-slice-read-wide
-    wide-requires
-    shared-slice-read-wide-2
-    wide-requires-2
-    told-requires
+    step-at-requires
     enum-known-told
     enum-told
     returns
-    allowed-in-requires
+    board-at-requires
+    mul-own
+    element-copy-out-own
+    allowed-requires
     returns-2
-    next-requires
+    target-of-requires
+    mul-buffer
+    element-copy-out-buffer
+    done-behind-requires
+    way-behind-requires
+    held-behind-requires
+    mul-t19
+    element-set-from-run
     add-i
     loop-less
     loop-again

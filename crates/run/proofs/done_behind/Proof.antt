@@ -1,6 +1,6 @@
 -- `run::done_behind` meets its contract, kind by kind. Assumes nothing.
-use borrow.Author.Needs.{needs}
 use Rattle.run.proofs.States.{done-sent, done-kept, done-consumed}
+use borrow.Author.Needs.{needs}
 use Rattle.run.proofs.done_behind.Statement.{statement}
 use Rattle.run.proofs.done_behind.Tie as tie
 
@@ -16,8 +16,8 @@ add-receive c = search needs
 enum-told : tie.Need-enum-told
 enum-told c = search needs
 
-with-requires : tie.Need-with-requires
-with-requires c κs = search needs
+add-requires : tie.Need-add-requires
+add-requires c κs = search needs
 
 enum-told-2 : tie.Need-enum-told-2
 enum-told-2 c = search needs
@@ -25,8 +25,8 @@ enum-told-2 c = search needs
 enum-told-3 : tie.Need-enum-told-3
 enum-told-3 c = search needs
 
-with-requires-2 : tie.Need-with-requires-2
-with-requires-2 c κs = search needs
+add-requires-2 : tie.Need-add-requires-2
+add-requires-2 c κs = search needs
 
 returns : tie.Need-returns
 returns c = search done-sent
@@ -45,10 +45,10 @@ done-behind-spec =
     mul-send
     add-receive
     enum-told
-    with-requires
+    add-requires
     enum-told-2
     enum-told-3
-    with-requires-2
+    add-requires-2
     returns
     returns-2
     returns-3)

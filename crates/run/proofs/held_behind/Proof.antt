@@ -1,6 +1,6 @@
 -- `run::held_behind` meets its contract, kind by kind. Assumes nothing.
-use borrow.Author.Needs.{needs}
 use Rattle.run.proofs.States.{held-kept, held-delivered, held-consumed}
+use borrow.Author.Needs.{needs}
 use Rattle.run.proofs.held_behind.Statement.{statement}
 use Rattle.run.proofs.held_behind.Tie as tie
 
@@ -16,14 +16,14 @@ enum-told c = search needs
 enum-told-2 : tie.Need-enum-told-2
 enum-told-2 c = search needs
 
-with-requires : tie.Need-with-requires
-with-requires c κs = search needs
+add-requires : tie.Need-add-requires
+add-requires c κs = search needs
 
 enum-told-3 : tie.Need-enum-told-3
 enum-told-3 c = search needs
 
-without-requires : tie.Need-without-requires
-without-requires c κs = search needs
+remove-requires : tie.Need-remove-requires
+remove-requires c κs = search needs
 
 returns : tie.Need-returns
 returns c = search held-kept
@@ -42,9 +42,9 @@ held-behind-spec =
     mul-send
     enum-told
     enum-told-2
-    with-requires
+    add-requires
     enum-told-3
-    without-requires
+    remove-requires
     returns
     returns-2
     returns-3)

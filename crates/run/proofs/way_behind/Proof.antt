@@ -1,6 +1,6 @@
 -- `run::way_behind` meets its contract, kind by kind. Assumes nothing.
-use borrow.Author.Needs.{needs}
 use Rattle.run.proofs.States.{way-sent, way-delivered, way-kept}
+use borrow.Author.Needs.{needs}
 use Rattle.run.proofs.way_behind.Statement.{statement}
 use Rattle.run.proofs.way_behind.Tie as tie
 
@@ -13,14 +13,14 @@ mul-send c = search needs
 enum-told : tie.Need-enum-told
 enum-told c = search needs
 
-with-requires : tie.Need-with-requires
-with-requires c κs = search needs
+add-requires : tie.Need-add-requires
+add-requires c κs = search needs
 
 enum-told-2 : tie.Need-enum-told-2
 enum-told-2 c = search needs
 
-without-requires : tie.Need-without-requires
-without-requires c κs = search needs
+remove-requires : tie.Need-remove-requires
+remove-requires c κs = search needs
 
 enum-told-3 : tie.Need-enum-told-3
 enum-told-3 c = search needs
@@ -41,9 +41,9 @@ way-behind-spec =
     message-requires
     mul-send
     enum-told
-    with-requires
+    add-requires
     enum-told-2
-    without-requires
+    remove-requires
     enum-told-3
     returns
     returns-2

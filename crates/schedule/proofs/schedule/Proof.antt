@@ -1,7 +1,7 @@
 -- `schedule::schedule` meets its contract. Assumes nothing.
 use borrow.Author.Needs.{needs}
 use Prim.Native.Nat.{_-_}
-use Rattle.schedule.proofs.Running.{Goes, goes-start, step-few, step-reaches, goes-on, goes-stops, goes-ends}
+use Rattle.schedule.proofs.Running.{Goes, goes-start, next-fits, step-few, step-reaches, goes-on, goes-stops, goes-ends}
 use Rattle.schedule.proofs.schedule.Statement.{statement}
 use Rattle.schedule.proofs.schedule.Tie as tie
 
@@ -38,11 +38,32 @@ returns c = search goes-stops
 write-step-requires : tie.Need-write-step-requires Inv-loop μ-loop
 write-step-requires c κs = (search needs, search step-few)
 
-next-requires : tie.Need-next-requires Inv-loop μ-loop
-next-requires c κs = search step-reaches
+target-of-requires : tie.Need-target-of-requires Inv-loop μ-loop
+target-of-requires c κs = search step-reaches
+
+mul-buffer : tie.Need-mul-buffer Inv-loop μ-loop
+mul-buffer c = search needs
+
+element-copy-out-buffer : tie.Need-element-copy-out-buffer Inv-loop μ-loop
+element-copy-out-buffer c = search needs
+
+done-behind-requires : tie.Need-done-behind-requires Inv-loop μ-loop
+done-behind-requires c κs = search step-few
+
+way-behind-requires : tie.Need-way-behind-requires Inv-loop μ-loop
+way-behind-requires c κs = search step-few
+
+held-behind-requires : tie.Need-held-behind-requires Inv-loop μ-loop
+held-behind-requires c κs = search step-few
+
+mul-t21 : tie.Need-mul-t21 Inv-loop μ-loop
+mul-t21 c = search needs
+
+element-set-from-run : tie.Need-element-set-from-run Inv-loop μ-loop
+element-set-from-run c = search needs
 
 add-i : tie.Need-add-i Inv-loop μ-loop
-add-i c = search needs
+add-i c = search next-fits
 
 loop-less : tie.Need-loop-less Inv-loop μ-loop
 loop-less c = search needs
@@ -74,7 +95,14 @@ schedule-spec =
     same-length
     returns
     write-step-requires
-    next-requires
+    target-of-requires
+    mul-buffer
+    element-copy-out-buffer
+    done-behind-requires
+    way-behind-requires
+    held-behind-requires
+    mul-t21
+    element-set-from-run
     add-i
     loop-less
     loop-again

@@ -1,0 +1,34 @@
+-- `run::row::remove` meets its contract: the complement of the event's bit keeps every other bit of its word.
+-- Assumes nothing.
+use native.Mathlib.Omega.{arith}
+use Rattle.relation.specs.Width.{width}
+use Rattle.run.proofs.Rows.{without-event}
+use borrow.Author.Needs.{needs}
+use Rattle.run.proofs.row.remove.Statement.{statement}
+use Rattle.run.proofs.row.remove.Tie as tie
+
+mul-row : tie.Need-mul-row
+mul-row c = search needs
+
+slice-read-row : tie.Need-slice-read-row
+slice-read-row c = search needs
+
+shl-row : tie.Need-shl-row
+shl-row c = search needs
+
+mul-row-2 : tie.Need-mul-row-2
+mul-row-2 c = search needs
+
+slice-write-row : tie.Need-slice-write-row
+slice-write-row c = search needs
+
+same-length : tie.Need-same-length
+same-length c = search needs
+
+returns : tie.Need-returns
+returns c = without-event width _ _ (omega arith)
+
+pub remove-spec : {M : Type 1} → statement M
+remove-spec =
+    tie.close
+    (tie.spec mul-row slice-read-row shl-row mul-row-2 slice-write-row same-length returns)

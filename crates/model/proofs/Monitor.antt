@@ -14,10 +14,10 @@ use Rattle.model.specs.Limits.{channels, scratchLeast}
 use Rattle.model.specs.Refusal.{Out, ok, refusal}
 use Rattle.model.specs.Order.{Scenario}
 use Rattle.model.specs.Channel.{channelOf}
-use Rattle.model.specs.Run.{State, start, Step, next, allowed, isOrderFrom, after, IsOrder}
+use Rattle.model.specs.Run.{Step, next, allowed, isOrderFrom, after}
 use Rattle.model.specs.Schedule.{stepTold}
 use Rattle.model.specs.Answer.{sheetOf}
-use Rattle.model.specs.Monitor.{Held, takenWord, forbiddenWord, refusedWord, watchable, isBarred, Call, step, switch, mayTake, taking, wordTo, leaving, behind, heldFrom, wordsFrom, fresh, stepsOnly, MonitorAnswer, Opened, ByTheRules, Stepped, Switched, Session, opening, stepping, switching, WholeList, WholeLists}
+use Rattle.model.specs.Monitor.{Held, takenWord, forbiddenWord, refusedWord, watchable, isBarred, Call, step, switch, mayTake, taking, wordTo, leaving, behind, heldFrom, wordsFrom, fresh, stepsOnly, MonitorAnswer, Opened, ByTheRules, Session, opening, stepping, switching, WholeLists}
 
 module _ (S : Scenario) where
   -- one call more

@@ -1,28 +1,26 @@
 -- What the parts of the calls are to show, from what their own parts handed on. Assumes nothing.
-use mathlib.Core.Path.{_≡_, refl, sym, _∙_, ap, ap₂, subst, subst⁻¹}
-use mathlib.Core.Bool.{Bool, true, false, not}
+use mathlib.Core.Path.{_≡_, refl, sym, _∙_, ap, subst, subst⁻¹}
+use mathlib.Core.Bool.{Bool, true, false}
 use mathlib.Core.List.{List}
-use mathlib.Core.Option.{Option, none, some}
-use Prim.Native.Nat.{ℕ, _+_, _*_, _^_, _<_, _≤_}
+use Prim.Native.Nat.{ℕ, _*_, _^_, _<_, _≤_}
 use native.Mathlib.Omega.{arith}
-use borrow.Author.Tests.{not-true, not-false}
 use lib.ListN.{length}
-use Rattle.model.specs.Limits.{messagesMost, rowsMost}
-use Rattle.model.specs.Refusal.{Out, ok, refusal, switchRefusal}
+use Rattle.model.specs.Limits.{rowsMost}
+use Rattle.model.specs.Refusal.{Out, switchRefusal}
 use Rattle.model.specs.Place.{lineOf}
 use Rattle.model.specs.Order.{Scenario}
 use Rattle.model.specs.Channel.{channelOf}
 use Rattle.model.specs.Run.{start, next, allowed}
 use Rattle.model.specs.Answer.{sheetOf}
 use Rattle.model.specs.Monitor as model
-use Rattle.model.specs.Monitor.{isBarred, mayTake, taking, fresh}
+use Rattle.model.specs.Monitor.{isBarred, mayTake, taking}
 use Rattle.model.proofs.Lines.{Well, sheet-well}
 use Rattle.relation.specs.Width.{width}
 use Rattle.relation.specs.Scenario.{scenarioIn}
 use Rattle.expansion.specs.declared.Expanded.{Expanded}
 use Rattle.expansion.specs.declared.Expanded.the-variants as expanded
 use Rattle.scenario.specs.Contract.{Fit, SheetIn}
-use Rattle.scenario.proofs.Laws.{sheet-refused, sheet-is, sheet-fits}
+use Rattle.scenario.proofs.Laws.{sheet-refused, sheet-is}
 use Rattle.channel_table.specs.declared.Channel.{Channel}
 use Rattle.channel_table.specs.Table.{channelIn}
 use Rattle.board.specs.Masks.{maskRows, MasksOf, Standing}
@@ -31,10 +29,12 @@ use Rattle.step.specs.declared.StepOrNone.{StepOrNone}
 use Rattle.step.specs.declared.StepOrNone.the-variants as told
 use Rattle.step.specs.Steps.{stepIn, stepOrNone}
 use Rattle.run.specs.declared.Run.{Run}
-use Rattle.run.specs.State.{stateOf, Follows}
+use Rattle.run.specs.State.{stateOf, Reaches, Follows}
+use Rattle.run.proofs.States.{reaches}
+use Rattle.channel.proofs.StepTests.{allowed-inside}
 use Rattle.channel.specs.Steps.{Says}
 use Rattle.monitor.specs.declared.Monitor.{Monitor}
-use Rattle.monitor.specs.Bridge.{heldIn, zeros, refusedAs, forbiddenAs, takenAs, Fresh, Begins, Takes, Steps, Made, Switches}
+use Rattle.monitor.specs.Bridge.{heldIn, zeros, refusedAs, forbiddenAs, takenAs, Fresh, Begins, Takes, Steps, Switches}
 
 abbrev Reply : Type 0
 Reply = model.MonitorAnswer Monitor
@@ -65,7 +65,7 @@ module _ (text boards words : List ℕ) (v : Expanded) (p : SheetIn text boards 
     pub begun : (code : ℕ) (run : Run) (r : Reply) → stateOf run ≡ start → r ≡ takenAs run code → Begins (sheetOf text) code r
     begun code run r s e =
         let opened : Fresh code (takenAs run code)
-            = record { word = refl; one = refl; two = refl; state = ap (λ q. record { state = q; code = code }) s } in
+        = record { word = refl; one = refl; two = refl; state = ap (λ q. record { state = q; code = code }) s } in
         subst⁻¹ (λ (o : Out Scenario). Begins o code r) (sheet-is text boards words v p count i) (subst⁻¹ (Fresh code) e opened)
 
     pub stepped : (m : Monitor) (t : StepOrNone) (r : Reply) → Takes (scenarioIn count boards words) m (stepOrNone t) r
@@ -104,18 +104,18 @@ module _ (count : ℕ) (on words : List ℕ) (m : Monitor) (t : StepOrNone) (r :
         ap (λ (u : StepOrNone). mayTake S (heldIn m) (stepOrNone u)) i
         ∙ ap (λ q. allowed S q (stateOf (m .run)) (stepIn s)) (sym k) ∙ sym says
 
-    pub step-forbidden : not b ≡ true → r ≡ forbiddenAs m → Takes S m (stepOrNone t) r
-    step-forbidden f e = forbid (may ∙ not-true b f) e
+    pub step-forbidden : b ≡ false → r ≡ forbiddenAs m → Takes S m (stepOrNone t) r
+    step-forbidden f e = forbid (may ∙ f) e
 
-    pub step-taken : (run : Run) → not b ≡ false → Follows on (m .run) (stepIn s) run → r ≡ takenAs run (m .code) → Takes S m (stepOrNone t) r
+    pub step-taken : (run : Run) → b ≡ true → Follows on (m .run) (stepIn s) run → r ≡ takenAs run (m .code) → Takes S m (stepOrNone t) r
     unfolding taking
     step-taken run n follows e =
         let here : _≡_ {A = model.Held} (record { state = stateOf run; code = m .code }) (taking S (heldIn m) (stepOrNone t))
-            = ap (λ q. record { state = q; code = m .code }) (follows count words)
-            ∙ ap (λ (u : StepOrNone). taking S (heldIn m) (stepOrNone u)) (sym i) in
+        = ap (λ q. record { state = q; code = m .code }) (follows count words)
+        ∙ ap (λ (u : StepOrNone). taking S (heldIn m) (stepOrNone u)) (sym i) in
         record {
           taken = λ y. (ap (λ (a : Reply). a .word) e, ap (λ (a : Reply). heldIn (a .next)) e ∙ here);
-          forbidden = λ f. let z : true ≡ false = sym (may ∙ not-false b n) ∙ f in let y : _≡_ {A = ℕ} 0 1 = cc in absurd (omega arith)
+          forbidden = λ f. let z : true ≡ false = sym (may ∙ n) ∙ f in let y : _≡_ {A = ℕ} 0 1 = cc in absurd (omega arith);
         }
 
 -- the masks beside what the way to the scenario handed on
@@ -130,3 +130,14 @@ stands count boards words masks f l m =
       boardsBelow = f .boardsBelow;
       masksOf = m;
     }
+
+-- what the masks are made from
+pub masks-wanted : (count : ℕ) (boards words : List ℕ) → Fit count boards words → 2 * count ≤ length boards
+masks-wanted count boards words f = omega (arith, f .boardsLong, f .few)
+
+-- a step that is allowed is on a message that has a sender and a receiver
+pub step-reaches : (count : ℕ) (on words masks : List ℕ) (c : Channel) (run : Run) (s : Step) (b : Bool) → Says count on words c run s b → b ≡ true
+    → Fit count on words → maskRows * width ≤ length masks → MasksOf count on masks → Reaches on s
+step-reaches count on words masks c run s b says n f l m =
+    reaches count on words masks s (stands count on words masks f l m)
+    (allowed-inside (scenarioIn count on words) (channelIn c) (stateOf run) (stepIn s) (sym says ∙ n))

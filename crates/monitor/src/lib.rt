@@ -47,14 +47,14 @@ fn refused(next: Monitor, number: u8, line: usize) -> MonitorAnswer
 }
 
 // A step that the rule forbids leaves the monitor as it was.
-fn forbidden(next: Monitor) -> MonitorAnswer
-    ensures { λ r. ⌜ answerIn r ≡ forbiddenAs next ⌝ }
+fn forbidden(same: Monitor) -> MonitorAnswer
+    ensures { λ r. ⌜ answerIn r ≡ forbiddenAs same ⌝ }
 {
     MonitorAnswer {
         word: 1,
         one: 0,
         two: 0,
-        next,
+        next: same,
     }
 }
 
@@ -112,10 +112,10 @@ impl Monitor {
         let code = self.code;
         let c = channel_table::channel_of(code as usize);
         let run = self.run;
-        if !channel::allowed_in(run, words, &masks, boards, count, c, step) {
-            return forbidden(self);
+        if channel::allowed_in(run, words, &masks, boards, count, c, step) {
+            return taken(run.next(boards, step), code);
         }
-        taken(run.next(boards, step), code)
+        forbidden(self)
     }
 
     // The step told, where the text is a sheet.
@@ -141,7 +141,7 @@ impl Monitor {
         let mut boards = [0u8; model::EVENTS_MOST];
         let outcome = scenario::scenario_of(text, &mut boards, words);
         match outcome {
-            Expanded::Refused(number, line) => refused(self, number, line),
+            Expanded::Refused(reason, line) => refused(self, reason, line),
             Expanded::Messages(_) => {
                 let run = self.run;
                 if switching::is_barred(run, code as usize) {
@@ -164,7 +164,7 @@ impl Monitor {
         }
         let end = model::SCRATCH_LEAST;
         let answer = begin(text, code, &mut scratch[..end]);
-        relation::clear(scratch, model::SCRATCH_LEAST);
+        relation::clear(scratch, end);
         answer
     }
 
@@ -179,9 +179,9 @@ impl Monitor {
             return refused(self, model::BENCH, 0);
         }
         let told = Step::told(kind as usize, message as usize);
-        let end = model::SCRATCH_LEAST;
-        let answer = self.judge_step(told, text, &mut scratch[..end]);
-        relation::clear(scratch, model::SCRATCH_LEAST);
+        let all = model::SCRATCH_LEAST;
+        let answer = self.judge_step(told, text, &mut scratch[..all]);
+        relation::clear(scratch, all);
         answer
     }
 
@@ -195,9 +195,9 @@ impl Monitor {
         if scratch.len() < model::SCRATCH_LEAST {
             return refused(self, model::BENCH, 0);
         }
-        let end = model::SCRATCH_LEAST;
-        let answer = self.judge_switch(code, text, &mut scratch[..end]);
-        relation::clear(scratch, model::SCRATCH_LEAST);
+        let least = model::SCRATCH_LEAST;
+        let answer = self.judge_switch(code, text, &mut scratch[..least]);
+        relation::clear(scratch, least);
         answer
     }
 }

@@ -4,7 +4,7 @@ use mathlib.Core.Bool.{Bool, true, false, not, _&&_, _||_}
 use Prim.Native.Nat.{ℕ, suc, _+_, _*_, _<_, _≤_}
 use native.Mathlib.Omega.{arith}
 use borrow.Author.Tests.{le-leb, lt-leb, not-false, eq-eqb, ne-eqb}
-use lib.Dec.{eqb, leb, ltb}
+use lib.Dec.{eqb, leb}
 use Rattle.model.specs.Limits.{boards, messagesMost}
 use Rattle.model.specs.Bounded.{every, any, howMany}
 use Rattle.model.specs.Run.{State}
@@ -50,9 +50,6 @@ passed-all run b p l = let e : b ≡ boards = omega (arith, p .most) in sym (ap 
 -- each part of what bars a switch
 pub eager-bars : (run : Run) (eager r : Bool) → eager ≡ true → r ≡ isCrowded (stateOf run) → r ≡ (eager && isCrowded (stateOf run))
 eager-bars run eager r e i = rw e i
-
-pub lazy-passes : (run : Run) (eager : Bool) → eager ≡ false → false ≡ (eager && isCrowded (stateOf run))
-lazy-passes run eager e = rw e
 
 pub ring-bars : (run : Run) (code n : ℕ) → code ≡ 5 → n ≡ howMany messagesMost (λ m. inRow (run .way) (2 * m))
     → leb 2 n ≡ (eqb code 5 && isFull (stateOf run))

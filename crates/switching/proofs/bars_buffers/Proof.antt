@@ -1,6 +1,6 @@
 -- `switching::bars_buffers` meets its contract. Assumes nothing.
 use borrow.Author.Needs.{needs}
-use Rattle.switching.proofs.Boards.{eager-bars, lazy-passes}
+use Rattle.switching.proofs.Boards.{eager-bars}
 use Rattle.switching.proofs.bars_buffers.Statement.{statement}
 use Rattle.switching.proofs.bars_buffers.Tie as tie
 

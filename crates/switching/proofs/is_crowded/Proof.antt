@@ -1,7 +1,5 @@
 -- `switching::is_crowded` meets its contract: the boards passed hold one message at most. Assumes nothing.
-use mathlib.Core.Path.{refl}
 use Prim.Native.Nat.{_-_}
-use native.Mathlib.Omega.{arith}
 use borrow.Author.Needs.{needs}
 use Rattle.model.specs.Limits.{boards}
 use Rattle.switching.proofs.Boards.{Passed, passed-none, crowded-here, passed-one, passed-all}

@@ -1,5 +1,4 @@
 -- `switching::messages_of` meets its contract. Assumes nothing.
-use native.Mathlib.Omega.{arith}
 use borrow.Author.Needs.{needs}
 use Rattle.switching.proofs.Counted.{word-counted, ones-fit}
 use Rattle.switching.proofs.messages_of.Statement.{statement}

@@ -1,60 +1,56 @@
+-- `Monitor::step` meets its contract. Assumes nothing.
+use native.Mathlib.Omega.{arith}
+use Prim.Native.Nat.{_*_}
+use lib.ListN.{length-take}
+use Rattle.model.specs.Limits.{messagesMost}
+use Rattle.relation.specs.Width.{width}
+use Rattle.monitor.specs.Bridge.{answerIn}
+use Rattle.monitor.proofs.Whole.{step-unknown, step-short, steps}
 use borrow.Author.Needs.{needs}
 use Rattle.monitor.proofs.Monitor.step.Statement.{statement}
 use Rattle.monitor.proofs.Monitor.step.Tie as tie
-use Rattle.monitor.proofs.Monitor.step.Reads as reads
-use Rattle.monitor.proofs.Monitor.step.Lts as lts
-use Rattle.monitor.proofs.Monitor.judge_step.Reads as judge-step-reads
-use Rattle.monitor.proofs.refused.Reads as refused-reads
-use Rattle.relation.proofs.clear.Reads as clear-reads
-use Rattle.step.proofs.Step.told.Reads as told-reads
 
--- src/lib.rt:175:31
 cast-if1 : tie.Need-cast-if1
 cast-if1 c = search needs
 
--- src/lib.rt:176:13
 refused-requires : tie.Need-refused-requires
 refused-requires c κs = search needs
 
--- src/lib.rt:176:13
 returns : tie.Need-returns
-returns c = ?
+returns c = let s = c in step-unknown _ _ _ _ _ (answerIn (s .refused .result)) (search needs) (s .refused .ensures)
 
--- src/lib.rt:179:13
 refused-requires-2 : tie.Need-refused-requires-2
 refused-requires-2 c κs = search needs
 
--- src/lib.rt:179:13
 returns-2 : tie.Need-returns-2
-returns-2 c = ?
+returns-2 c = let s = c in step-short _ _ _ _ _ (answerIn (s .refused2 .result)) (search needs) (omega arith) (s .refused2 .ensures)
 
--- src/lib.rt:181:13
 told-requires : tie.Need-told-requires
 told-requires c κs = search needs
 
--- src/lib.rt:183:50
 slice-relend-prefix-judge-step : tie.Need-slice-relend-prefix-judge-step
 slice-relend-prefix-judge-step c = search needs
 
--- src/lib.rt:183:50
 slice-aggregate-judge-step : tie.Need-slice-aggregate-judge-step
-slice-aggregate-judge-step c = ?
+slice-aggregate-judge-step c = simp length-take (omega arith)
 
--- src/lib.rt:183:13
 judge-step-requires : tie.Need-judge-step-requires
-judge-step-requires c κs = ?
+judge-step-requires c κs = (simp length-take (omega arith), search needs)
 
--- src/lib.rt:184:9
 clear-requires : tie.Need-clear-requires
 clear-requires c κs = search needs
 
--- src/lib.rt:172:5
 same-length : tie.Need-same-length
 same-length c = search needs
 
--- src/lib.rt:172:5
 returns-3 : tie.Need-returns-3
-returns-3 c = ?
+returns-3 c =
+    let s = c .before .before .before .before .before .before in
+    let told = s .before .before in
+    let n = 2 * messagesMost * width in
+    let kept = length-take n (told .before .before .before .before .before .before .args .scratch .now) in
+    steps _ _ _ _ _ (answerIn (s .judge-step .result)) _ (s .judge-step .last .1 .1 .1 .0) n _ (search needs) (search needs) (omega (arith, kept)) (search needs)
+    (c .before .before .clear .ensures) (told .told .ensures) (s .judge-step .ensures)
 
 pub step-spec : {M : Type 1} → statement M
 step-spec =

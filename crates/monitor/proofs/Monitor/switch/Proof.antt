@@ -1,51 +1,49 @@
+-- `Monitor::switch` meets its contract. Assumes nothing.
+use native.Mathlib.Omega.{arith}
+use Prim.Native.Nat.{_*_}
+use lib.ListN.{length-take}
+use Rattle.model.specs.Limits.{messagesMost}
+use Rattle.relation.specs.Width.{width}
+use Rattle.monitor.specs.Bridge.{answerIn}
+use Rattle.monitor.proofs.Whole.{switch-unknown, switch-short, switches}
 use borrow.Author.Needs.{needs}
 use Rattle.monitor.proofs.Monitor.switch.Statement.{statement}
 use Rattle.monitor.proofs.Monitor.switch.Tie as tie
-use Rattle.monitor.proofs.Monitor.switch.Reads as reads
-use Rattle.monitor.proofs.Monitor.switch.Lts as lts
-use Rattle.monitor.proofs.Monitor.judge_switch.Reads as judge-switch-reads
-use Rattle.monitor.proofs.refused.Reads as refused-reads
-use Rattle.relation.proofs.clear.Reads as clear-reads
 
--- src/lib.rt:193:13
 refused-requires : tie.Need-refused-requires
 refused-requires c κs = search needs
 
--- src/lib.rt:193:13
 returns : tie.Need-returns
-returns c = ?
+returns c = let s = c in switch-unknown _ _ _ _ (answerIn (s .refused .result)) (search needs) (s .refused .ensures)
 
--- src/lib.rt:196:13
 refused-requires-2 : tie.Need-refused-requires-2
 refused-requires-2 c κs = search needs
 
--- src/lib.rt:196:13
 returns-2 : tie.Need-returns-2
-returns-2 c = ?
+returns-2 c = let s = c in switch-short _ _ _ _ (answerIn (s .refused2 .result)) (search needs) (omega arith) (s .refused2 .ensures)
 
--- src/lib.rt:199:52
 slice-relend-prefix-judge-switch : tie.Need-slice-relend-prefix-judge-switch
 slice-relend-prefix-judge-switch c = search needs
 
--- src/lib.rt:199:52
 slice-aggregate-judge-switch : tie.Need-slice-aggregate-judge-switch
-slice-aggregate-judge-switch c = ?
+slice-aggregate-judge-switch c = simp length-take (omega arith)
 
--- src/lib.rt:199:13
 judge-switch-requires : tie.Need-judge-switch-requires
-judge-switch-requires c κs = ?
+judge-switch-requires c κs = (simp length-take (omega arith), search needs)
 
--- src/lib.rt:200:9
 clear-requires : tie.Need-clear-requires
 clear-requires c κs = search needs
 
--- src/lib.rt:189:5
 same-length : tie.Need-same-length
 same-length c = search needs
 
--- src/lib.rt:189:5
 returns-3 : tie.Need-returns-3
-returns-3 c = ?
+returns-3 c =
+    let s = c .before .before .before .before .before .before in
+    let n = 2 * messagesMost * width in
+    let kept = length-take n (s .before .before .before .before .before .before .args .scratch .now) in
+    switches _ _ _ _ (answerIn (s .judge-switch .result)) _ (s .judge-switch .last .1 .1 .1 .0) n (search needs) (search needs) (omega (arith, kept)) (search needs)
+    (c .before .before .clear .ensures) (s .judge-switch .ensures)
 
 pub switch-spec : {M : Type 1} → statement M
 switch-spec =

@@ -2,6 +2,8 @@
 //! trace is replayed by the step rules, orders of free sheets are taken at random to their end, and small sheets are searched whole.
 //! usage: differential [TEXTS [SEED]]
 
+#[path = "monitors.rs"]
+mod monitors;
 #[path = "reference.rs"]
 mod reference;
 #[path = "texts.rs"]
@@ -168,6 +170,7 @@ struct Seen {
     wandered: u64,
     searched: u64,
     traces: traces::Seen,
+    monitors: monitors::Seen,
 }
 
 impl Seen {
@@ -181,6 +184,7 @@ impl Seen {
         self.wandered += o.wandered;
         self.searched += o.searched;
         self.traces.add(&o.traces);
+        self.monitors.add(&o.monitors);
     }
 
     fn limits_of(&mut self, s: &Scenario) {
@@ -194,13 +198,15 @@ impl Seen {
         println!("refused by number 1 to 11: {:?}", &self.refused[1..]);
         println!("accepted at a limit, {}: {:?}", LIMITS.join(", "), self.limits);
         self.traces.print();
+        self.monitors.print();
         println!("traces replayed {}, free orders taken {}, sheets searched whole {}", self.replayed, self.wandered, self.searched);
     }
 
     fn whole(&self) -> bool {
         let eager = [0, 2, 4, 5].iter().all(|c| self.locked[*c] > 0);
         let some = |all: &[u64]| all.iter().all(|n| *n > 0);
-        eager && some(&self.free) && some(&self.refused[1..]) && some(&self.limits) && self.traces.whole() && self.replayed * self.wandered * self.searched > 0
+        let judged = self.replayed * self.wandered * self.searched > 0 && self.traces.whole() && self.monitors.whole();
+        eager && some(&self.free) && some(&self.refused[1..]) && some(&self.limits) && judged
     }
 }
 
@@ -250,6 +256,9 @@ fn try_text(r: &mut Random, seen: &mut Seen) {
         if r.one_in(4) {
             traces::try_traces(r, &mut seen.traces, &text, &sheet, code, &trace);
         }
+    }
+    if r.one_in(8) {
+        monitors::try_monitors(r, &mut seen.monitors, &text, &sheet);
     }
 }
 

@@ -162,6 +162,21 @@ static const struct { const char *name; void (*make)(int); } sheets[] = {
     {"early-race", early_race}, {"streams", streams}, {"choices", choices}, {"choices-locked", choices_locked},
 };
 
+/* A run opened, the check's own steps fed to the monitor one at a time, and a switch at its end. */
+static void watch(int proved, uint32_t code, const uint8_t *steps, uint32_t count, uint64_t *scratch) {
+    enum { WORDS = CHANNEL_CHECK_SCRATCH_WORDS };
+    const uint8_t *sheet = (const uint8_t *)text;
+    monitor_answer a = (proved ? monitor_open : careful_monitor_open)(sheet, len, code, scratch, WORDS);
+    unsigned sum = a.word;
+    for (uint32_t i = 0; i < count; i++) {
+        a = (proved ? monitor_step : careful_monitor_step)(a.next, steps[2 * i], steps[2 * i + 1], sheet, len, scratch, WORDS);
+        sum = 31 * sum + a.word;
+    }
+    a = (proved ? monitor_switch : careful_monitor_switch)(a.next, 5, sheet, len, scratch, WORDS);
+    for (size_t i = 0; i < sizeof a.next.done / 8; i++) sum = 31 * sum + (unsigned)(a.next.done[i] ^ a.next.way[i] ^ a.next.done[i] >> 32);
+    printf("watched: %u %u %u, %u\n", a.word, a.one, a.two, sum);
+}
+
 /* One call, and its answer, with a sum of the trace so that two implementations can be compared. */
 static void run(int proved, uint32_t code) {
     static uint64_t scratch[CHANNEL_CHECK_SCRATCH_WORDS];
@@ -177,6 +192,7 @@ static void run(int proved, uint32_t code) {
     choice_check_answer l = (proved ? choice_check : careful_choice_check)((const uint8_t *)text, len, code, scratch, CHANNEL_CHECK_SCRATCH_WORDS, trace, CHANNEL_CHECK_TRACE_BYTES);
     for (size_t i = 0; i < sizeof trace; i++) sum = 31 * sum + trace[i];
     printf("choices: %u %u %u %u %u %u, trace %u\n", l.word, l.one, l.two, l.three, l.length, l.choices, sum);
+    watch(proved, code, trace, a.word == 1 ? a.three : 0, scratch);
 }
 
 int main(int argc, char **argv) {

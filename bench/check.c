@@ -516,3 +516,76 @@ choice_check_answer careful_choice_check(const uint8_t *text, size_t text_len, u
     memset(scratch, 0, 1024 * 8);
     return a;
 }
+
+/* ------------------------------------------------------------------ the monitor */
+
+/* the sheet of a monitor's call, walked into w; the refusal, with the scratch cleared but on 1 and 2 */
+static refusal watch(const uint8_t *text, size_t len, uint32_t code, uint64_t *scratch, size_t scratch_len, walk *w) {
+    sheet s;
+    if (code > 5) return (refusal){1, 0};
+    if (scratch_len < 1024) return (refusal){2, 0};
+    refusal r = read(text, len, &s, scratch, 0);
+    w->words = scratch;
+    if (!r.number) r = expand(&s, w, 0);
+    return r;
+}
+
+static void leave(refusal r, uint64_t *scratch) {
+    if (r.number == 0 || r.number > 2) memset(scratch, 0, 1024 * 8);
+}
+
+monitor_answer careful_monitor_open(const uint8_t *text, size_t text_len, uint32_t code, uint64_t *scratch, size_t scratch_len) {
+    walk w;
+    monitor_answer a = {0};
+    refusal r = watch(text, text_len, code, scratch, scratch_len, &w);
+    if (r.number) a.word = 2, a.one = r.number, a.two = r.line;
+    else a.next.code = code;
+    leave(r, scratch);
+    return a;
+}
+
+monitor_answer careful_monitor_step(monitor state, uint32_t kind, uint32_t message, const uint8_t *text, size_t text_len,
+                                    uint64_t *scratch, size_t scratch_len) {
+    walk w;
+    monitor_answer a = {1, 0, 0, state};
+    refusal r = watch(text, text_len, state.code, scratch, scratch_len, &w);
+    if (r.number) {
+        a.word = 2, a.one = r.number, a.two = r.line;
+    } else if (kind < 3 && message < w.count) {
+        run now;
+        masks k;
+        memcpy(now.done, state.done, sizeof now.done);
+        memcpy(now.way, state.way, sizeof now.way);
+        memcpy(now.held, state.buffers, sizeof now.held);
+        boards_masks(&w, &k);
+        if (may(&w, &k, channels[state.code], &now, (uint8_t)kind, message)) {
+            take(&w, &now, (uint8_t)kind, message);
+            memcpy(a.next.done, now.done, sizeof now.done);
+            memcpy(a.next.way, now.way, sizeof now.way);
+            memcpy(a.next.buffers, now.held, sizeof now.held);
+            a.word = 0;
+        }
+    }
+    leave(r, scratch);
+    return a;
+}
+
+static unsigned messages_in(const uint64_t *row) {
+    unsigned n = 0;
+    for (size_t i = 0; i < W; i++) n += (unsigned)__builtin_popcountll(row[i] & sends);
+    return n;
+}
+
+monitor_answer careful_monitor_switch(monitor state, uint32_t code, const uint8_t *text, size_t text_len, uint64_t *scratch,
+                                      size_t scratch_len) {
+    walk w;
+    monitor_answer a = {0, 0, 0, state};
+    refusal r = watch(text, text_len, code, scratch, scratch_len, &w);
+    int crowded = 0;
+    for (size_t b = 0; b < BOARDS; b++) crowded |= messages_in(state.buffers[b].held) >= 2;
+    if (!r.number && ((channels[code].eager && crowded) || (code == 5 && messages_in(state.way) >= 2))) r.number = 14;
+    if (r.number) a.word = 2, a.one = r.number, a.two = r.line;
+    else a.next.code = code;
+    leave(r, scratch);
+    return a;
+}

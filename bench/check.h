@@ -8,4 +8,9 @@ trace_check_answer careful_trace_check(const uint8_t *text, size_t text_len, uin
                                        const uint8_t *trace, size_t trace_len);
 choice_check_answer careful_choice_check(const uint8_t *text, size_t text_len, uint32_t code, uint64_t *scratch, size_t scratch_len,
                                          uint8_t *trace, size_t trace_len);
+monitor_answer careful_monitor_open(const uint8_t *text, size_t text_len, uint32_t code, uint64_t *scratch, size_t scratch_len);
+monitor_answer careful_monitor_step(monitor state, uint32_t kind, uint32_t message, const uint8_t *text, size_t text_len,
+                                    uint64_t *scratch, size_t scratch_len);
+monitor_answer careful_monitor_switch(monitor state, uint32_t code, const uint8_t *text, size_t text_len, uint64_t *scratch,
+                                      size_t scratch_len);
 #endif

@@ -1,8 +1,8 @@
 /* The fuzz target over the C face. Each input is tried on the library as it is shipped, on the same proved code compiled with
  * coverage counters, which guides the search, and on the careful C program of bench/, and all must agree in answer, trace,
  * scratch and text. Input: a byte for the code, one for the buffers' lengths, then the text. Where the second byte is over 127 the call is
- * trace_check: a byte for a third of the trace's length follows, then the trace, then the text. Otherwise the call is choice_check where
- * the first byte has bit 3, else channel_check. */
+ * trace_check: a byte for a third of the trace's length follows, then the trace, then the text; with bit 4 of the first byte the bytes are
+ * not a trace but calls of the monitor. Otherwise the call is choice_check where the first byte has bit 3, else channel_check. */
 #define _GNU_SOURCE
 #include "../bench/check.h"
 #include <stdio.h>
@@ -13,6 +13,9 @@
 channel_check_answer guided_check(const uint8_t *, size_t, uint32_t, uint64_t *, size_t, uint8_t *, size_t);
 trace_check_answer guided_trace_check(const uint8_t *, size_t, uint32_t, uint64_t *, size_t, const uint8_t *, size_t);
 choice_check_answer guided_choice_check(const uint8_t *, size_t, uint32_t, uint64_t *, size_t, uint8_t *, size_t);
+monitor_answer guided_monitor_open(const uint8_t *, size_t, uint32_t, uint64_t *, size_t);
+monitor_answer guided_monitor_step(monitor, uint32_t, uint32_t, const uint8_t *, size_t, uint64_t *, size_t);
+monitor_answer guided_monitor_switch(monitor, uint32_t, const uint8_t *, size_t, uint64_t *, size_t);
 int LLVMFuzzerTestOneInput(const uint8_t *data, size_t size);
 
 enum { WORDS = CHANNEL_CHECK_SCRATCH_WORDS, BYTES = CHANNEL_CHECK_TRACE_BYTES, PAINT = 0xa5, AHEAD = 64, ROOM = 1 << 16, GUARD = 1 << 16 };
@@ -111,6 +114,31 @@ static void try_trace(const uint8_t *text, size_t len, uint32_t code, size_t wor
     free(exact_text), free(exact_trace), free(exact);
 }
 
+/* the monitor: opened, and then two bytes a call, a step, or a switch where the first is over 2; all three agree in every answer */
+static void try_monitor(const uint8_t *text, size_t len, uint32_t code, const uint8_t *calls, size_t bytes) {
+    uint8_t *exact_text = memcpy(malloc(len), text, len), *lent = memcpy(guarded(0, len), text, len);
+    uint64_t *exact = memset(malloc(WORDS * 8), PAINT, WORDS * 8), *words = (uint64_t *)guarded(1, WORDS * 8);
+    call a = {.text_len = len, .words = WORDS, .text = lent, .scratch = (uint8_t *)words};
+    monitor_answer c = careful_monitor_open(exact_text, len, code, exact, WORDS), p = monitor_open(lent, len, code, words, WORDS);
+    monitor_answer g = guided_monitor_open(lent, len, code, words, WORDS);
+    for (size_t i = 0;; i += 2) {
+        if (c.word != p.word || c.one != p.one || c.two != p.two || g.word != p.word || g.one != p.one || g.two != p.two) stop("monitor's answer", &a);
+        if (memcmp(&c.next, &p.next, offsetof(monitor, code) + 4) != 0 || memcmp(&g.next, &p.next, offsetof(monitor, code) + 4) != 0) stop("monitor's state", &a);
+        if (memcmp(exact, words, WORDS * 8) != 0) stop("scratch behind a monitor's call", &a);
+        if (i + 1 >= bytes) break;
+        uint32_t kind = calls[i], m = calls[i + 1];
+        if (kind > 2) {
+            c = careful_monitor_switch(c.next, kind % 8, exact_text, len, exact, WORDS), p = monitor_switch(p.next, kind % 8, lent, len, words, WORDS);
+            g = guided_monitor_switch(g.next, kind % 8, lent, len, words, WORDS);
+        } else {
+            c = careful_monitor_step(c.next, kind, m, exact_text, len, exact, WORDS), p = monitor_step(p.next, kind, m, lent, len, words, WORDS);
+            g = guided_monitor_step(g.next, kind, m, lent, len, words, WORDS);
+        }
+    }
+    if (memcmp(lent, text, len) != 0 || !ahead_painted(lent) || !ahead_painted((uint8_t *)words)) stop("text, or bytes ahead of a buffer", &a);
+    free(exact_text), free(exact);
+}
+
 int LLVMFuzzerTestOneInput(const uint8_t *data, size_t size) {
     static const uint32_t codes[8] = {0, 1, 2, 3, 4, 5, 6, UINT32_MAX};
     static const size_t words[8] = {WORDS, WORDS, WORDS, WORDS + 1, 2 * WORDS, WORDS, WORDS - 1, 0};
@@ -121,7 +149,8 @@ int LLVMFuzzerTestOneInput(const uint8_t *data, size_t size) {
     if (data[1] > 127) {
         if (size < 3) return -1;
         size_t most = 3 * (size_t)data[2] + data[1] / 64 % 2, length = most < size - 3 ? most : size - 3;
-        try_trace(data + 3 + length, size - 3 - length, code, c.words, data + 3, length);
+        if (data[0] / 16 % 2) try_monitor(data + 3 + length, size - 3 - length, code, data + 3, length);
+        else try_trace(data + 3 + length, size - 3 - length, code, c.words, data + 3, length);
         return 0;
     }
     careful(&c, data + 2, code);

@@ -96,6 +96,43 @@ typedef struct {
 choice_check_answer choice_check(const uint8_t *text, size_t text_len, uint32_t code, uint64_t *scratch, size_t scratch_len,
                                  uint8_t *trace, size_t trace_len);
 
+/* A live monitor of one run. Its state is a value, handed in and handed back: the events done (event x is bit x % 64 of word x / 64), the
+ * messages under way, as bits of their sends, each board's buffer in the same form, and the channel code in force. */
+#define MONITOR_ROW_WORDS 4
+typedef struct {
+    uint64_t held[MONITOR_ROW_WORDS];
+} monitor_buffer;
+typedef struct {
+    uint64_t done[MONITOR_ROW_WORDS], way[MONITOR_ROW_WORDS];
+    monitor_buffer buffers[16];
+    uint32_t code;
+} monitor;
+
+/* word: 0 taken (opened, stepped or switched), 1 forbidden, 2 refused: one is the refusal's number, 1 to 11 or 14, and two its line.
+ * next is the monitor to go on with: forbidden steps and refusals hand back the one that was handed in, bit for bit, and a refused
+ * opening one of all zeros. */
+typedef struct {
+    uint32_t word, one, two;
+    monitor next;
+} monitor_answer;
+
+/* Each call is lent the sheet's text and scratch again; both are as channel_check's, and so is the scratch at exit.
+ *
+ * monitor_open    a run at its start, on a channel.
+ * monitor_step    a step by its code (0 send, 1 deliver, 2 consume) and message, under the code in force. A step that the rule forbids, a
+ *                 wrong step code and an unknown message are answered forbidden.
+ * monitor_switch  another channel code; the state passes over whole. Refusal 14, behind all others: to an eager code (0, 2, 4, 5) while some
+ *                 board holds two messages or more, or to code 5 while two or more are under way.
+ *
+ * Proved over every list of steps and switches from an opened monitor, each call with that same text: the state held is that of the step
+ * rules, each step under the code in force, and so are the answers; without a switch it is that of an allowed order, of which channel_check's
+ * verdict speaks. Whether a run with a switch can lock is not claimed. Of any other monitor or text only the refusals and the scratch are.
+ */
+monitor_answer monitor_open(const uint8_t *text, size_t text_len, uint32_t code, uint64_t *scratch, size_t scratch_len);
+monitor_answer monitor_step(monitor state, uint32_t kind, uint32_t message, const uint8_t *text, size_t text_len, uint64_t *scratch,
+                            size_t scratch_len);
+monitor_answer monitor_switch(monitor state, uint32_t code, const uint8_t *text, size_t text_len, uint64_t *scratch, size_t scratch_len);
+
 #ifdef __cplusplus
 }
 #endif

@@ -4,6 +4,8 @@
 
 #[path = "choices.rs"]
 mod choices;
+#[path = "monitors.rs"]
+mod monitors;
 #[path = "reference.rs"]
 mod reference;
 #[path = "texts.rs"]
@@ -171,6 +173,7 @@ struct Seen {
     searched: u64,
     traces: traces::Seen,
     choices: choices::Seen,
+    monitors: monitors::Seen,
 }
 
 impl Seen {
@@ -185,6 +188,7 @@ impl Seen {
         self.searched += o.searched;
         self.traces.add(&o.traces);
         self.choices.add(&o.choices);
+        self.monitors.add(&o.monitors);
     }
 
     fn limits_of(&mut self, s: &Scenario) {
@@ -199,13 +203,14 @@ impl Seen {
         println!("accepted at a limit, {}: {:?}", LIMITS.join(", "), self.limits);
         self.traces.print();
         self.choices.print();
+        self.monitors.print();
         println!("traces replayed {}, free orders taken {}, sheets searched whole {}", self.replayed, self.wandered, self.searched);
     }
 
     fn whole(&self) -> bool {
         let eager = [0, 2, 4, 5].iter().all(|c| self.locked[*c] > 0);
         let some = |all: &[u64]| all.iter().all(|n| *n > 0);
-        let judged = self.replayed * self.wandered * self.searched > 0 && self.traces.whole() && self.choices.whole();
+        let judged = self.replayed * self.wandered * self.searched > 0 && self.traces.whole() && self.choices.whole() && self.monitors.whole();
         eager && some(&self.free) && some(&self.refused[1..]) && some(&self.limits) && judged
     }
 }
@@ -259,6 +264,9 @@ fn try_text(r: &mut Random, seen: &mut Seen) {
     }
     if r.one_in(8) {
         choices::try_choices(r, &mut seen.choices, &text);
+    }
+    if r.one_in(8) {
+        monitors::try_monitors(r, &mut seen.monitors, &text, &sheet);
     }
 }
 

@@ -381,9 +381,85 @@ static void choices(void) {
         if (!choice_words[w]) printf("FAILED: choice_check never said %d\n", w), failures++;
 }
 
+/* ------------------------------------------------------------------ the monitor */
+
+static int monitor_words[3][3]; /* by call and word */
+
+/* what every call of the monitor promises of its buffers; the answer's numbers, and the monitor handed back */
+static monitor_answer watch(sheet s, int which, monitor m, uint32_t code, uint32_t kind, uint32_t message, size_t words, uint32_t e[3]) {
+    buffer text = lend(s.len), scratch = lend(words * 8);
+    memcpy(text.at, s.text, s.len);
+    uint64_t *w = (uint64_t *)scratch.at;
+    monitor_answer a = which == 0   ? monitor_open(text.at, s.len, code, w, words)
+                       : which == 1 ? monitor_step(m, kind, message, text.at, s.len, w, words)
+                                    : monitor_switch(m, code, text.at, s.len, w, words);
+    calls++;
+    if (a.word < 3) monitor_words[which][a.word]++;
+    if (a.word != e[0] || a.one != e[1] || a.two != e[2])
+        printf("  expected %u %u %u, got %u %u %u (call %d, %u %u)\n", e[0], e[1], e[2], a.word, a.one, a.two, which, kind, message);
+    expect(a.word == e[0] && a.one == e[1] && a.two == e[2], s, code, "monitor's answer");
+    size_t cleared = e[0] == 2 && e[1] <= 2 ? 0 : 8 * (size_t)WORDS;
+    expect(zero(scratch.at, scratch.at + cleared) && painted(scratch.at + cleared, scratch.guard), s, code, "scratch behind a monitor's call");
+    expect(painted(scratch.from, scratch.at), s, code, "bytes ahead of a buffer");
+    expect(memcmp(text.at, s.text, s.len) == 0 && painted(text.from, text.at), s, code, "the text was written to");
+    static const monitor zeros;
+    const monitor *back = which == 0 ? &zeros : &m;
+    if (a.word != 0) expect(memcmp(&a.next, back, offsetof(monitor, code) + sizeof a.next.code) == 0, s, code, "the monitor handed back");
+    give_back(text), give_back(scratch);
+    return a;
+}
+
+#define SAYS(...) ((uint32_t[3]){__VA_ARGS__})
+
+static monitor opened(sheet s, uint32_t code) { return watch(s, 0, (monitor){0}, code, 0, 0, WORDS, SAYS(0, 0, 0)).next; }
+
+/* a step that is taken */
+static monitor on(sheet s, monitor m, uint32_t kind, uint32_t message) { return watch(s, 1, m, 0, kind, message, WORDS + 3, SAYS(0, 0, 0)).next; }
+
+static void monitors(void) {
+    sheet two = named("sheet 2", H "S 0 0\nM 0 1\nM 2 1\nP 1 3\n"), none = named("no sheet", ""), wrong = named("a row that is none", H "S 0 0\nX\n");
+    monitor m = opened(two, 0), forged = {.code = 6};
+    expect(m.code == 0 && m.done[0] == 0 && m.way[0] == 0, two, 0, "opened");
+    watch(two, 1, m, 0, 1, 0, WORDS, SAYS(1, 0, 0)); /* not under way */
+    watch(two, 1, m, 0, 3, 0, WORDS, SAYS(1, 0, 0));
+    watch(two, 1, m, 0, 0, 2, WORDS, SAYS(1, 0, 0));
+    watch(two, 1, m, 0, UINT32_MAX, UINT32_MAX, WORDS, SAYS(1, 0, 0));
+    m = on(two, m, 0, 1);
+    expect(m.done[0] == 4 && m.way[0] == 4, two, 0, "sent");
+    m = on(two, m, 1, 1);
+    expect(m.way[0] == 0 && m.buffers[1].held[0] == 4, two, 0, "delivered");
+    m = on(two, m, 0, 0);
+    watch(two, 1, m, 0, 1, 0, WORDS, SAYS(1, 0, 0)); /* board 1 holds message 1 */
+    m = watch(two, 2, m, 1, 0, 0, WORDS, SAYS(0, 0, 0)).next;
+    expect(m.code == 1 && m.done[0] == 5 && m.way[0] == 1 && m.buffers[1].held[0] == 4, two, 1, "switched");
+    m = on(two, m, 1, 0); /* the lazy board takes it too */
+    watch(two, 2, m, 0, 0, 0, WORDS, SAYS(2, 14, 0));
+    watch(two, 2, m, 5, 0, 0, WORDS, SAYS(2, 14, 0));
+    watch(two, 2, m, 3, 0, 0, WORDS, SAYS(0, 0, 0));
+    watch(two, 2, m, 6, 0, 0, WORDS, SAYS(2, 1, 0));
+    watch(two, 2, m, 0, 0, 0, WORDS - 1, SAYS(2, 2, 0));
+    watch(none, 2, m, 0, 0, 0, WORDS, SAYS(2, 3, 0)); /* ahead of 14 */
+    watch(wrong, 2, m, 0, 0, 0, WORDS, SAYS(2, 5, 3));
+    m = on(two, on(two, m, 2, 0), 2, 1);
+    expect(m.done[0] == 15 && m.buffers[1].held[0] == 0, two, 1, "finished");
+    m = on(two, on(two, opened(two, 3), 0, 0), 0, 1);
+    watch(two, 2, m, 5, 0, 0, WORDS, SAYS(2, 14, 0)); /* two under way */
+    watch(two, 2, m, 4, 0, 0, WORDS, SAYS(0, 0, 0));
+    watch(two, 0, m, 6, 0, 0, WORDS, SAYS(2, 1, 0));
+    watch(two, 0, m, 0, 0, 0, WORDS - 1, SAYS(2, 2, 0));
+    watch(none, 0, m, 5, 0, 0, WORDS, SAYS(2, 3, 0));
+    watch(two, 1, forged, 0, 0, 0, WORDS, SAYS(2, 1, 0));
+    watch(two, 1, m, 0, 0, 0, WORDS - 1, SAYS(2, 2, 0));
+    watch(wrong, 1, m, 0, 0, 0, WORDS + 1, SAYS(2, 5, 3));
+    for (int c = 0; c < 3; c++)
+        for (int w = 0; w < 3; w++)
+            if (!monitor_words[c][w] && !(w == 1 && c != 1)) printf("FAILED: call %d of the monitor never said %d\n", c, w), failures++;
+}
+
 int main(void) {
     traces();
     choices();
+    monitors();
     words();
     limits();
     refusals();

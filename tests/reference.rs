@@ -555,3 +555,24 @@ pub fn choose(file: &Result<Vec<List>, Refusal>, code: u32, scratch: usize, trac
     }
     Choice::Free
 }
+
+// ---------------------------------------------------------------- request (g): a live monitor
+
+impl State {
+    /// A switch to the code is refused with 14.
+    pub fn bars(&self, code: u32) -> bool {
+        let crowded = self.buffers.iter().any(|b| b.len() >= 2);
+        (code != 1 && code != 3 && crowded) || (code == 5 && self.under_way.len() >= 2)
+    }
+}
+
+/// The refusals of a monitor's call with a code, before 14.
+pub fn watchable(sheet: &Result<Scenario, Refusal>, code: u32, scratch: usize) -> Result<&Scenario, Refusal> {
+    if code > 5 {
+        return Err((1, 0));
+    }
+    if scratch < SCRATCH_LEAST {
+        return Err((2, 0));
+    }
+    sheet.as_ref().map_err(|refusal| *refusal)
+}

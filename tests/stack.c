@@ -22,6 +22,9 @@ static void *run(void *unused) {
     answer = channel_check((const uint8_t *)text, len, code, scratch, CHANNEL_CHECK_SCRATCH_WORDS, trace, CHANNEL_CHECK_TRACE_BYTES);
     trace_check((const uint8_t *)text, len, code, scratch, CHANNEL_CHECK_SCRATCH_WORDS, trace, answer.word == 1 ? 2 * answer.three : 0);
     choice_check((const uint8_t *)text, len, code, scratch, CHANNEL_CHECK_SCRATCH_WORDS, trace, CHANNEL_CHECK_TRACE_BYTES);
+    monitor m = monitor_open((const uint8_t *)text, len, code, scratch, CHANNEL_CHECK_SCRATCH_WORDS).next;
+    m = monitor_step(m, 0, 0, (const uint8_t *)text, len, scratch, CHANNEL_CHECK_SCRATCH_WORDS).next;
+    monitor_switch(m, code, (const uint8_t *)text, len, scratch, CHANNEL_CHECK_SCRATCH_WORDS);
     return unused;
 }
 

@@ -3,6 +3,7 @@ use mathlib.Core.Path.{_≡_, refl, sym, _∙_, ap, subst, subst⁻¹}
 use mathlib.Core.Bool.{Bool, true, false}
 use mathlib.Core.List.{List}
 use Prim.Native.Nat.{ℕ, _+_, _*_, _<_, _≤_}
+use native.Mathlib.Decide.{decLt}
 use native.Mathlib.Omega.{arith}
 use lib.ListN.{getD}
 use borrow.Author.Tests.{lt-ltb, le-ltb}
@@ -12,6 +13,7 @@ use Rattle.model.specs.Run as model-run
 use Rattle.model.specs.Run.{State, send, deliver, consume, ready, allowed}
 use Rattle.model.specs.Waits.{readiness}
 use Rattle.model.specs.Schedule.{messageOfStep}
+use Rattle.model.proofs.Bounded.{not-both}
 use Rattle.model.proofs.Events.{send-event, receive-event}
 use Rattle.model.proofs.Waits.{readyOf, ready-reads}
 use Rattle.relation.specs.Width.{width}
@@ -147,6 +149,14 @@ unfolding allowed
 unknown-step S c s (send m) h = rw (le-ltb m (S .count) h)
 unknown-step S c s (deliver m) h = rw (le-ltb m (S .count) h)
 unknown-step S c s (consume m) h = rw (le-ltb m (S .count) h)
+
+-- so a step that is allowed is on a message of the scenario
+pub allowed-inside : (S : Scenario) (c : model.Channel) (s : State) (t : model-run.Step) → allowed S c s t ≡ true → messageOfStep t < S .count
+allowed-inside S c s t a = go (decLt (messageOfStep t) (S .count))
+  where
+    go : Dec (messageOfStep t < S .count) → messageOfStep t < S .count
+    go (yes l) = l
+    go (no g) = not-both (allowed S c s t) a (sym (unknown-step S c s t (omega arith)))
 
 pub unknown : (count : ℕ) (on words : List ℕ) (c : Channel) (run : Run) (step : Step) (m : ℕ) → m ≡ messageIn step → count ≤ m
     → Says count on words c run step false

@@ -3,11 +3,15 @@ ghost use mathlib.Core.Path.{_≡_};
 ghost use Rattle.model.specs.Verdict.{Checked};
 ghost use Rattle.model.specs.Choice.{ChoiceChecked};
 ghost use Rattle.model.specs.Waits.{TraceChecked};
+ghost use Rattle.model.specs.Monitor.{Opened, Stepped, Switched, WholeLists};
 ghost use Rattle.choice.specs.Bridge as chosen;
+ghost use Rattle.monitor.specs.Bridge.{heldIn, zeros, answerIn};
 ghost use Rattle.replay.specs.Bridge as replayed;
 ghost use Rattle.verdict.specs.Parts.{numbersFor};
 ghost use Rattle.channel_check.specs.Numbers.{Small, numbersIn};
 use choice::ChoiceCheckAnswer;
+use monitor::Monitor;
+use monitor::MonitorAnswer;
 use replay::TraceCheckAnswer;
 use verdict::Answer;
 
@@ -88,4 +92,39 @@ pub extern "C" fn choice_check(
     ensures { λ r. ⌜ ChoiceChecked (now (text .entry)) code (now (scratch .entry)) (now (scratch .exit)) (now (trace .entry)) (now (trace .exit)) (chosen.numbersIn r) ⌝ }
 {
     choice::choice_check(text, code, scratch, trace)
+}
+
+// A monitor of a run is opened: any text, any channel code, any length.
+#[no_mangle]
+pub extern "C" fn monitor_open(text: &[u8], code: u32, scratch: &mut [u64]) -> MonitorAnswer
+    ensures { λ r. ⌜ Opened heldIn zeros (now (text .entry)) code (now (scratch .entry)) (now (scratch .exit)) (answerIn r) × WholeLists heldIn zeros ⌝ }
+{
+    Monitor::open(text, code, scratch)
+}
+
+// A step of the run: any monitor, any step code and message, any text, any length.
+#[no_mangle]
+pub extern "C" fn monitor_step(
+    state: Monitor,
+    kind: u32,
+    message: u32,
+    text: &[u8],
+    scratch: &mut [u64],
+) -> MonitorAnswer
+    ensures { λ r. ⌜ Stepped heldIn state kind message (now (text .entry)) (now (scratch .entry)) (now (scratch .exit)) (answerIn r) × WholeLists heldIn zeros ⌝ }
+{
+    state.step(kind, message, text, scratch)
+}
+
+// A switch to another channel: any monitor, any code, any text, any length.
+#[no_mangle]
+pub extern "C" fn monitor_switch(
+    state: Monitor,
+    code: u32,
+    text: &[u8],
+    scratch: &mut [u64],
+) -> MonitorAnswer
+    ensures { λ r. ⌜ Switched heldIn state code (now (text .entry)) (now (scratch .entry)) (now (scratch .exit)) (answerIn r) × WholeLists heldIn zeros ⌝ }
+{
+    state.switch(code, text, scratch)
 }

@@ -1,5 +1,5 @@
 -- What the tests of specs/Bounded say, one law each. Assumes nothing.
-use Prim.Native.Nat.{ℕ, zero, suc, _<_, _≤_}
+use Prim.Native.Nat.{ℕ, zero, suc, _+_, _*_, _<_, _≤_}
 use native.Mathlib.Nat.{not-suc-le-zero, le-of-suc-le-suc, eq-or-lt-of-le, le-step, lt-suc-self}
 use native.Mathlib.Decide.{decLt}
 use native.Mathlib.Omega.{arith}
@@ -9,7 +9,7 @@ use mathlib.Core.Bool.{Bool, true, false, not, cond, _&&_, _||_}
 use mathlib.Core.Option.{Option, none, some}
 use borrow.Author.Tests.{not-true, not-false, leb-true, leb-false}
 use lib.Dec.{leb}
-use Rattle.model.specs.Bounded.{every, any, lowest}
+use Rattle.model.specs.Bounded.{every, any, howMany, lowest}
 
 -- the halves of a conjunction that holds
 pub and-left : (a b : Bool) → (a && b) ≡ true → a ≡ true
@@ -208,3 +208,48 @@ lowest-within n m p q l same rest = go (lowest n q) refl
         let L = lowest-some n q k e in
         let inside : k < n = L .below in
         lowest-hit m k p (lowest-nowhere k p (λ j h. same j (omega arith) ∙ L .first j h)) (same k inside ∙ L .passes) (omega arith)
+
+-- ---- how many pass the test
+
+pub many-same : (n : ℕ) (p q : ℕ → Bool) → ((k : ℕ) → k < n → p k ≡ q k) → howMany n p ≡ howMany n q
+unfolding howMany
+many-same zero p q same = refl
+many-same (suc n) p q same =
+    rw (many-same n p q (λ k l. same k (omega (arith, l))), same n (omega arith))
+
+pub many-most : (n : ℕ) (p : ℕ → Bool) → howMany n p ≤ n
+unfolding howMany
+many-most zero p = omega arith
+many-most (suc n) p = omega (arith, many-most n p, one-most (p n))
+  where
+    one-most : (b : Bool) → cond {A = ℕ} b 1 0 ≤ 1
+    one-most true = omega arith
+    one-most false = omega arith
+
+-- the first of them, and the rest
+pub many-front : (n : ℕ) (p : ℕ → Bool) → howMany (suc n) p ≡ cond (p 0) 1 0 + howMany n (λ k. p (suc k))
+unfolding howMany
+many-front zero p = omega arith
+many-front (suc n) p = omega (arith, many-front n p)
+
+-- those below a, and b more
+pub many-split : (a b : ℕ) (p : ℕ → Bool) → howMany (a + b) p ≡ howMany a p + howMany b (λ k. p (a + k))
+unfolding howMany
+many-split a zero p = let e : a + 0 ≡ a = omega arith in ap (λ m. howMany m p) e ∙ omega arith
+many-split a (suc b) p =
+    let e : a + suc b ≡ suc (a + b) = omega arith in
+    let l : howMany (suc (a + b)) p ≡ howMany a p + (howMany b (λ k. p (a + k)) + cond (p (a + b)) 1 0) = omega (arith, many-split a b p) in
+    ap (λ m. howMany m p) e ∙ l
+
+-- where no odd number passes, those that pass are the doubles
+pub many-doubles : (n : ℕ) (p : ℕ → Bool) → ((k : ℕ) → k < n → p (2 * k + 1) ≡ false) → howMany (2 * n) p ≡ howMany n (λ k. p (2 * k))
+unfolding howMany
+many-doubles zero p odd = refl
+many-doubles (suc n) p odd =
+    let e : 2 * suc n ≡ suc (suc (2 * n)) = omega arith in
+    let f : 2 * n + 1 ≡ suc (2 * n) = omega arith in
+    let none : p (suc (2 * n)) ≡ false = ap p (sym f) ∙ odd n (omega arith) in
+    let zero-more : cond {A = ℕ} (p (suc (2 * n))) 1 0 ≡ 0 = rw none in
+    let l : howMany (suc (suc (2 * n))) p ≡ howMany n (λ k. p (2 * k)) + cond (p (2 * n)) 1 0
+    = omega (arith, many-doubles n p (λ k l. odd k (omega (arith, l))), zero-more) in
+    ap (λ m. howMany m p) e ∙ l

@@ -33,6 +33,7 @@ pub mod ChoiceBounds
 pub mod Scratch
 pub mod Replay
 pub mod Waits
+pub mod Monitor
 pub mod Wired
 pub mod FinishedRuns
 pub mod Ahead

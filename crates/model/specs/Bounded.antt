@@ -1,6 +1,6 @@
 -- Tests over the numbers below a bound, and over the members of a list. The other files speak through these.
 -- Assumes nothing.
-use Prim.Native.Nat.{ℕ, zero, suc}
+use Prim.Native.Nat.{ℕ, zero, suc, _+_}
 use mathlib.Core.Bool.{Bool, true, false, not, cond, _&&_, _||_}
 use mathlib.Core.List.{List, [], _∷_}
 use mathlib.Core.Option.{Option, none, some}
@@ -14,6 +14,11 @@ every (suc n) p = every n p && p n
 -- some number below n passes the test
 unfoldable pub any : ℕ → (ℕ → Bool) → Bool
 any n p = not (every n (λ k. not (p k)))
+
+-- how many numbers below n pass the test
+unfoldable pub howMany : ℕ → (ℕ → Bool) → ℕ
+howMany zero p = 0
+howMany (suc n) p = howMany n p + cond (p n) 1 0
 
 -- the lowest number below n that passes the test
 unfoldable pub lowest : ℕ → (ℕ → Bool) → Option ℕ

@@ -15,6 +15,7 @@ pub mod Answer
 pub mod Verdict
 pub mod Replay
 pub mod Waits
+pub mod Monitor
 pub mod Wired
 pub mod Taps
 pub mod Senders

@@ -52,6 +52,10 @@ traceRefusal = 12
 abbrev pub choicesRefusal : ℕ
 choicesRefusal = 13
 
+-- request (g): a switch that the state bars
+abbrev pub switchRefusal : ℕ
+switchRefusal = 14
+
 -- an event that the sheet has not, or twice in one list of a tap
 abbrev pub tapRefusal : ℕ
 tapRefusal = 20

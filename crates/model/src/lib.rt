@@ -77,6 +77,8 @@ pub const TRACE: u8 = 12;
 
 pub const CHOICES: u8 = 13;
 
+pub const SWITCH: u8 = 14;
+
 pub const TAP: u8 = 20;
 
 pub const SENDER_TABLE: u8 = 18;

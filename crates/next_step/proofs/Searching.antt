@@ -15,7 +15,7 @@ use Rattle.model.specs.Channel as model
 use Rattle.model.specs.Run.{State, Step, allowed}
 use Rattle.model.specs.Schedule as plan
 use Rattle.model.specs.Schedule.{classesFor, choose, messageOfStep}
-use Rattle.model.proofs.Bounded.{and-right, not-both, lowest-hit, lowest-miss, lowest-some}
+use Rattle.model.proofs.Bounded.{and-right, lowest-hit, lowest-miss, lowest-some}
 use Rattle.relation.specs.Scenario.{scenarioIn}
 use Rattle.channel_table.specs.declared.Channel.{Channel}
 use Rattle.channel_table.specs.Table.{channelIn}
@@ -32,7 +32,7 @@ use Rattle.candidates.specs.Classes.{classIn, stepFor}
 use Rattle.candidates.specs.Candidates.{fits, OfRuns, Candidates, NextIn}
 use Rattle.candidates.proofs.EachClass.{step-is, message-is}
 use Rattle.channel.specs.Steps.{SaysIn}
-use Rattle.channel.proofs.StepTests.{unknown-step}
+use Rattle.channel.proofs.StepTests.{allowed-inside}
 use Rattle.next_step.specs.Search.{classAt, Fits, Lowest, Chosen}
 
 -- the class behind the first five is the last
@@ -91,13 +91,6 @@ module _ (S : Scenario) (c : model.Channel) where
     first-class none e r h = choose-miss k ks s e ∙ rw (h ∙ choose-miss k [] s e ∙ choose-none s)
 
   -- a step that is chosen is allowed, so its message is one of the scenario's
-  allowed-inside : (s : State) (t : Step) → allowed S c s t ≡ true → messageOfStep t < S .count
-  allowed-inside s t a = go (decLt (messageOfStep t) (S .count))
-    where
-      go : Dec (messageOfStep t < S .count) → messageOfStep t < S .count
-      go (yes l) = l
-      go (no g) = not-both (allowed S c s t) a (sym (unknown-step S c s t (omega arith)))
-
   pub chosen-inside : (ks : List plan.Class) (s : State) (t : Step) → choose S c ks s ≡ some t → messageOfStep t < S .count
   chosen-inside [] s t h = let z : none ≡ some t = sym (choose-none s) ∙ h in absurd (let n : _≡_ {A = ℕ} 0 1 = cc in omega arith)
   chosen-inside (k ∷ ks) s t h = go (lowest (S .count) (test k ks s)) refl (chosen-inside ks s t)
@@ -107,7 +100,7 @@ module _ (S : Scenario) (c : model.Channel) where
           let same : some (k .step m) ≡ some t = sym (choose-hit k ks s m e) ∙ h in
           let step : k .step m ≡ t = cc in
           subst (λ (u : Step). messageOfStep u < S .count) step
-          (allowed-inside s (k .step m) (and-right (k .takes m) (allowed S c s (k .step m)) (lowest-some (S .count) (test k ks s) m e .passes)))
+          (allowed-inside S c s (k .step m) (and-right (k .takes m) (allowed S c s (k .step m)) (lowest-some (S .count) (test k ks s) m e .passes)))
       go none e rest = rest (sym (choose-miss k ks s e) ∙ h)
 
 -- The search of a class: no message below m fits, of those that there are, in every run with these parts.

@@ -13,11 +13,13 @@ use relation::WIDTH;
 use step::Step;
 
 // The messages that a board's buffer holds, as bits of their sends.
+#[repr(C)]
 pub struct Buffer {
     pub held: [u64; WIDTH],
 }
 
 // The state of a run: the events done, the messages under way as bits of their sends, and each board's buffer.
+#[repr(C)]
 pub struct Run {
     pub done: [u64; WIDTH],
     pub way: [u64; WIDTH],

@@ -1,0 +1,173 @@
+-- Request (g), a live monitor that survives a channel change: what a run's state between calls is, the calls, and what they promise.
+-- Assumes nothing.
+use Prim.Native.Nat.{ℕ, _<_}
+use mathlib.Core.Path.{_≡_}
+use mathlib.Core.Bool.{Bool, true, false, not, cond, _&&_, _||_}
+use mathlib.Core.List.{List, [], _∷_, _++_}
+use mathlib.Core.Option.{Option, none, some}
+use lib.Dec.{eqb, ltb, leb}
+use lib.ListN.{length}
+use Rattle.model.specs.Limits.{boards, messagesMost, channels, scratchLeast}
+use Rattle.model.specs.Bounded.{any, howMany}
+use Rattle.model.specs.Refusal.{Out, ok, refusal, channelRefusal, benchRefusal, switchRefusal}
+use Rattle.model.specs.Order.{Scenario}
+use Rattle.model.specs.Channel.{channelOf}
+use Rattle.model.specs.Run.{State, start, Step, next, allowed, after, IsOrder}
+use Rattle.model.specs.Schedule.{stepTold}
+use Rattle.model.specs.Answer.{sheetOf, scratchBehind}
+use Rattle.model.specs.Verdict.{Meets}
+
+-- What a monitor holds: a run's state, and the channel code in force.
+pub record Held : Type 0 where
+  pub state : State
+  pub code : ℕ
+
+-- Taken (opened, stepped or switched), forbidden, or refused with number and line.
+abbrev pub takenWord : ℕ
+takenWord = 0
+
+abbrev pub forbiddenWord : ℕ
+forbiddenWord = 1
+
+abbrev pub refusedWord : ℕ
+refusedWord = 2
+
+-- The refusals of a call with a code, as the sheet's own come behind 1 and 2: no trace is lent.
+unfoldable pub watchable : List ℕ → ℕ → ℕ → Out Scenario
+watchable text code scratchLength =
+    cond (ltb code channels)
+    (cond (ltb scratchLength scratchLeast) (refusal benchRefusal 0) (sheetOf text))
+    (refusal channelRefusal 0)
+
+-- a switch to the code is refused in the state (14): to an eager code while some board holds two or more messages, or to code 5 while two
+-- or more are under way
+unfoldable pub isBarred : ℕ → State → Bool
+isBarred code s =
+    (channelOf code .eager && any boards (λ b. leb 2 (howMany messagesMost (s .holds b))))
+    || (eqb code 5 && leb 2 (howMany messagesMost (s .underWay)))
+
+-- 14 comes behind all others
+unfoldable pub switchable : List ℕ → ℕ → ℕ → State → Out Scenario
+switchable text code scratchLength s =
+    elim (watchable text code scratchLength) [
+      | ok S ↦ cond (isBarred code s) (refusal switchRefusal 0) (ok S)
+      | refusal number line ↦ refusal number line
+    ]
+
+-- A call to an opened monitor, with the length of the scratch lent: a step by its code and its message, or a switch to a channel code.
+pub data Call : Type 0 where
+  step : ℕ → ℕ → ℕ → Call
+  switch : ℕ → ℕ → Call
+
+module _ (S : Scenario) where
+  -- the step told may be taken under the code in force; a wrong step code is no step, and an unknown message is forbidden by the rule
+  unfoldable pub mayTake : Held → Option Step → Bool
+  mayTake h none = false
+  mayTake h (some t) = allowed S (channelOf (h .code)) (h .state) t
+
+  -- the state behind it
+  unfoldable pub taking : Held → Option Step → Held
+  taking h none = h
+  taking h (some t) = record { state = next S (h .state) t; code = h .code }
+
+  -- the word of a call: a step is refused for the scratch, a switch for its code, the scratch or 14
+  unfoldable pub wordTo : Held → Call → ℕ
+  wordTo h (step kind m scratchLength) =
+      cond (ltb scratchLength scratchLeast) refusedWord (cond (mayTake h (stepTold kind m)) takenWord forbiddenWord)
+  wordTo h (switch code scratchLength) =
+      cond (ltb code channels && not (ltb scratchLength scratchLeast) && not (isBarred code (h .state))) takenWord refusedWord
+
+  -- what it would leave; on a switch the state passes over whole
+  unfoldable pub leaving : Held → Call → Held
+  leaving h (step kind m scratchLength) = taking h (stepTold kind m)
+  leaving h (switch code scratchLength) = record { state = h .state; code = code }
+
+  -- forbidden steps and refusals leave the state as it was
+  unfoldable pub behind : Held → Call → Held
+  behind h c = cond (eqb (wordTo h c) takenWord) (leaving h c) h
+
+  -- what is held behind a list of calls, and the words that they answer
+  unfoldable pub heldFrom : Held → List Call → Held
+  heldFrom h [] = h
+  heldFrom h (c ∷ cs) = heldFrom (behind h c) cs
+
+  unfoldable pub wordsFrom : Held → List Call → List ℕ
+  wordsFrom h [] = []
+  wordsFrom h (c ∷ cs) = wordTo h c ∷ wordsFrom (behind h c) cs
+
+-- the state that a monitor is opened with, under a code
+abbrev pub fresh : ℕ → Held
+fresh code = record { state = start; code = code }
+
+-- a list without a switch
+unfoldable pub stepsOnly : List Call → Bool
+stepsOnly [] = true
+stepsOnly (step kind m scratchLength ∷ cs) = stepsOnly cs
+stepsOnly (switch code scratchLength ∷ cs) = false
+
+-- What a call hands back: its word, the refusal's number and line where it is refused, and the monitor to go on with.
+pub record MonitorAnswer (M : Type 0) : Type 0 where
+  pub word : ℕ
+  pub one : ℕ
+  pub two : ℕ
+  pub next : M
+
+-- What the calls give, for monitors M whose state and code `held` reads.
+module _ {M : Type 0} (held : M → Held) where
+  -- An opening: a run at its start; refused, the monitor of all zeros.
+  pub record Opened (zero : M) (text : List ℕ) (code : ℕ) (scratch scratchExit : List ℕ) (r : MonitorAnswer M) : Type 0 where
+    pub refusedWhen : (number line : ℕ) → watchable text code (length scratch) ≡ refusal number line
+        → r ≡ record { word = refusedWord; one = number; two = line; next = zero }
+    pub openedWhen : (S : Scenario) → watchable text code (length scratch) ≡ ok S
+        → (r .word ≡ takenWord) × (r .one ≡ 0) × (r .two ≡ 0) × (held (r .next) ≡ fresh code) × Meets text S
+    pub scratchLeft : scratchExit ≡ scratchBehind (watchable text code (length scratch)) scratch
+
+  -- This answer, and the monitor handed back, are what the rules say of a call to a monitor.
+  pub record ByTheRules (S : Scenario) (m : M) (c : Call) (r : MonitorAnswer M) : Type 0 where
+    pub word : r .word ≡ wordTo S (held m) c
+    pub state : held (r .next) ≡ behind S (held m) c
+    -- a step that the rule forbids leaves the monitor as it was, bit for bit
+    pub forbidden : r .word ≡ forbiddenWord → r ≡ record { word = forbiddenWord; one = 0; two = 0; next = m }
+
+  -- For any monitor and text the refusals and the scratch are claimed, and more only of a monitor that holds what some list of calls
+  -- with that text has left, from one opened under a code.
+  pub record Stepped (m : M) (kind message : ℕ) (text scratch scratchExit : List ℕ) (r : MonitorAnswer M) : Type 0 where
+    pub refusedWhen : (number line : ℕ) → watchable text (held m .code) (length scratch) ≡ refusal number line
+        → r ≡ record { word = refusedWord; one = number; two = line; next = m }
+    pub scratchLeft : scratchExit ≡ scratchBehind (watchable text (held m .code) (length scratch)) scratch
+    pub byTheRules : (S : Scenario) (code : ℕ) (cs : List Call) → sheetOf text ≡ ok S → code < channels
+        → held m ≡ heldFrom S (fresh code) cs → ByTheRules S m (step kind message (length scratch)) r
+
+  pub record Switched (m : M) (code : ℕ) (text scratch scratchExit : List ℕ) (r : MonitorAnswer M) : Type 0 where
+    pub refusedWhen : (number line : ℕ) → switchable text code (length scratch) (held m .state) ≡ refusal number line
+        → r ≡ record { word = refusedWord; one = number; two = line; next = m }
+    pub scratchLeft : scratchExit ≡ scratchBehind (switchable text code (length scratch) (held m .state)) scratch
+    pub byTheRules : (S : Scenario) (first : ℕ) (cs : List Call) → sheetOf text ≡ ok S → first < channels
+        → held m ≡ heldFrom S (fresh first) cs → ByTheRules S m (switch code (length scratch)) r
+
+  -- A session: a monitor is opened with a text and a code, and then called with that same text, each time as the last call left it. The
+  -- calls, and the words that they answered.
+  pub data Session (zero : M) (text : List ℕ) (code : ℕ) : List Call → List ℕ → M → Type 0 where
+    opening : {scratch scratchExit : List ℕ} {r : MonitorAnswer M} → Opened zero text code scratch scratchExit r → r .word ≡ takenWord
+        → Session zero text code [] [] (r .next)
+    stepping : {cs : List Call} {words : List ℕ} {m : M} {kind message : ℕ} {scratch scratchExit : List ℕ} {r : MonitorAnswer M}
+        → Session zero text code cs words m → Stepped m kind message text scratch scratchExit r
+        → Session zero text code (cs ++ (step kind message (length scratch) ∷ [])) (words ++ (r .word ∷ [])) (r .next)
+    switching : {cs : List Call} {words : List ℕ} {m : M} {to : ℕ} {scratch scratchExit : List ℕ} {r : MonitorAnswer M}
+        → Session zero text code cs words m → Switched m to text scratch scratchExit r
+        → Session zero text code (cs ++ (switch to (length scratch) ∷ [])) (words ++ (r .word ∷ [])) (r .next)
+
+  -- What is so of whole lists of calls.
+  pub record WholeList (text : List ℕ) (code : ℕ) (S : Scenario) (cs : List Call) (words : List ℕ) (m : M) : Type 0 where
+    pub isSheet : sheetOf text ≡ ok S
+    -- the state held is that of the step rules, each step under the code in force, and so are the answers
+    pub state : held m ≡ heldFrom S (fresh code) cs
+    pub answers : words ≡ wordsFrom S (fresh code) cs
+    -- without a switch it is that of an allowed order under that code, of which point 3 speaks
+    pub anOrder : stepsOnly cs ≡ true
+        → (ts : List Step) × IsOrder S (channelOf code) ts × (held m ≡ record { state = after S start ts; code = code })
+
+-- One theorem, of every list of steps and switches from an opened monitor with that same text.
+abbrev pub WholeLists : {M : Type 0} → (M → Held) → M → Type 0
+WholeLists {M} held zero = (text : List ℕ) (code : ℕ) (cs : List Call) (words : List ℕ) (m : M)
+    → Session held zero text code cs words m → (S : Scenario) × WholeList held text code S cs words m

@@ -15,6 +15,7 @@ pub mod Answer
 pub mod Verdict
 pub mod Replay
 pub mod Wired
+pub mod Cure
 pub mod Taps
 pub mod Senders
 pub mod Marked

@@ -48,6 +48,10 @@ circleRefusal = 11
 abbrev pub traceRefusal : ℕ
 traceRefusal = 12
 
+-- request (i): more than 512 rows to write
+abbrev pub curedRowsRefusal : ℕ
+curedRowsRefusal = 15
+
 -- an event that the sheet has not, or twice in one list of a tap
 abbrev pub tapRefusal : ℕ
 tapRefusal = 20

@@ -30,6 +30,9 @@ pub mod Wired
 pub mod FinishedRuns
 pub mod Ahead
 pub mod Course
+pub mod Cured
+pub mod Rendered
+pub mod WrittenBack
 pub mod Taps
 pub mod MessageLines
 pub mod Senders

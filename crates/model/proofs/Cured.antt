@@ -8,12 +8,12 @@ use mathlib.Core.Path.{_≡_, refl, sym, _∙_, ap, subst, subst⁻¹}
 use mathlib.Core.Logic.{_⊎_, inl, inr, ⊎-elim, _↔_}
 use mathlib.Core.Bool.{Bool, true, false, not, cond, _&&_}
 use lib.Dec.{eqb, ltb}
-use borrow.Author.Tests.{eqb-true, eq-eqb, ltb-true, lt-ltb}
+use borrow.Author.Tests.{eqb-true, eq-eqb, ltb-true, lt-ltb, not-true}
 use Rattle.model.specs.Bounded.{any}
 use Rattle.model.specs.Order.{Event, sendOf, receiveOf, number, event, messageOf, Scenario, board, atOrBefore}
 use Rattle.model.specs.Cure.{isSend, isOwnPair, Cured, own, kept, link, curedBefore, isBetween, isWritten}
-use Rattle.model.proofs.Bounded.{and-left, and-right, and-both, which, not-both, not-is-true, any-from, any-some, any-none}
-use Rattle.model.proofs.Events.{event-number, number-event, below-number, below-event, at-or-before-cases, at-or-before-same, at-or-before-before}
+use Rattle.model.proofs.Bounded.{and-left, and-right, and-both, which, not-both, not-is-true, any-from, any-some}
+use Rattle.model.proofs.Events.{event-number, below-number, at-or-before-cases, at-or-before-same, at-or-before-before}
 use Rattle.model.proofs.Least.{least-below}
 use Rattle.model.proofs.Causal.{Causal}
 
@@ -233,12 +233,12 @@ module _ (S : Scenario) (C : Causal S) where
         ⊎-elim
         (λ l.
         let k = least-below onWay (λ i j. S .before (event i) (event j)) (λ i j k p q. C .trans (event i) (event j) (event k) p q)
-            (λ i p. C .irreflexive (event i) p) (2 * S .count) (number (l .0))
-            (below-number (l .0) (S .count) .0 (C .inside (l .0) (sendOf m) (l .2) .0)) (on-way (l .0) (l .1) (l .2) (l .3)) in
+        (λ i p. C .irreflexive (event i) p) (2 * S .count) (number (l .0))
+        (below-number (l .0) (S .count) .0 (C .inside (l .0) (sendOf m) (l .2) .0)) (on-way (l .0) (l .1) (l .2) (l .3)) in
         found (event (k .0)) (k .1 .passes) (λ w b a e.
-            k .1 .least (number w) (below-number w (S .count) .0 (C .inside w (event (k .0)) b .0))
-            (on-way w a (C .trans w (event (k .0)) (sendOf m) b (and-right (atOrBefore S x (event (k .0))) (S .before (event (k .0)) (sendOf m)) (and-left _ _ (k .1 .passes)))) e)
-            (rw (event-number w) b)))
+        k .1 .least (number w) (below-number w (S .count) .0 (C .inside w (event (k .0)) b .0))
+        (on-way w a (C .trans w (event (k .0)) (sendOf m) b (and-right (atOrBefore S x (event (k .0))) (S .before (event (k .0)) (sendOf m)) (and-left _ _ (k .1 .passes)))) e)
+        (rw (event-number w) b)))
         (λ l. let z : _≡_ {A = ℕ} 0 1 = cc (l .1) in absurd (omega arith))
         (C .lastLink x (sendOf m) h)
       where
@@ -253,6 +253,19 @@ module _ (S : Scenario) (C : Causal S) where
             ⊎-elim (λ i. ap (board S) i ∙ e) (λ p. absurd (least-is z p q e least)) (at-or-before-cases S x z a)
 
   -- What stands directly before an event is written as a row, or is its own send.
+  -- before a receive that is its own send
+  direct-receive : (x : Event) (m : ℕ) → curedBefore S x (receiveOf m) ≡ true → any (2 * S .count) (isBetween S x (receiveOf m)) ≡ false
+      → isOwnPair S x (receiveOf m) ≡ true
+  direct-receive x m h alone =
+      let p = from-receive x m h in
+      ⊎-elim
+      (λ e. rw e (own-pair-from S m (p .0)))
+      (λ b.
+      not-both (any (2 * S .count) (isBetween S x (receiveOf m)))
+      (between-from x (receiveOf m) (sendOf m) (to-send x m b) (cured-own (sendOf m) (receiveOf m) (own-pair-from S m (p .0))))
+      alone)
+      (at-or-before-cases S x (sendOf m) (p .1))
+
   pub direct-cases : (x y : Event) → curedBefore S x y ≡ true → any (2 * S .count) (isBetween S x y) ≡ false
       → (isWritten S x y ≡ true) ⊎ (isOwnPair S x y ≡ true)
   unfolding isWritten
@@ -263,16 +276,25 @@ module _ (S : Scenario) (C : Causal S) where
       (and-both (eqb (board S x) (board S (sendOf m))) (curedBefore S x (sendOf m)) (eq-eqb _ _ (on-its-board x m (from-send x m h) alone)) h)
       (not-is-true (any (2 * S .count) (isBetween S x (sendOf m))) alone))
       (not-is-true (isOwnPair S x (sendOf m)) (no-own-send S x m)))
-  direct-cases x (receiveOf m) h alone =
-      let p = from-receive x m h in
-      inr
-      (⊎-elim
-      (λ e. rw e (own-pair-from S m (p .0)))
-      (λ b.
-      not-both (any (2 * S .count) (isBetween S x (receiveOf m)))
-      (between-from x (receiveOf m) (sendOf m) (to-send x m b) (cured-own (sendOf m) (receiveOf m) (own-pair-from S m (p .0))))
-      alone)
-      (at-or-before-cases S x (sendOf m) (p .1)))
+  direct-cases x (receiveOf m) h alone = inr (direct-receive x m h alone)
+
+  -- No row ends in a receive.
+  pub written-to-send : (x : Event) (m : ℕ) → isWritten S x (receiveOf m) ≡ false
+  unfolding isWritten
+  written-to-send x m =
+      let y = receiveOf m in
+      let a = eqb (board S x) (board S y) in
+      let b = curedBefore S x y in
+      let c = not (any (2 * S .count) (isBetween S x y)) in
+      let d = not (isOwnPair S x y) in
+      ⊎-elim
+      (λ (t : (a && b && c && d) ≡ true).
+      let abc = and-left (a && b && c) d t in
+      let alone = not-true (any (2 * S .count) (isBetween S x y)) (and-right (a && b) c abc) in
+      let own = direct-receive x m (and-right a b (and-left (a && b) c abc)) alone in
+      not-both (isOwnPair S x y) own (not-true (isOwnPair S x y) (and-right (a && b && c) d t)))
+      (λ f. f)
+      (which (a && b && c && d))
 
   -- So whatever is transitive and holds the rows written and each send before its receive holds the cured order.
   module _ (Q : Event → Event → Type 0) (written : (x y : Event) → isWritten S x y ≡ true → Q x y)

@@ -33,6 +33,8 @@ pub mod Course
 pub mod Cured
 pub mod Rendered
 pub mod WrittenBack
+pub mod CureWalked
+pub mod Cure
 pub mod Taps
 pub mod MessageLines
 pub mod Senders

@@ -1,20 +1,18 @@
 -- Reading gives back what was written: lines, fields, numbers and rows. A law of the model's text, for every row whose numbers a sheet
 -- file may hold. Assumes nothing.
-use Prim.Native.Nat.{ℕ, zero, suc, _+_, _*_, _<_, _≤_}
-use Prim.Native.Char.{code}
-use native.Mathlib.Nat.{le-trans}
+use Prim.Native.Nat.{ℕ, suc, _*_, _≤_}
 use native.Mathlib.Omega.{arith}
-use mathlib.Core.Path.{_≡_, refl, sym, _∙_, ap, subst}
-use mathlib.Core.Bool.{Bool, true, false, not, cond, _&&_}
+use mathlib.Core.Path.{_≡_, refl, _∙_, ap}
+use mathlib.Core.Bool.{Bool, true, false, not, _&&_}
 use mathlib.Core.List.{List, [], _∷_, _++_, append-assoc}
 use mathlib.Core.Option.{Option, none, some}
-use lib.Dec.{eqb, ltb, leb}
-use lib.ListN.{length, getD, length-append}
+use lib.Dec.{eqb, leb}
+use lib.ListN.{length, length-append}
 use borrow.Author.Tests.{eqb-true, leb-true, not-true}
 use Rattle.model.specs.Limits.{numberMost}
 use Rattle.model.specs.Bounded.{every}
-use Rattle.model.specs.Text.{ascii, lineEnd, space, Line, aheadOfLine, linesOf, aheadOfField, fieldsOf, digitsOnly, decimal, wellBegun, numberUpTo, numberOf, Columns, headingOf}
-use Rattle.model.specs.Rows.{Row, formed, fromFields, rowOf}
+use Rattle.model.specs.Text.{ascii, lineEnd, space, Line, aheadOfLine, linesOf, aheadOfField, fieldsOf, digitsOnly, decimal, wellBegun, numberUpTo, numberOf, Columns}
+use Rattle.model.specs.Rows.{formed, fromFields, rowOf}
 use Rattle.model.specs.Cure.{Written, digitsOf, rowText, rowsText, headingText}
 use Rattle.model.proofs.Bounded.{and-left, and-right, and-both, not-both, every-at}
 
@@ -156,8 +154,8 @@ row-read r p =
     let a = digits-good (r .one) (p .oneMost) in
     let b = digits-good (r .two) (p .twoMost) in
     let e : fieldsOf ((r .letter ∷ space ∷ digitsOf (r .one)) ++ (space ∷ digitsOf (r .two))) ≡ (r .letter ∷ []) ∷ digitsOf (r .one) ∷ digitsOf (r .two) ∷ [] =
-        field-read (r .letter ∷ []) (digitsOf (r .one) ++ (space ∷ digitsOf (r .two))) (rw (p .noSpace))
-        ∙ ap (λ fs. (r .letter ∷ []) ∷ fs) (field-read (digitsOf (r .one)) (digitsOf (r .two)) (a .noSpace) ∙ ap (λ fs. digitsOf (r .one) ∷ fs) (field-last (digitsOf (r .two)) (b .noSpace))) in
+    field-read (r .letter ∷ []) (digitsOf (r .one) ++ (space ∷ digitsOf (r .two))) (rw (p .noSpace))
+    ∙ ap (λ fs. (r .letter ∷ []) ∷ fs) (field-read (digitsOf (r .one)) (digitsOf (r .two)) (a .noSpace) ∙ ap (λ fs. digitsOf (r .one) ∷ fs) (field-last (digitsOf (r .two)) (b .noSpace))) in
     rw (e, a .number, b .number)
 
 -- the heading is a line of its own, and names the columns so

@@ -1,36 +1,35 @@
 -- The cured sheet is read and walked: its rows are placed, no block of it has a circle, and the walk meets the messages and the P rows
 -- that were written. Assumes nothing.
-use Prim.Native.Nat.{ℕ, zero, suc, _+_, _*_, _%_, _/_, _<_, _≤_}
+use Prim.Native.Nat.{ℕ, zero, suc, _+_, _*_, _/_, _<_, _≤_}
 use Prim.Native.Char.{code}
-use native.Mathlib.Nat.{zero-add, zero-mul}
-use native.Mathlib.Numerals.{add-one}
-use native.Mathlib.Decide.{ℕ-discrete, decLt}
+use native.Mathlib.Nat.{zero-add}
+use native.Mathlib.Decide.{ℕ-discrete}
 use native.Mathlib.Omega.{arith}
 use mathlib.Core.Path.{_≡_, refl, sym, _∙_, ap, subst, subst⁻¹}
-use mathlib.Core.Logic.{_⊎_, inl, inr, ⊎-elim, _↔_}
-use mathlib.Core.Bool.{Bool, true, false, not, cond, _&&_, _||_}
-use mathlib.Core.List.{List, [], _∷_, _++_, append-assoc, append-nil}
+use mathlib.Core.Logic.{⊎-elim, _↔_}
+use mathlib.Core.Bool.{Bool, true, false, cond, _&&_, _||_}
+use mathlib.Core.List.{List, [], _∷_, _++_, append-nil}
 use mathlib.Core.Option.{Option, none, some}
-use lib.Dec.{eqb, ltb, leb}
+use lib.Dec.{eqb, ltb}
 use lib.ListN.{length, getD, length-append, List·getD-append}
 use lib.Seq.{getD-append-add, append-snoc}
-use borrow.Author.Tests.{eqb-true, eq-eqb, ne-eqb, ltb-true, lt-ltb, le-leb}
+use borrow.Author.Tests.{eqb-true, eq-eqb, ne-eqb, lt-ltb, le-leb}
 use Rattle.model.specs.Limits.{rowsMost, boards, messagesMost, textMost}
-use Rattle.model.specs.Bounded.{any, among, same}
+use Rattle.model.specs.Bounded.{among, same}
 use Rattle.model.specs.Closure.{listed}
 use Rattle.model.specs.Refusal.{Out, ok, refusal, andThen, rowRefusal, placeRefusal, circleRefusal}
-use Rattle.model.specs.Text.{ascii, Line, linesOf, fieldsOf, aheadOfField, placeOf, columnsOf, areColumns, headingOf}
+use Rattle.model.specs.Text.{ascii, Line, fieldsOf, aheadOfField, placeOf, columnsOf, areColumns, headingOf}
 use Rattle.model.specs.Rows.{Row, sheet, message, order, formed, rowOf}
 use Rattle.model.specs.Place.{Place, outside, withMessage, messageFits, orderFits, moved, isSheet, placed, BlockBefore, given, paired, through, blockCircle, circleAt, lineOf, judged, rowsFrom, opens, strayCall, complete, bodyOf, readOf}
 use Rattle.model.specs.Place as place
 use Rattle.model.specs.Order.{Event, sendOf, receiveOf, number, event, messageOf, boardOf, Scenario, board}
-use Rattle.model.specs.Cure.{isOwnPair, curedBefore, isWritten, ordersAt, ordersBelow, Written, messageRows, orderRows, curedRows, rowsText, headingText, curedText}
-use Rattle.model.proofs.Bounded.{and-left, and-right, and-both, or-cases, or-left, or-right, which, not-both, not-is-true}
+use Rattle.model.specs.Cure.{curedBefore, isWritten, ordersAt, ordersBelow, Written, messageRows, orderRows, curedRows, rowsText, headingText, curedText}
+use Rattle.model.proofs.Bounded.{and-left, and-right, or-cases, or-left, or-right, which, not-both}
 use Rattle.model.proofs.Events.{event-number, number-event, below-number, below-event, send-event, receive-event}
-use Rattle.model.proofs.Block.{Inside, NoCircle, own-pair-parts, listed-more, listed-first, listed-later, circle-some}
+use Rattle.model.proofs.Block.{own-pair-parts, listed-more, listed-first, listed-later, circle-some}
 use Rattle.model.proofs.Causal.{Causal}
 use Rattle.model.proofs.Cured.{cured-trans, cured-irreflexive, cured-own, own-pair-from, cured-inside}
-use Rattle.model.proofs.Rendered.{Plain, AllPlain, plain-append, lineIn, linesIn, lines-append, rows-lines, house, row-read, heading-line, rows-short}
+use Rattle.model.proofs.Rendered.{Plain, AllPlain, plain-append, lineIn, linesIn, rows-lines, house, row-read, heading-line, rows-short}
 
 -- The P rows written, by number.
 module _ (S : Scenario) where
@@ -133,14 +132,12 @@ module _ (S : Scenario) where
           × (getD (eventsTo n ++ (S .source n ∷ S .target n ∷ [])) (2 * m + 1) 0 ≡ S .target m)
       go (yes e) deep =
           let i : 2 * m ≡ length (eventsTo n) + 0 = omega (arith, events-length n) in
-          let j : 2 * m + 1 ≡ length (eventsTo n) + 1 = omega (arith, events-length n) in
-          (
+          let j : 2 * m + 1 ≡ length (eventsTo n) + 1 = omega (arith, events-length n) in (
             rw (i, getD-append-add (eventsTo n) (S .source n ∷ S .target n ∷ []) 0 0) (ap (S .source) (sym e)),
             rw (j, getD-append-add (eventsTo n) (S .source n ∷ S .target n ∷ []) 1 0) (ap (S .target) (sym e)),
           )
       go (no d) deep =
-          let l : m < n = omega arith in
-          (
+          let l : m < n = omega arith in (
             List·getD-append (eventsTo n) (S .source n ∷ S .target n ∷ []) 0 (2 * m) (omega (arith, events-length n)) ∙ deep l .0,
             List·getD-append (eventsTo n) (S .source n ∷ S .target n ∷ []) 0 (2 * m + 1) (omega (arith, events-length n)) ∙ deep l .1,
           )
@@ -176,6 +173,23 @@ module _ (S : Scenario) where
   messages-from : writtenFrom 0 (S .count) ≡ messageRows S (S .count)
   unfolding messageRows
   messages-from = messages-split 0 (S .count) ∙ ap (messageRows S) (zero-add (S .count))
+
+-- what is written is between events of the sheet
+written-before : (S : Scenario) (x y : Event) → isWritten S x y ≡ true → curedBefore S x y ≡ true
+unfolding isWritten
+written-before S x y h =
+    let a = eqb (board S x) (board S y) in
+    let b = curedBefore S x y in
+    and-right a b (and-left (a && b) _ (and-left _ _ h))
+
+pub written-row : (S : Scenario) → Causal S → (x y : Event) → isWritten S x y ≡ true → IsRow S (number x) (number y)
+written-row S C x y h =
+    let p = cured-inside S C x y (written-before S x y h) in
+    record {
+      first = below-number x (S .count) .0 (p .0);
+      second = below-number y (S .count) .0 (p .1);
+      written = rw (event-number x, event-number y) h;
+    }
 
 unfoldable pub ordersRead : List (ℕ × ℕ) → List Row
 ordersRead [] = []
@@ -254,12 +268,8 @@ module _ (S : Scenario) (C : Causal S) (few : S .count ≤ messagesMost) (low : 
       refl
 
   -- The order of the rows written lies in the cured order, which has no circle.
-  written-cured : (x y : ℕ) → IsRow S x y → curedBefore S (event x) (event y) ≡ true
-  unfolding isWritten
-  written-cured x y r =
-      let a = eqb (board S (event x)) (board S (event y)) in
-      let b = curedBefore S (event x) (event y) in
-      and-right a b (and-left (a && b) _ (and-left _ _ (r .written)))
+  pub written-cured : (x y : ℕ) → IsRow S x y → curedBefore S (event x) (event y) ≡ true
+  written-cured x y r = written-before S (event x) (event y) (r .written)
 
   written-board : (x y : ℕ) → IsRow S x y → board S (event x) ≡ board S (event y)
   unfolding isWritten
@@ -304,7 +314,7 @@ module _ (S : Scenario) (C : Causal S) (few : S .count ≤ messagesMost) (low : 
       let n = events-length S (S .count) in
       let apart : x ≡ y → ⊥ = λ e. cured-irreflexive S C (event x) (subst⁻¹ (λ (k : ℕ). curedBefore S (event x) (event k) ≡ true) e (written-cured x y r)) in
       let same : getD (eventsTo S (S .count)) x 0 ≡ getD (eventsTo S (S .count)) y 0 =
-          event-board S x (r .first) ∙ written-board x y r ∙ sym (event-board S y (r .second)) in
+      event-board S x (r .first) ∙ written-board x y r ∙ sym (event-board S y (r .second)) in
       taken i (placeAt (S .count) orders) (placeAt (S .count) ((x, y) ∷ orders)) _ (order x y) h
       (row-read (record { letter = code "P"; one = x; two = y }) (order-plain x y r))
       (rw (n, lt-ltb x (2 * S .count) (r .first), lt-ltb y (2 * S .count) (r .second), ne-eqb x y apart, eq-eqb _ _ same))

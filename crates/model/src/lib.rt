@@ -29,7 +29,8 @@ pub const SCRATCH_LEAST: usize = 2048;
 
 pub const TRACE_LEAST: usize = 2 * (3 * MESSAGES_MOST);
 
-// The refusals, by the numbers of the paper's table and of the requests.
+// The output of a cured sheet.
+pub const SHEET_OUTPUT_LEAST: usize = TEXT_MOST;
 
 // The output of the two taps.
 pub const TAP_NUMBERS_LEAST: usize = 512;
@@ -41,7 +42,7 @@ pub const SET_MOST: usize = 65535;
 
 pub const VERDICT_MOST: usize = 1;
 
-// The refusals, by the numbers of the paper's table.
+// The refusals, by the numbers of the paper's table and of the requests.
 pub const CHANNEL: u8 = 1;
 
 pub const BENCH: u8 = 2;
@@ -65,6 +66,8 @@ pub const MESSAGES: u8 = 10;
 pub const CIRCLE: u8 = 11;
 
 pub const TRACE: u8 = 12;
+
+pub const CURED_ROWS: u8 = 15;
 
 pub const TAP: u8 = 20;
 

@@ -1,15 +1,18 @@
 -- Texts put one behind the other, and a writer's promise from them. Assumes nothing.
 use mathlib.Core.Path.{_≡_, refl, sym, _∙_, ap, subst}
-use mathlib.Core.List.{List, [], _∷_, _++_, append-assoc}
-use Prim.Native.Nat.{ℕ, suc, _+_, _/_, _%_, _<_, _≤_}
+use mathlib.Core.Bool.{Bool, true, false, cond}
+use mathlib.Core.List.{List, [], _∷_, _++_, append-assoc, append-nil}
+use Prim.Native.Nat.{ℕ, suc, _+_, _-_, _/_, _%_, _<_, _≤_}
 use native.Mathlib.Nat.{zero-add}
 use native.Mathlib.Numerals.{add-one}
 use native.Mathlib.Omega.{arith}
+use lib.Dec.{ltb}
 use lib.ListN.{length, getD, set, take, drop, length-append, length-set, length-drop}
-use lib.Seq.{sets, sets-eq, paste, paste-zero, paste-suc, take-at, drop-at, drop-drop}
+use lib.Seq.{sets, sets-eq, paste, paste-zero, paste-suc, take-at, drop-at, drop-drop, drop-length, take-all}
 use borrow.Author.Tests.{lt-ltb, le-ltb}
+use borrow.Rule.Slice.PartMut.{midOf, putMid, mid-len, post-is}
 use Rattle.model.specs.Text.{ascii, space, lineEnd}
-use Rattle.model.specs.Cure.{digit, digitsOf, rowText, headingText}
+use Rattle.model.specs.Cure.{Written, digit, digitsOf, rowText, headingText}
 use Rattle.sheet_text.specs.Writing.{Puts, Writes, rowOf, digitsMost, rowBytesMost, headingBytes}
 
 pub put-one : (l : List ℕ) (at byte : ℕ) → Puts at (byte ∷ []) l (set l at byte) (at + 1)
@@ -75,6 +78,52 @@ writes-more a b l mid rest exit n m p q e =
       long = ap (λ (k : ℕ). k + m) (p .long) ∙ ap (λ (k : ℕ). length a + k) (q .long) ∙ sym both;
       room = omega (arith, both, left, q .room, p .room, length-drop (length a) l);
     }
+
+pub writes-same : (t l exit : List ℕ) (n : ℕ) → Writes t l exit n → length exit ≡ length l
+writes-same t l exit n w =
+    ap length (w .bytes) ∙ length-append t (drop (length t) l) ∙ omega (arith, length-drop (length t) l, w .room)
+
+-- the rest from a place on, lent to a writer, and the whole behind it
+abbrev pub restFrom : ℕ → List ℕ → List ℕ
+restFrom at l = midOf at (length l - at) l
+
+abbrev pub withRest : ℕ → List ℕ → List ℕ → List ℕ
+withRest at l rest = putMid at (length l - at) l rest
+
+pub rest-long : (at : ℕ) (l : List ℕ) → length (restFrom at l) ≡ length l - at
+rest-long at l = mid-len at (length l) l (omega arith)
+
+rest-is : (at : ℕ) (l : List ℕ) → restFrom at l ≡ drop at l
+rest-is at l = take-all (length l - at) (drop at l) (omega (arith, length-drop at l))
+
+with-rest-is : (at : ℕ) (l rest : List ℕ) → at ≤ length l → withRest at l rest ≡ take at l ++ rest
+with-rest-is at l rest h =
+    ap (λ (k : List ℕ). take at l ++ (rest ++ k)) (post-is at (length l) l h ∙ drop-length l) ∙ ap (λ (k : List ℕ). take at l ++ k) (append-nil rest)
+
+pub rest-written : (a b l now rest : List ℕ) (at m : ℕ) → Writes a l now at → Writes b (restFrom at now) rest m
+    → Writes (a ++ b) l (withRest at now rest) (at + m)
+rest-written a b l now rest at m p q =
+    let h : at ≤ length now = omega (arith, p .long, p .room, writes-same a l now at p) in
+    writes-more a b l now rest (withRest at now rest) at m p (subst (λ (k : List ℕ). Writes b k rest m) (rest-is at now) q) (with-rest-is at now rest h)
+
+-- what is left behind a text
+pub rest-room : (a l now : List ℕ) (at n : ℕ) → Writes a l now at → at + n ≤ length l → n ≤ length (restFrom at now)
+rest-room a l now at n p h = omega (arith, rest-long at now, writes-same a l now at p)
+
+-- a row has at most ten bytes
+digits-few : (n : ℕ) → length (digitsOf n) ≤ digitsMost
+unfolding digitsOf
+digits-few n = go (ltb n 10) (ltb n 100)
+  where
+    go : (a b : Bool)
+        → length (cond a (digit n ∷ []) (cond b (digit (n / 10) ∷ digit (n % 10) ∷ []) (digit (n / 100) ∷ digit (n / 10 % 10) ∷ digit (n % 10) ∷ []))) ≤ digitsMost
+    go true b = omega arith
+    go false true = omega arith
+    go false false = omega arith
+
+pub row-few : (r : Written) → length (rowText r) ≤ rowBytesMost
+unfolding rowText
+row-few r = simp length-append (omega (arith, digits-few (r .one), digits-few (r .two)))
 
 -- nothing written yet
 pub writes-none : (l : List ℕ) → Writes [] l l 0

@@ -1,0 +1,2 @@
+-- Parts. Assumes nothing.
+use Prim.Native.Nat.{ℕ}

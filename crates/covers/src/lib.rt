@@ -122,6 +122,7 @@ pub fn count_orders(words: &[u64], count: usize) -> usize
     requires { ⌜ count ≤ messagesMost ⌝ }
     requires { ⌜ 2 * count * width ≤ length (now words) ⌝ }
     ensures { λ r. ⌜ r ≡ length (ordersTo (now (words .entry)) count (2 * count)) ⌝ }
+    ensures { λ r. ⌜ r ≤ messagesMost * (2 * count) ⌝ }
 {
     let events = 2 * count;
     let mut found = 0;

@@ -220,6 +220,12 @@ unfolding orderRows
 orders-long [] = refl
 orders-long (p ∷ ps) = ap suc (orders-long ps)
 
+pub rows-count : (boards words : List ℕ) (count : ℕ) → length (rowsIn count boards words) ≡ 1 + count + length (ordersTo words count (2 * count))
+unfolding rowsIn
+rows-count boards words count =
+    let orders = ordersTo words count (2 * count) in
+    omega (arith, length-append (messagesIn boards count) (orderRows orders), messages-long boards count, orders-long orders)
+
 -- The sheet, part by part: the room that is left for the next, and what is written with it.
 module _ (l now exit : List ℕ) (at k : ℕ) where
   heading-long : Writes headingText l now at → at ≡ headingBytes
@@ -244,16 +250,10 @@ module _ (l now exit : List ℕ) (at k : ℕ) where
         → Writes (listedText boards count) l (withRest at now exit) (at + k)
     listed-written w v = rest-written headText (rowsText (messagesIn boards count)) l now exit at k w v
 
-    pub rows-count : (words : List ℕ) → length (rowsIn count boards words) ≡ 1 + count + length (ordersTo words count (2 * count))
-    unfolding rowsIn
-    rows-count words =
-        let orders = ordersTo words count (2 * count) in
-        omega (arith, length-append (messagesIn boards count) (orderRows orders), messages-long boards count, orders-long orders)
-
     pub sheet-room : (words : List ℕ) → Writes (listedText boards count) l now at → at ≤ headMost + rowBytesMost * count → sheetOutputLeast ≤ length l
         → length (rowsIn count boards words) ≤ rowsMost → rowBytesMost * length (ordersTo words count (2 * count)) + rowBytesMost ≤ length (restFrom at now)
     sheet-room words w few room rows =
-        rest-room (listedText boards count) l now at (rowBytesMost * length (ordersTo words count (2 * count)) + rowBytesMost) w (omega (arith, rows-count words))
+        rest-room (listedText boards count) l now at (rowBytesMost * length (ordersTo words count (2 * count)) + rowBytesMost) w (omega (arith, rows-count boards words count))
 
     pub sheet-written : (words : List ℕ) → Writes (listedText boards count) l now at
         → Writes (rowsText (orderRows (ordersTo words count (2 * count)))) (restFrom at now) exit k → Writes (textIn count boards words) l (withRest at now exit) (at + k)

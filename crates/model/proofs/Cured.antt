@@ -70,7 +70,7 @@ pub own-pair-from : (S : Scenario) (m : ℕ) → m < S .count → isOwnPair S (s
 unfolding isOwnPair
 own-pair-from S m l = and-both (eqb m m) (ltb m (S .count)) (eq-eqb m m refl) (lt-ltb m (S .count) l)
 
-no-own-send : (S : Scenario) (x : Event) (m : ℕ) → isOwnPair S x (sendOf m) ≡ false
+pub no-own-send : (S : Scenario) (x : Event) (m : ℕ) → isOwnPair S x (sendOf m) ≡ false
 unfolding isOwnPair
 no-own-send S (sendOf k) m = refl
 no-own-send S (receiveOf k) m = refl

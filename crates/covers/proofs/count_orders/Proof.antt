@@ -33,7 +33,7 @@ loop-again : tie.Need-loop-again Inv-loop μ-loop
 loop-again c = search all-more
 
 returns : tie.Need-returns Inv-loop μ-loop
-returns c = search all-end
+returns c = (search all-end, search needs)
 
 pub count-orders-spec : {M : Type 1} → statement M
 count-orders-spec =

@@ -1,5 +1,5 @@
 -- Request (i): the cured sheet is free on all six codes, and the loosest; and with that what a call promises. Assumes nothing.
-use Prim.Native.Nat.{ℕ, _<_, _≤_}
+use Prim.Native.Nat.{ℕ, _^_, _<_, _≤_}
 use native.Mathlib.Omega.{arith}
 use mathlib.Core.Path.{_≡_, refl, sym, _∙_, ap, subst, subst⁻¹}
 use mathlib.Core.Logic.{⊎-elim, _↔_}
@@ -20,8 +20,11 @@ use Rattle.model.proofs.Bounded.{which, not-both}
 use Rattle.model.proofs.Events.{at-or-before-cases, at-or-before-same, at-or-before-before}
 use Rattle.model.proofs.Causal.{Causal}
 use Rattle.model.proofs.Accepted.{sheet-causal, sheet-count, sheet-boards, sheet-meets}
+use Rattle.model.specs.Place.{lineOf}
+use Rattle.model.proofs.Lines.{Well, sheet-well}
 use Rattle.model.proofs.PointThree.{race-parts, point-three}
 use Rattle.model.proofs.Cured.{to-send, to-receive, from-receive, cured-old, cured-own, own-pair-from, cured-trans, cured-exact, cured-inside}
+use Rattle.model.proofs.WrittenBack.{text-short}
 use Rattle.model.proofs.CureWalked.{met, cured-met, cured-sheet, cured-messages}
 
 -- point 3 for a sheet that has a scenario, with the least buffers
@@ -212,3 +215,27 @@ module _ (text scratch scratchExit output outputExit : List ℕ) (r : CureNumber
         causalOrder = sheet-meets text;
         cured = λ S e w. text-cured answer outputLeft S e (ap (λ (n : CureNumbers). n .word) (sym answer) ∙ w);
       }
+
+-- the numbers behind the word fit 32 bits
+pub cure-small : (text : List ℕ) (scratchLength outputLength : ℕ)
+    → (cureNumbers (cureOf text scratchLength outputLength) .one < 2 ^ 32) × (cureNumbers (cureOf text scratchLength outputLength) .two < 2 ^ 32)
+unfolding cureOf andThen curedOf
+cure-small text scratchLength outputLength =
+    bench (ltb scratchLength scratchLeast || ltb outputLength sheetOutputLeast) (sheetOf text) refl (sheet-well text)
+  where
+    SmallPair : Out (List ℕ) → Type 0
+    SmallPair o = (cureNumbers o .one < 2 ^ 32) × (cureNumbers o .two < 2 ^ 32)
+
+    rows : (S : Scenario) → sheetOf text ≡ ok S → SmallPair (curedOf S)
+    rows S e = go (ltb rowsMost (length (curedRows S))) refl
+      where
+        go : (b : Bool) → ltb rowsMost (length (curedRows S)) ≡ b → SmallPair (cond b (refusal curedRowsRefusal 0) (ok (curedText S)))
+        go true t = (omega arith, omega arith)
+        go false f =
+            let short = text-short S (sheet-causal text S e) (sheet-count text S e) (sheet-boards text S e) (ltb-false rowsMost (length (curedRows S)) f) in
+            (omega arith, omega arith)
+
+    bench : (b : Bool) (o : Out Scenario) → sheetOf text ≡ o → Well (lineOf rowsMost) o → SmallPair (cond b (refusal benchRefusal 0) (andThen o curedOf))
+    bench true o e w = (omega arith, omega arith)
+    bench false (ok S) e w = rows S e
+    bench false (refusal number line) e w = (omega (arith, w .known), omega (arith, w .within))

@@ -415,7 +415,7 @@ module _ (S : Scenario) (C : Causal S) (few : S .count ≤ messagesMost) (low : 
       plain-append (messageRows S (S .count)) (orderRows pairs) (messages-plain (S .count)) (orders-plain pairs all-rows),
     )
 
-    text-short : length (curedText S) ≤ textMost
+    pub text-short : length (curedText S) ≤ textMost
     unfolding curedText headingText ascii
     text-short = simp length-append (omega (arith, rows-short (curedRows S) all-plain))
 

@@ -252,8 +252,7 @@ module _ (S : Scenario) (C : Causal S) where
             let q = and-right (atOrBefore S x z) (S .before z (sendOf m)) ab in
             ⊎-elim (λ i. ap (board S) i ∙ e) (λ p. absurd (least-is z p q e least)) (at-or-before-cases S x z a)
 
-  -- What stands directly before an event is written as a row, or is its own send.
-  -- before a receive that is its own send
+  -- What stands directly before a receive is its own send.
   direct-receive : (x : Event) (m : ℕ) → curedBefore S x (receiveOf m) ≡ true → any (2 * S .count) (isBetween S x (receiveOf m)) ≡ false
       → isOwnPair S x (receiveOf m) ≡ true
   direct-receive x m h alone =
@@ -265,18 +264,6 @@ module _ (S : Scenario) (C : Causal S) where
       (between-from x (receiveOf m) (sendOf m) (to-send x m b) (cured-own (sendOf m) (receiveOf m) (own-pair-from S m (p .0))))
       alone)
       (at-or-before-cases S x (sendOf m) (p .1))
-
-  pub direct-cases : (x y : Event) → curedBefore S x y ≡ true → any (2 * S .count) (isBetween S x y) ≡ false
-      → (isWritten S x y ≡ true) ⊎ (isOwnPair S x y ≡ true)
-  unfolding isWritten
-  direct-cases x (sendOf m) h alone =
-      inl
-      (and-both _ _
-      (and-both _ _
-      (and-both (eqb (board S x) (board S (sendOf m))) (curedBefore S x (sendOf m)) (eq-eqb _ _ (on-its-board x m (from-send x m h) alone)) h)
-      (not-is-true (any (2 * S .count) (isBetween S x (sendOf m))) alone))
-      (not-is-true (isOwnPair S x (sendOf m)) (no-own-send S x m)))
-  direct-cases x (receiveOf m) h alone = inr (direct-receive x m h alone)
 
   -- No row ends in a receive.
   pub written-to-send : (x : Event) (m : ℕ) → isWritten S x (receiveOf m) ≡ false
@@ -295,6 +282,19 @@ module _ (S : Scenario) (C : Causal S) where
       not-both (isOwnPair S x y) own (not-true (isOwnPair S x y) (and-right (a && b && c) d t)))
       (λ f. f)
       (which (a && b && c && d))
+
+  -- What stands directly before an event is written as a row, or is its own send.
+  pub direct-cases : (x y : Event) → curedBefore S x y ≡ true → any (2 * S .count) (isBetween S x y) ≡ false
+      → (isWritten S x y ≡ true) ⊎ (isOwnPair S x y ≡ true)
+  unfolding isWritten
+  direct-cases x (sendOf m) h alone =
+      inl
+      (and-both _ _
+      (and-both _ _
+      (and-both (eqb (board S x) (board S (sendOf m))) (curedBefore S x (sendOf m)) (eq-eqb _ _ (on-its-board x m (from-send x m h) alone)) h)
+      (not-is-true (any (2 * S .count) (isBetween S x (sendOf m))) alone))
+      (not-is-true (isOwnPair S x (sendOf m)) (no-own-send S x m)))
+  direct-cases x (receiveOf m) h alone = inr (direct-receive x m h alone)
 
   -- So whatever is transitive and holds the rows written and each send before its receive holds the cured order.
   module _ (Q : Event → Event → Type 0) (written : (x y : Event) → isWritten S x y ≡ true → Q x y)

@@ -175,7 +175,7 @@ module _ (file : List Row) (code : ℕ) where
         pub race-lent : Lent count boards words
         race-lent =
             let few : count ≤ messagesMost = fit .few in
-            record { boardsLong = omega arith; wordsLong = omega arith; rowLong = omega arith }
+            record { boardsLong = omega arith; wordsLong = omega arith; rowLong = omega arith; boardsBelow = fit .boardsBelow }
 
         module _ (next : ℕ) (n : next ≡ at + 2 ^ (choicesMost - met)) where
           behind-tiles : Tiles file next (j .behind)

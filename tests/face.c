@@ -269,6 +269,8 @@ static void refusals(void) {
 
 static int trace_words[5];
 
+#define TRACE(w, o, t) ((trace_check_answer){.word = w, .one = o, .two = t})
+
 /* one call, with a guard page behind text, scratch and trace */
 static void replay(sheet s, uint32_t code, size_t words, const void *steps, size_t bytes, trace_check_answer e) {
     buffer text = lend(s.len), scratch = lend(words * 8), trace = lend(bytes);
@@ -280,6 +282,8 @@ static void replay(sheet s, uint32_t code, size_t words, const void *steps, size
     if (a.word != e.word || a.one != e.one || a.two != e.two)
         printf("  expected %u %u %u, got %u %u %u (%zu bytes)\n", e.word, e.one, e.two, a.word, a.one, a.two, bytes);
     expect(a.word == e.word && a.one == e.one && a.two == e.two, s, code, "trace verdict");
+    for (int b = 0; b < TRACE_CHECK_BOARDS; b++) /* of these traces one alone is stuck: board 1 waits for event 1 */
+        expect(a.waits[b] == (e.word == 1 && b == 1 ? 1 : TRACE_CHECK_NO_WAIT), s, code, "what a board waits for");
     size_t cleared = e.word == 4 && e.one <= 2 ? 0 : 8 * (size_t)WORDS;
     expect(zero(scratch.at, scratch.at + cleared) && painted(scratch.at + cleared, scratch.guard), s, code, "scratch behind a trace");
     expect(painted(scratch.from, scratch.at) && painted(trace.from, trace.at), s, code, "bytes ahead of a buffer");
@@ -290,21 +294,21 @@ static void replay(sheet s, uint32_t code, size_t words, const void *steps, size
 static void traces(void) {
     static uint8_t wrong[BYTES + 2];
     sheet one = named("sheet 1", H "S 0 0\n"), two = named("sheet 2", H "S 0 0\nM 0 1\nM 2 1\nP 1 3\n");
-    replay(one, 0, WORDS, "", 0, (trace_check_answer){0, 0, 0});
-    replay(two, 0, WORDS, "", 0, (trace_check_answer){2, 0, 0});
-    replay(two, 0, WORDS, "\0\1\1\1\0\0", 6, (trace_check_answer){1, 0, 0});
-    replay(two, 1, WORDS, "\0\1\1\1\0\0", 6, (trace_check_answer){2, 0, 0});
-    replay(two, 0, WORDS, "\0\0\1\0\2\0\0\1\1\1\2\1", 12, (trace_check_answer){0, 0, 0});
-    replay(two, 0, WORDS, "\0\0\1\0\2\0\0\1\1\1\2\1\2\1", 14, (trace_check_answer){3, 6, 0});
-    replay(two, 0, WORDS, "\0\0\1\0\1\1", 6, (trace_check_answer){3, 2, 0});
-    replay(two, 0, WORDS, "\0\2", 2, (trace_check_answer){3, 0, 0});
-    replay(two, 6, WORDS, "\0", 1, (trace_check_answer){4, 1, 0});
-    replay(two, 0, WORDS - 1, "\0", 1, (trace_check_answer){4, 2, 0});
-    replay(two, 0, WORDS + 3, "\0", 1, (trace_check_answer){4, 12, 0});
-    replay(named("no sheet", ""), 0, WORDS, "\0\0", 2, (trace_check_answer){4, 3, 0});
+    replay(one, 0, WORDS, "", 0, TRACE(0, 0, 0));
+    replay(two, 0, WORDS, "", 0, TRACE(2, 0, 0));
+    replay(two, 0, WORDS, "\0\1\1\1\0\0", 6, TRACE(1, 0, 0));
+    replay(two, 1, WORDS, "\0\1\1\1\0\0", 6, TRACE(2, 0, 0));
+    replay(two, 0, WORDS, "\0\0\1\0\2\0\0\1\1\1\2\1", 12, TRACE(0, 0, 0));
+    replay(two, 0, WORDS, "\0\0\1\0\2\0\0\1\1\1\2\1\2\1", 14, TRACE(3, 6, 0));
+    replay(two, 0, WORDS, "\0\0\1\0\1\1", 6, TRACE(3, 2, 0));
+    replay(two, 0, WORDS, "\0\2", 2, TRACE(3, 0, 0));
+    replay(two, 6, WORDS, "\0", 1, TRACE(4, 1, 0));
+    replay(two, 0, WORDS - 1, "\0", 1, TRACE(4, 2, 0));
+    replay(two, 0, WORDS + 3, "\0", 1, TRACE(4, 12, 0));
+    replay(named("no sheet", ""), 0, WORDS, "\0\0", 2, TRACE(4, 3, 0));
     memset(wrong, 3, sizeof wrong);
     for (size_t n = 1; n <= BYTES + 2; n++) {
-        trace_check_answer refusal = {4, 12, 0}, first = {3, 0, 0};
+        trace_check_answer refusal = TRACE(4, 12, 0), first = TRACE(3, 0, 0);
         replay(two, 0, WORDS, wrong, n, n % 2 || n > BYTES ? refusal : first);
     }
     for (int w = 0; w < 5; w++)
@@ -376,7 +380,7 @@ static void choices(void) {
     choose(named("2 trace", H "S 0 0\n"), 0, WORDS, BYTES - 1, (choice_check_answer){2, 2, 0, 0, 0, 0}, "");
     chosen(named("3", ""), 0, (choice_check_answer){2, 3, 0, 0, 0, 0}, "");
     is_refused(named("5 an A row for the check", H "S 0 0\nA 0 0\n"), 5, 3);
-    replay(named("5 an A row for the trace check", H "S 0 0\nA 0 0\n"), 0, WORDS, "", 0, (trace_check_answer){4, 5, 3});
+    replay(named("5 an A row for the trace check", H "S 0 0\nA 0 0\n"), 0, WORDS, "", 0, TRACE(4, 5, 3));
     for (int w = 0; w < 3; w++)
         if (!choice_words[w]) printf("FAILED: choice_check never said %d\n", w), failures++;
 }

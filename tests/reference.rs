@@ -500,6 +500,23 @@ pub fn replay(sheet: &Result<Scenario, Refusal>, code: u32, scratch: usize, trac
     }
 }
 
+// ---------------------------------------------------------------- request (f): which event a board waits for
+
+/// On stuck, for each board, the event that the lowest message of its buffer whose receive is unready waits for; 65,535 otherwise.
+pub fn waits(sheet: &Result<Scenario, Refusal>, code: u32, scratch: usize, trace: &[u8]) -> [u16; 16] {
+    let mut out = [u16::MAX; 16];
+    let (Replay::Stuck, Ok(s)) = (replay(sheet, code, scratch, trace), sheet) else { return out };
+    let mut state = State::start(s);
+    trace.chunks(2).filter_map(told).for_each(|t| state.take(s, t));
+    for (board, held) in state.buffers.iter().enumerate() {
+        if let Some(m) = held.iter().find(|m| !state.ready(s, 2 * **m + 1)) {
+            let outstanding = |k: &usize| s.before[*k][2 * m + 1] && s.board(*k) == board && !state.done[*k];
+            out[board] = (0..state.done.len()).find(outstanding).unwrap() as u16;
+        }
+    }
+    out
+}
+
 // ---------------------------------------------------------------- request (c): a choice between two subprograms
 
 /// A choice list of a file, true where its A row takes n, and what its walk gives.

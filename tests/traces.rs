@@ -10,6 +10,7 @@ struct Numbers {
     word: u32,
     one: u32,
     two: u32,
+    waits: [u16; 16],
 }
 
 extern "C" {
@@ -23,20 +24,23 @@ extern "C" {
 pub struct Seen {
     words: [u64; 5],
     twelve: u64,
+    waiting: u64,
 }
 
 impl Seen {
     pub fn add(&mut self, o: &Seen) {
         self.words.iter_mut().zip(o.words).for_each(|(a, b)| *a += b);
         self.twelve += o.twelve;
+        self.waiting += o.waiting;
     }
 
     pub fn print(&self) {
         println!("foreign traces finished, stuck, open, not allowed, refused: {:?}, refusal 12: {}", self.words, self.twelve);
+        println!("boards that wait where a trace is stuck: {}", self.waiting);
     }
 
     pub fn whole(&self) -> bool {
-        self.words.iter().all(|n| *n > 0) && self.twelve > 0
+        self.words.iter().all(|n| *n > 0) && self.twelve * self.waiting > 0
     }
 }
 
@@ -88,6 +92,7 @@ pub fn try_traces(r: &mut Random, seen: &mut Seen, text: &[u8], sheet: &Result<S
     let (lent_text, lent_trace) = (text.to_vec(), trace.clone());
     let expected = reference::replay(sheet, code, scratch_len, &trace);
     let scratch = b.scratch[BESIDE..].as_mut_ptr();
+    let waits = reference::waits(sheet, code, scratch_len, &trace);
     let got = unsafe {
         trace_check(lent_text.as_ptr(), lent_text.len(), code, scratch, scratch_len, lent_trace.as_ptr(), lent_trace.len())
     };
@@ -102,6 +107,10 @@ pub fn try_traces(r: &mut Random, seen: &mut Seen, text: &[u8], sheet: &Result<S
         println!("expected {:?}, got {:?} on the trace {:?}", numbers, [got.word, got.one, got.two], trace);
         fail("trace check", text, code);
     }
+    if got.waits != waits {
+        println!("expected {:?}, got {:?} on the trace {:?}", waits, got.waits, trace);
+        fail("trace check: waits", text, code);
+    }
     if !b.scratch_holds(if matches!(expected, Replay::Refused((1 | 2, _))) { 0 } else { SCRATCH_LEAST }) {
         fail("trace check: scratch", text, code);
     }
@@ -110,4 +119,5 @@ pub fn try_traces(r: &mut Random, seen: &mut Seen, text: &[u8], sheet: &Result<S
     }
     seen.words[got.word as usize] += 1;
     seen.twelve += u64::from(got.word == 4 && got.one == 12);
+    seen.waiting += waits.iter().filter(|w| **w != u16::MAX).count() as u64;
 }

@@ -1,6 +1,7 @@
 // For a technician: the check at the command line, a word a call. The sheet comes from standard input.
 mod arguments;
 mod choices;
+mod jams;
 mod steps;
 mod traces;
 

@@ -1,7 +1,8 @@
-// `steps CODE`: the answer on a channel and, where it is locked, the steps that stop the boards, one a line. `trace CODE`: the same
-// steps as bytes.
+// `steps CODE`: the answer on a channel and, where it is locked, the steps that stop the boards, one a line, and what each jammed board waits
+// for. `trace CODE`: the same steps as bytes.
 ghost use Prim.Native.Nat.{_*_, _≤_};
 ghost use lib.ListN.{length};
+use crate::jams;
 use libc::STDERR_FILENO;
 
 // As many steps as the trace has, at most.
@@ -23,6 +24,9 @@ pub fn print(text: &[u8], code: u32) {
     if a.word == 1 {
         let end = 2 * steps_in(&trace, a.three);
         report::print_steps(&trace[..end]);
+        let jam = channel_check::trace_check(text, code, &mut scratch, &trace[..end]);
+        let waits = jam.waits;
+        jams::print(text, &trace[..end], waits);
     }
 }
 

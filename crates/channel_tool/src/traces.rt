@@ -1,4 +1,6 @@
-// `replay CODE TRACEFILE`: the verdict of the step rules on a trace from another tool, in words.
+// `replay CODE TRACEFILE`: the verdict of the step rules on a trace from another tool, in words, and where it is stuck what each jammed
+// board waits for.
+use crate::jams;
 use libc::STDERR_FILENO;
 use replay::TraceCheckAnswer;
 
@@ -55,4 +57,6 @@ pub fn print(text: &[u8], code: u32) {
     let mut scratch = [0u64; model::SCRATCH_LEAST];
     let a = channel_check::trace_check(text, code, &mut scratch, &trace[..n]);
     print_verdict(&trace[..n], a);
+    let waits = a.waits;
+    jams::print(text, &trace[..n], waits);
 }

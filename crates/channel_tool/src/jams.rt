@@ -1,0 +1,56 @@
+// Which event each jammed board waits for, in words: where steps leave the boards stuck.
+use expansion::Expanded;
+use model::BOARDS;
+use model::EVENTS_MOST;
+
+// The message that a board holds behind the steps of a trace: the last one delivered to it. A jammed board holds one.
+fn held_on(trace: &[u8], boards: &[u8; EVENTS_MOST], board: usize) -> u8 {
+    let mut held = 0;
+    for i in 0..trace.len() / 2 {
+        let at = 2 * i;
+        let behind = at + 1;
+        let message = trace[behind];
+        let receive = (2 * message as usize + 1) % EVENTS_MOST;
+        if trace[at] == 1 && boards[receive] as usize == board {
+            held = message;
+        }
+    }
+    held
+}
+
+// The event, by what it is of its message.
+fn print_event(event: u16) {
+    report::print(b"event ");
+    report::print_decimal(event as u32);
+    if event % 2 == 0 {
+        report::print(b" (send of message ");
+    } else {
+        report::print(b" (receive of message ");
+    }
+    report::print_decimal(event as u32 / 2);
+    report::print(b")");
+}
+
+fn print_jam(board: usize, held: u8, event: u16) {
+    report::print(b"board ");
+    report::print_decimal((board % BOARDS) as u32);
+    report::print(b" holds message ");
+    report::print_decimal(held as u32);
+    report::print(b" and waits for ");
+    print_event(event);
+    report::print(b"\n");
+}
+
+// A line for each board that waits for an event.
+pub fn print(text: &[u8], trace: &[u8], waits: [u16; BOARDS]) {
+    let mut boards = [0u8; EVENTS_MOST];
+    let mut words = [0u64; model::SCRATCH_LEAST];
+    let outcome = scenario::scenario_of(text, &mut boards, &mut words);
+    if let Expanded::Messages(_) = outcome {
+        for board in 0..BOARDS {
+            if waits[board] != model::NO_WAIT {
+                print_jam(board, held_on(trace, &boards, board), waits[board]);
+            }
+        }
+    }
+}

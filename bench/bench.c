@@ -38,6 +38,15 @@ static void last_race(int n) {
     line("P", 2 * n - 3, 2 * n - 1);
 }
 
+/* The cure with the most rows: 16 receives of a board ahead of 24 sends of it, a block later; with 127 messages 512 rows to write. */
+static void most_rows(int n) {
+    begin();
+    for (int i = 0; i < 16; i++) line("M", 1 + i % 14, 0);
+    line("B", 0, 0);
+    for (int i = 0; i < 24; i++) line("M", 0, 1 + i % 14);
+    for (int i = 40; i < n; i++) line("M", 15, 15);
+}
+
 /* As many P rows as the file has room for, each behind the last on one of two boards. */
 static void dense(int n) {
     begin();
@@ -158,7 +167,7 @@ static void choices_locked(int n) { choosing(n, 1); }
 
 static const struct { const char *name; void (*make)(int); } sheets[] = {
     {"longest-trace", longest_trace}, {"chain", chain}, {"dense", dense}, {"calls", calls}, {"blocks", blocks}, {"refused", refused},
-    {"chain-twice", chain_twice}, {"last-race", last_race}, {"order-rows", order_rows}, {"few", few}, {"case-2", case_2},
+    {"chain-twice", chain_twice}, {"last-race", last_race}, {"most-rows", most_rows}, {"order-rows", order_rows}, {"few", few}, {"case-2", case_2},
     {"early-race", early_race}, {"streams", streams}, {"choices", choices}, {"choices-locked", choices_locked},
 };
 

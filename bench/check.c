@@ -589,3 +589,68 @@ monitor_answer careful_monitor_switch(monitor state, uint32_t code, const uint8_
     leave(r, scratch);
     return a;
 }
+
+/* ------------------------------------------------------------------ the cure */
+
+/* what stands directly before each send, on its board: the row of its receive, which the cured order does not need, takes it */
+static void cover_rows(walk *w) {
+    uint64_t on[BOARDS * W];
+    memset(on, 0, sizeof on);
+    for (size_t k = 0; k < 2 * w->count; k++) mark(on, w->boards[k], k);
+    for (size_t e = 0; e < w->count; e++) {
+        const uint64_t *row = w->words + 2 * e * W, *mask = on + w->boards[2 * e] * W;
+        uint64_t hidden[W] = {0};
+        for (size_t k = 0; k < w->count; k++)
+            if (test(w->words, 2 * e, 2 * k)) join(hidden, 0, w->words, 2 * k);
+        for (size_t i = 0; i < W; i++) w->words[(2 * e + 1) * W + i] = row[i] & ~(hidden[i] | (row[i] >> 1 & sends)) & mask[i];
+    }
+}
+
+static size_t put_number(uint8_t *out, unsigned n) {
+    if (n < 10) return out[0] = (uint8_t)('0' + n), 1;
+    if (n < 100) return out[0] = (uint8_t)('0' + n / 10), out[1] = (uint8_t)('0' + n % 10), 2;
+    out[0] = (uint8_t)('0' + n / 100);
+    out[1] = (uint8_t)('0' + n / 10 % 10);
+    out[2] = (uint8_t)('0' + n % 10);
+    return 3;
+}
+
+static size_t put_row(uint8_t *out, uint8_t letter, unsigned one, unsigned two) {
+    size_t at = 2;
+    out[0] = letter;
+    out[1] = ' ';
+    at += put_number(out + at, one);
+    out[at++] = ' ';
+    at += put_number(out + at, two);
+    out[at++] = '\n';
+    return at;
+}
+
+static careful_cure_answer cure(const uint8_t *text, size_t len, uint64_t *scratch, uint8_t *output) {
+    static const char heading[] = "kind one two\n";
+    sheet s;
+    walk w;
+    refusal r = read(text, len, &s, scratch);
+    w.words = scratch;
+    if (!r.number) r = expand(&s, &w);
+    if (r.number) return (careful_cure_answer){1, r.number, r.line};
+    cover_rows(&w);
+    size_t rows = 1 + w.count, at = sizeof heading - 1;
+    for (size_t x = 0; x < 2 * w.count; x++)
+        for (size_t e = 0; e < w.count; e++) rows += (size_t)test(w.words, 2 * e + 1, x);
+    if (rows > ROWS) return (careful_cure_answer){1, 15, 0};
+    memcpy(output, heading, at);
+    at += put_row(output + at, 'S', 0, 0);
+    for (size_t m = 0; m < w.count; m++) at += put_row(output + at, 'M', w.boards[2 * m], w.boards[2 * m + 1]);
+    for (size_t x = 0; x < 2 * w.count; x++)
+        for (size_t e = 0; e < w.count; e++)
+            if (test(w.words, 2 * e + 1, x)) at += put_row(output + at, 'P', (unsigned)x, (unsigned)(2 * e));
+    return (careful_cure_answer){0, (uint32_t)at, 0};
+}
+
+careful_cure_answer careful_cure(const uint8_t *text, size_t text_len, uint64_t *scratch, size_t scratch_len, uint8_t *output, size_t output_len) {
+    if (scratch_len < 1024 || output_len < 8192) return (careful_cure_answer){1, 2, 0};
+    careful_cure_answer a = cure(text, text_len, scratch, output);
+    memset(scratch, 0, 1024 * 8);
+    return a;
+}

@@ -38,6 +38,11 @@ pub mod Wired
 pub mod FinishedRuns
 pub mod Ahead
 pub mod Course
+pub mod Cured
+pub mod Rendered
+pub mod WrittenBack
+pub mod CureWalked
+pub mod Cure
 pub mod Taps
 pub mod MessageLines
 pub mod Senders

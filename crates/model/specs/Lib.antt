@@ -17,6 +17,7 @@ pub mod Replay
 pub mod Waits
 pub mod Monitor
 pub mod Wired
+pub mod Cure
 pub mod Taps
 pub mod Senders
 pub mod Choice

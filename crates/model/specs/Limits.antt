@@ -52,6 +52,10 @@ scratchLeast = 2 * messagesMost * rowWords
 abbrev pub traceLeast : ℕ
 traceLeast = 2 * (3 * messagesMost)
 
+-- The output lent for a cured sheet: 8,192 bytes, as many as a sheet file may have.
+abbrev pub sheetOutputLeast : ℕ
+sheetOutputLeast = textMost
+
 -- The output lent for the course of two taps: 512 numbers.
 abbrev pub tapNumbersLeast : ℕ
 tapNumbersLeast = 512

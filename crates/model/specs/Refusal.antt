@@ -56,6 +56,10 @@ choicesRefusal = 13
 abbrev pub switchRefusal : ℕ
 switchRefusal = 14
 
+-- request (i): more than 512 rows to write
+abbrev pub curedRowsRefusal : ℕ
+curedRowsRefusal = 15
+
 -- an event that the sheet has not, or twice in one list of a tap
 abbrev pub tapRefusal : ℕ
 tapRefusal = 20

@@ -35,7 +35,8 @@ pub const SCRATCH_LEAST: usize = EVENTS_MOST * ROW_WORDS;
 
 pub const TRACE_LEAST: usize = 2 * (3 * MESSAGES_MOST);
 
-// The refusals, by the numbers of the paper's table and of the requests.
+// The output of a cured sheet.
+pub const SHEET_OUTPUT_LEAST: usize = TEXT_MOST;
 
 // The output of the two taps.
 pub const TAP_NUMBERS_LEAST: usize = 512;
@@ -50,7 +51,7 @@ pub const VERDICT_MOST: usize = 1;
 // What stands for a board that waits for no event (specs/Waits).
 pub const NO_WAIT: u16 = 65535;
 
-// The refusals, by the numbers of the paper's table.
+// The refusals, by the numbers of the paper's table and of the requests.
 pub const CHANNEL: u8 = 1;
 
 pub const BENCH: u8 = 2;
@@ -78,6 +79,8 @@ pub const TRACE: u8 = 12;
 pub const CHOICES: u8 = 13;
 
 pub const SWITCH: u8 = 14;
+
+pub const CURED_ROWS: u8 = 15;
 
 pub const TAP: u8 = 20;
 

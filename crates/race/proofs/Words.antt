@@ -14,14 +14,14 @@ use borrow.Author.Tests.{eq-eqb, ne-eqb, lt-ltb, le-ltb, ltb-true}
 use Rattle.model.specs.Limits as limits
 use Rattle.model.specs.Order.{event}
 use Rattle.model.specs.Race.{RaceRule, byEvent, byOrigin, never, escapes, isRace, lowestEvent}
-use Rattle.model.specs.Bounded.{every, lowest}
-use Rattle.model.proofs.Bounded.{and-left, and-right, every-at, lowest-hit, lowest-nowhere}
+use Rattle.model.specs.Bounded.{lowest}
+use Rattle.model.proofs.Bounded.{and-left, and-right, lowest-hit, lowest-nowhere}
 use Rattle.relation.specs.Width.{width, wordBits}
 use Rattle.relation.specs.Rows.{has, holds}
 use Rattle.relation.specs.Scenario.{scenarioIn}
 use Rattle.relation.proofs.Bits.{has-zero, has-or, has-power, mask-power}
 use Rattle.relation.proofs.Tests.{eqb-same}
-use Rattle.relation.proofs.Words.{has-and, has-not, trailing-clear, trailing-set, trailing-below, shift-lowest, shift-higher, word-holds}
+use Rattle.relation.proofs.Words.{has-and, has-not, trailing-clear, trailing-set, trailing-below, shift-lowest, shift-higher, evenBits, has-even-bits, word-holds}
 use Rattle.board.specs.Masks.{Standing}
 use Rattle.race.specs.declared.Rule.{Rule}
 use Rattle.race.specs.declared.Rule.the-variants.{ByEvent, ByOrigin, Never}
@@ -53,23 +53,6 @@ module _ (words : List ℕ) (e w : ℕ) where
       swaps false true = refl
       swaps false false = refl
 
--- the bits of the sends
-abbrev sendBits : ℕ
-sendBits = 6148914691236517205
-
-sends-even : (b : ℕ) → b < wordBits → has sendBits b ≡ eqb (b % 2) 0
-unfolding every has
-sends-even b h = agrees (has sendBits b) (eqb (b % 2) 0) (every-at wordBits (λ k. agree (has sendBits k) (eqb (k % 2) 0)) refl b h)
-  where
-    agree : Bool → Bool → Bool
-    agree true q = q
-    agree false q = not q
-
-    agrees : (p q : Bool) → agree p q ≡ true → p ≡ q
-    agrees true q t = sym t
-    agrees false true t = t
-    agrees false false t = refl
-
 module _ (words : List ℕ) (r : Rule) (e w word : ℕ) where
   pub outside-event : r ≡ ByEvent → word < 2 ^ wordBits → ReachedWord words e w word → OutsideWord words (ruleIn r) e w (2 ^ wordBits - 1 - word)
   outside-event i small reached b h = rw (i, ← reached b h) (has-not b wordBits word h small)
@@ -80,12 +63,12 @@ module _ (words : List ℕ) (r : Rule) (e w word : ℕ) where
   -- by origin: the sends that are not reached
   module _ (small : word < 2 ^ wordBits) (reached : ReachedWord words e w word) where
     sendsOut : ℕ
-    sendsOut = bitAnd (2 ^ wordBits - 1 - word) sendBits
+    sendsOut = bitAnd (2 ^ wordBits - 1 - word) evenBits
 
     send-out : (b : ℕ) → b < wordBits → b % 2 ≡ 0 → has sendsOut b ≡ not (isReached words e (eventAt w b))
     unfolding sendsOut
     send-out b h even =
-        rw (has-and, has-not b wordBits word h small, reached b h, sends-even b h, eq-eqb (b % 2) 0 even) (passes (isReached words e (eventAt w b)))
+        rw (has-and, has-not b wordBits word h small, reached b h, has-even-bits b h, eq-eqb (b % 2) 0 even) (passes (isReached words e (eventAt w b)))
       where
         passes : (p : Bool) → (not p && true) ≡ not p
         passes true = refl
@@ -94,7 +77,7 @@ module _ (words : List ℕ) (r : Rule) (e w word : ℕ) where
     receive-out : (b : ℕ) → b < wordBits → b % 2 ≡ 1 → has sendsOut b ≡ false
     unfolding sendsOut
     receive-out b h odd =
-        rw (has-and, sends-even b h, ne-eqb (b % 2) 0 (λ z. omega arith)) (and-false (has (2 ^ wordBits - 1 - word) b))
+        rw (has-and, has-even-bits b h, ne-eqb (b % 2) 0 (λ z. omega arith)) (and-false (has (2 ^ wordBits - 1 - word) b))
 
     both-out : (b : ℕ) → b < wordBits → has (bitOr sendsOut (sendsOut * 2 % 2 ^ wordBits)) b ≡ not (isReached words e (eventAt w b - eventAt w b % 2))
     both-out b h = has-or sendsOut (sendsOut * 2 % 2 ^ wordBits) b ∙ go b h (ℕ-discrete (b % 2) 0)
@@ -114,7 +97,7 @@ module _ (words : List ℕ) (r : Rule) (e w word : ℕ) where
 
     pub outside-origin : r ≡ ByOrigin
         → OutsideWord words (ruleIn r) e w
-        (bitOr (bitAnd (2 ^ wordBits - 1 - word) sendBits) (bitAnd (2 ^ wordBits - 1 - word) sendBits * 2 ^ 1 % 2 ^ wordBits))
+        (bitOr (bitAnd (2 ^ wordBits - 1 - word) evenBits) (bitAnd (2 ^ wordBits - 1 - word) evenBits * 2 ^ 1 % 2 ^ wordBits))
     unfolding sendsOut
     outside-origin i b h = rw i (both-out b h)
 

@@ -10,6 +10,7 @@ ghost use Rattle.relation.specs.Scenario.{scenarioIn};
 ghost use Rattle.board.specs.Masks.{Standing};
 ghost use Rattle.race.specs.Bridge.{Lent, ruleIn, foundIn, raceIn};
 ghost use Rattle.race.specs.Word.{ReachedWord, OutsideWord, RaceWord};
+use relation::SENDS;
 use relation::WIDTH;
 use relation::WORD_BITS;
 
@@ -62,9 +63,6 @@ fn reached_word(words: &[u64], e: usize, w: usize) -> u64
     }
     words[at] | (1 << (send % WORD_BITS))
 }
-
-// The bits of the sends in a word: those of the even events.
-const SENDS: u64 = 0x5555555555555555;
 
 // Word w of the events that the rule does not find at or before e's send. By origin a receive is outside with its send.
 fn outside_word(words: &[u64], rule: Rule, e: usize, w: usize) -> u64

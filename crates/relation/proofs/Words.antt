@@ -14,7 +14,8 @@ use lib.Dec.{eqb}
 use lib.ListN.{getD}
 use lib.Pow.{pow-pos, shr-shr, field, mod-mod-pow}
 use borrow.Author.Tests.{eqb-false}
-use Rattle.model.proofs.Bounded.{not-both}
+use Rattle.model.specs.Bounded.{every}
+use Rattle.model.proofs.Bounded.{every-at, not-both}
 use Rattle.relation.specs.Width.{wordBits}
 use Rattle.relation.specs.Rows.{has, holds}
 use Rattle.relation.proofs.Bits.{by-digits}
@@ -145,6 +146,23 @@ shift-lowest n = has-mod (n * 2) wordBits 0 (omega arith) ∙ has-even n
 
 pub shift-higher : (n j : ℕ) → suc j < wordBits → has (n * 2 % 2 ^ wordBits) (suc j) ≡ has n j
 shift-higher n j h = has-mod (n * 2) wordBits (suc j) h ∙ has-twice n j
+
+-- the word whose bits are those of the even events
+abbrev pub evenBits : ℕ
+evenBits = 6148914691236517205
+
+pub has-even-bits : (b : ℕ) → b < wordBits → has evenBits b ≡ eqb (b % 2) 0
+unfolding every has
+has-even-bits b h = agrees (has evenBits b) (eqb (b % 2) 0) (every-at wordBits (λ k. agree (has evenBits k) (eqb (k % 2) 0)) refl b h)
+  where
+    agree : Bool → Bool → Bool
+    agree true q = q
+    agree false q = not q
+
+    agrees : (p q : Bool) → agree p q ≡ true → p ≡ q
+    agrees true q t = sym t
+    agrees false true t = t
+    agrees false false t = refl
 
 -- the bits of word i of a row
 pub word-holds : (W : ℕ) (l : List ℕ) (y i b : ℕ) → b < wordBits → holds W l y (wordBits * i + b) ≡ has (getD l (y * W + i) 0) b

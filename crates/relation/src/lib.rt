@@ -13,6 +13,9 @@ pub const WIDTH: usize = model::ROW_WORDS;
 // The bits of a word.
 pub const WORD_BITS: usize = 64;
 
+// The bits of the sends in a word: those of the even events.
+pub const SENDS: u64 = 0x5555555555555555;
+
 // Event x is a predecessor of event y.
 pub fn test(words: &[u64], y: usize, x: usize) -> bool
     requires { ⌜ y * width + width ≤ length (now words) ⌝ }

@@ -9,11 +9,9 @@ ghost use Rattle.model.specs.Monitor.{isBarred};
 ghost use Rattle.relation.specs.Rows.{has};
 ghost use Rattle.run.specs.State.{inRow, stateOf};
 ghost use Rattle.switching.specs.Crowded.{halfWord, isCrowded, isFull};
+use relation::SENDS;
 use relation::WIDTH;
 use run::Run;
-
-// The sends among the bits of a word: the even ones.
-const SENDS: u64 = 6148914691236517205;
 
 // The channel with room for one message under way.
 const TOKEN_RING: usize = 5;

@@ -1,0 +1,131 @@
+// What stands directly before each send in the cured order, in words. The row of a message's receive, which the cured order does not need,
+// becomes that of the events directly before its send, on its board.
+ghost use mathlib.Core.Path.{_≡_};
+ghost use mathlib.Core.Bool.{cond};
+ghost use Prim.Native.Nat.{_+_, _*_, _<_, _≤_};
+ghost use lib.ListN.{length, getD};
+ghost use Rattle.model.specs.Limits.{messagesMost};
+ghost use Rattle.relation.specs.Width.{width};
+ghost use Rattle.board.specs.Boards.{BoardsBelow};
+ghost use Rattle.board.specs.Masks.{maskRows, Standing};
+ghost use Rattle.covers.specs.Covers.{RowOf, hiddenBy, hiddenAt, CoverWord, coverAt, Sheet, CoverRows, ordersFrom, ordersTo};
+use relation::SENDS;
+use relation::WIDTH;
+
+// Where k's send is before e's send, all that is before it is hidden.
+fn hide_by(words: &[u64], hidden: &mut [u64], e: usize, k: usize)
+    requires { ⌜ (e < messagesMost) × (k < messagesMost) ⌝ }
+    requires { ⌜ (2 * e * width + width ≤ length (now words)) × (2 * k * width + width ≤ length (now words)) ⌝ }
+    requires { ⌜ width ≤ length (now hidden) ⌝ }
+    ensures { λ _. ⌜ now (hidden .exit) ≡ hiddenBy (now (words .entry)) e k (now (hidden .entry)) ⌝ }
+{
+    let send = 2 * e;
+    let other = 2 * k;
+    if relation::test(words, send, other) {
+        relation::join_from(hidden, 0, words, other);
+    }
+}
+
+// What is before a send that is before e's send.
+fn hidden_from(words: &[u64], count: usize, e: usize) -> [u64; WIDTH]
+    requires { ⌜ (e < count) × (count ≤ messagesMost) ⌝ }
+    requires { ⌜ 2 * count * width ≤ length (now words) ⌝ }
+    ensures { λ r. ⌜ RowOf (hiddenAt (now (words .entry)) count e) r ⌝ }
+{
+    let mut hidden = [0u64; WIDTH];
+    for k in 0..count {
+        hide_by(words, &mut hidden, e, k);
+    }
+    hidden
+}
+
+// Of a word of e's row: what is not hidden, nor the send of a receive in the row, and is on the board of the mask.
+fn cover_word(row: u64, hidden: u64, mask: u64) -> u64
+    ensures { λ r. ⌜ CoverWord row hidden mask r ⌝ }
+{
+    let sent = (row >> 1) & SENDS;
+    row & !(hidden | sent) & mask
+}
+
+// Word i of the events on the board of e's send.
+fn mask_word(masks: &[u64], boards: &[u8], count: usize, e: usize, i: usize) -> u64
+    requires { ⌜ maskRows * width ≤ length (now masks) ⌝ }
+    requires { ⌜ (2 * count ≤ length (now boards)) × BoardsBelow count (now boards) ⌝ }
+    requires { ⌜ (e < count) × (i < width) ⌝ }
+    ensures { λ r. ⌜ r ≡ getD (now (masks .entry)) (getD (now (boards .entry)) (2 * e) 0 * width + i) 0 ⌝ }
+{
+    let send = 2 * e;
+    let board = board::board_of(boards, send);
+    let at = board * WIDTH + i;
+    masks[at]
+}
+
+// The events directly before e's send, on its board.
+fn cover(words: &[u64], masks: &[u64], boards: &[u8], count: usize, e: usize) -> [u64; WIDTH]
+    requires { ⌜ Standing count (now boards) (now words) (now masks) ⌝ }
+    requires { ⌜ e < count ⌝ }
+    ensures { λ r. ⌜ RowOf (coverAt (now (words .entry)) (now (boards .entry)) count e) r ⌝ }
+{
+    let hidden = hidden_from(words, count, e);
+    let send = 2 * e;
+    let from = send * WIDTH;
+    let mut row = [0u64; WIDTH];
+    for i in 0..WIDTH {
+        let at = from + i;
+        let mask = mask_word(masks, boards, count, e, i);
+        row[i] = cover_word(words[at], hidden[i], mask);
+    }
+    row
+}
+
+// The row of each receive becomes the events directly before its send.
+pub fn cover_rows(words: &mut [u64], boards: &[u8], count: usize)
+    requires { ⌜ Sheet count (now boards) (now words) ⌝ }
+    ensures { λ _. ⌜ CoverRows count (now (boards .entry)) (now (words .entry)) (now (words .exit)) ⌝ }
+{
+    let mut masks = [0u64; board::MASK_WORDS];
+    board::board_masks(boards, count, &mut masks);
+    for e in 0..count {
+        let row = cover(words, &masks, boards, count, e);
+        let receive = 2 * e + 1;
+        relation::copy_from(words, receive, &row, 0);
+    }
+}
+
+// One for a test that passes.
+fn one_if(passes: bool) -> usize
+    ensures { λ r. ⌜ r ≡ cond passes 1 0 ⌝ }
+    ensures { λ r. ⌜ r ≤ 1 ⌝ }
+{
+    if passes { 1 } else { 0 }
+}
+
+// How many sends event x stands directly before.
+fn count_from(words: &[u64], count: usize, x: usize) -> usize
+    requires { ⌜ (x < 2 * count) × (count ≤ messagesMost) ⌝ }
+    requires { ⌜ 2 * count * width ≤ length (now words) ⌝ }
+    ensures { λ r. ⌜ r ≡ length (ordersFrom (now (words .entry)) x count) ⌝ }
+    ensures { λ r. ⌜ r ≤ count ⌝ }
+{
+    let mut found = 0;
+    for e in 0..count {
+        let receive = 2 * e + 1;
+        found = found + one_if(relation::test(words, receive, x));
+    }
+    found
+}
+
+// The P rows of a cured sheet, counted: the rows of the receives hold what stands directly before the sends.
+pub fn count_orders(words: &[u64], count: usize) -> usize
+    requires { ⌜ count ≤ messagesMost ⌝ }
+    requires { ⌜ 2 * count * width ≤ length (now words) ⌝ }
+    ensures { λ r. ⌜ r ≡ length (ordersTo (now (words .entry)) count (2 * count)) ⌝ }
+    ensures { λ r. ⌜ r ≤ messagesMost * (2 * count) ⌝ }
+{
+    let events = 2 * count;
+    let mut found = 0;
+    for x in 0..events {
+        found = found + count_from(words, count, x);
+    }
+    found
+}

@@ -21,14 +21,86 @@ fn print_option(k: u32, row: usize, sheet: u8) {
     report::print(b"\n");
 }
 
+// A row's number, as an index.
+fn wide(row: u16) -> usize {
+    row as usize
+}
+
 // Where the rows of a sheet begin.
 fn begins(start: &[u16; SHEETS], sheet: u8) -> usize {
-    start[sheet as usize % SHEETS] as usize
+    let at = sheet as usize % SHEETS;
+    wide(start[at])
 }
 
 // Bit k of the list: A row k takes its second sheet.
 fn takes_second(choices: u32, k: u32) -> bool {
     k < 32 && (choices >> k) & 1 == 1
+}
+
+// Where a walk is: the row, the level, the rows of the open calls, and the A rows met.
+struct Place {
+    row: usize,
+    level: usize,
+    from: [usize; LEVELS],
+    met: u32,
+}
+
+// The place behind a call of the sheet at a row, whose rows begin at `to`.
+fn called(place: Place, at: usize, to: usize, met: u32) -> Place {
+    let level = place.level % LEVELS;
+    let mut from = place.from;
+    from[level] = at;
+    Place {
+        row: to,
+        level: level + 1,
+        from,
+        met,
+    }
+}
+
+// The place behind the end of a sheet: behind the call that was open, or at the end of the walk.
+fn returned(place: Place) -> Place {
+    let from = place.from;
+    let level = place.level % (LEVELS + 1);
+    if level == 0 {
+        return place;
+    }
+    let open = (level - 1) % LEVELS;
+    Place {
+        row: from[open] % ROWS_MOST + 1,
+        level: open,
+        from,
+        met: place.met,
+    }
+}
+
+// The next row of the sheet.
+fn passed(place: Place, at: usize) -> Place {
+    let from = place.from;
+    Place {
+        row: at % ROWS_MOST + 1,
+        level: place.level,
+        from,
+        met: place.met,
+    }
+}
+
+// The place behind a row that is read as letter and sheets. An A row prints its option.
+fn step(place: Place, letter: u8, one: u8, two: u8, start: &[u16; SHEETS], choices: u32) -> Place {
+    let at = place.row % ROWS_MOST;
+    let met = place.met % 64;
+    if letter == b'A' {
+        let sheet = if takes_second(choices, met) { two } else { one };
+        print_option(met, at, sheet);
+        return called(place, at, begins(start, sheet), met + 1);
+    }
+    if letter == b'C' {
+        return called(place, at, begins(start, one), met);
+    }
+    if letter == b'S' {
+        return returned(place);
+    }
+    passed(place, at)
 }
 
 // The options of a list, as the walk meets its A rows. The rows and the list are those of a file that was answered.
@@ -41,34 +113,19 @@ fn print_options(
     length: u32,
     choices: u32,
 ) {
-    let mut from = [0usize; LEVELS];
-    let mut level = 0;
-    let mut row = begins(start, 0);
-    let mut met = 0;
+    let mut place = Place {
+        row: begins(start, 0),
+        level: 0,
+        from: [0; LEVELS],
+        met: 0,
+    };
     for _ in 0..PASSED_MOST {
-        if length <= met {
+        if length <= place.met {
             return;
         }
-        let at = row % ROWS_MOST;
-        let letter = if row < rows { kind[at] } else { b'S' };
-        let mut sheet = one[at];
-        if letter == b'A' {
-            if takes_second(choices, met) {
-                sheet = two[at];
-            }
-            print_option(met, at, sheet);
-            met += 1;
-        }
-        if letter == b'A' || letter == b'C' {
-            from[level % LEVELS] = at;
-            level += 1;
-            row = begins(start, sheet);
-        } else if letter == b'S' && 0 < level {
-            level -= 1;
-            row = from[level % LEVELS] + 1;
-        } else {
-            row = at + 1;
-        }
+        let at = place.row % ROWS_MOST;
+        let letter = if place.row < rows { kind[at] } else { b'S' };
+        place = step(place, letter, one[at], two[at], start, choices);
     }
 }
 

@@ -3,6 +3,18 @@ use expansion::Expanded;
 use model::BOARDS;
 use model::EVENTS_MOST;
 
+// A byte, as a number of the machine's width.
+fn wide(byte: u8) -> usize {
+    byte as usize
+}
+
+// The message goes to the board.
+fn is_on(boards: &[u8; EVENTS_MOST], message: u8, board: usize) -> bool {
+    let m = wide(message) % model::MESSAGES_MOST;
+    let receive = 2 * m + 1;
+    wide(boards[receive]) == board
+}
+
 // The message that a board holds behind the steps of a trace: the last one delivered to it. A jammed board holds one.
 fn held_on(trace: &[u8], boards: &[u8; EVENTS_MOST], board: usize) -> u8 {
     let mut held = 0;
@@ -10,9 +22,10 @@ fn held_on(trace: &[u8], boards: &[u8; EVENTS_MOST], board: usize) -> u8 {
         let at = 2 * i;
         let behind = at + 1;
         let message = trace[behind];
-        let receive = (2 * message as usize + 1) % EVENTS_MOST;
-        if trace[at] == 1 && boards[receive] as usize == board {
-            held = message;
+        if trace[at] == 1 {
+            if is_on(boards, message, board) {
+                held = message;
+            }
         }
     }
     held

@@ -1,6 +1,6 @@
 -- The bits of a word: of an and, of a complement, behind a shift either way; that a word is zero where none of its bits is set, and that none
 -- is set below its trailing zeros; and the bits of a row that stands by itself. Assumes nothing.
-use mathlib.Core.Path.{_≡_, refl, _∙_, subst}
+use mathlib.Core.Path.{_≡_, refl, sym, _∙_, subst}
 use mathlib.Core.Bool.{Bool, true, false, not, _&&_, _||_}
 use mathlib.Core.List.{List}
 use Prim.Native.Nat.{ℕ, zero, suc, _+_, _-_, _*_, _/_, _%_, _^_, _<_}

@@ -1,17 +1,16 @@
 -- Where a run stands: the two searches over the messages. Assumes nothing.
-use mathlib.Core.Path.{_≡_, refl, sym, _∙_, ap, subst}
+use mathlib.Core.Path.{_≡_, refl, sym, _∙_, subst}
 use mathlib.Core.Bool.{Bool, true, false, not, _&&_}
 use mathlib.Core.List.{List}
-use Prim.Native.Nat.{ℕ, suc, _+_, _*_, _<_, _≤_}
+use Prim.Native.Nat.{ℕ, _+_, _*_, _<_, _≤_}
 use native.Mathlib.Numerals.{add-one}
 use native.Mathlib.Omega.{arith}
 use borrow.Author.Tests.{not-true, not-false}
-use lib.ListN.{length, getD}
 use Rattle.model.specs.Bounded.{every}
-use Rattle.model.specs.Run.{send, deliver, consume, allowed, noStep, finished, everyEvent, stuck}
+use Rattle.model.specs.Run.{noStep, finished, everyEvent, stuck}
 use Rattle.model.specs.Order.{number}
 use Rattle.model.specs.Replay.{standing}
-use Rattle.model.proofs.Bounded.{and-both, every-fails, not-both}
+use Rattle.model.proofs.Bounded.{and-both, every-fails}
 use Rattle.relation.specs.Width.{width}
 use Rattle.relation.specs.Rows.{holds}
 use Rattle.relation.specs.Scenario.{scenarioIn}
@@ -19,7 +18,7 @@ use Rattle.channel_table.specs.declared.Channel.{Channel}
 use Rattle.channel_table.specs.Table.{channelIn}
 use Rattle.run.specs.declared.Run.{Run}
 use Rattle.step.specs.declared.Step.the-variants as step
-use Rattle.run.specs.State.{inRow, bufferOf, stateOf}
+use Rattle.run.specs.State.{inRow, stateOf}
 use Rattle.buffers.specs.Held.{HeldIn}
 use Rattle.channel.specs.Steps.{SaysIn}
 use Rattle.standing.specs.Bridge.{standIn, allDone, stillAt, SaysStill}

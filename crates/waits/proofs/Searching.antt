@@ -1,6 +1,6 @@
 -- The search for the event that a board waits for, message by message, and board by board. Assumes nothing.
 use mathlib.Core.Path.{_≡_, refl, sym, _∙_, ap, subst, subst⁻¹}
-use mathlib.Core.Bool.{Bool, true, false, not, cond, _&&_, and-false}
+use mathlib.Core.Bool.{Bool, true, false, not, cond, _&&_}
 use mathlib.Core.List.{List, [], _∷_}
 use mathlib.Core.Option.{Option, none, some}
 use Prim.Native.Nat.{ℕ, _+_, _*_, _<_, _≤_}
@@ -11,7 +11,7 @@ use mir.Val.{Fits}
 use mir.Syntax.{w16}
 use lib.ListN.{length, getD, set, replicate, length-set}
 use lib.Seq.{ext-getD, getD-set-same, getD-set-other}
-use Rattle.model.specs.Limits.{boards, messagesMost}
+use Rattle.model.specs.Limits.{boards}
 use Rattle.model.specs.Bounded.{lowest}
 use Rattle.model.specs.Order.{Event, receiveOf, Scenario}
 use Rattle.model.specs.Run.{State, ready}
@@ -26,7 +26,7 @@ use Rattle.relation.specs.Scenario.{scenarioIn}
 use Rattle.board.specs.Masks.{Standing}
 use Rattle.run.specs.declared.Buffer.{Buffer}
 use Rattle.run.specs.declared.Run.{Run}
-use Rattle.run.specs.State.{inRow, bufferOf, stateOf}
+use Rattle.run.specs.State.{bufferOf, stateOf}
 use Rattle.rules.specs.declared.Readiness.{Readiness}
 use Rattle.rules.specs.declared.Readiness.the-variants.{Ready, Done, Waits}
 use Rattle.rules.specs.Rules.{readinessIn, SaysReadiness}

@@ -3,7 +3,7 @@
 use mathlib.Core.Path.{_≡_}
 use mathlib.Core.Bool.{cond}
 use mathlib.Core.List.{List}
-use Prim.Native.Nat.{ℕ, _*_}
+use Prim.Native.Nat.{ℕ}
 use Rattle.model.specs.Order.{Scenario, receiveOf}
 use Rattle.model.specs.Run.{State}
 use Rattle.model.specs.Waits as waits

@@ -1,7 +1,7 @@
 -- `channel_tool::steps::print` is safe and ends. Assumes nothing.
-use borrow.Author.Needs.{needs}
 use native.Mathlib.Omega.{arith}
 use lib.ListN.{length-take}
+use borrow.Author.Needs.{needs}
 use Rattle.channel_tool.proofs.steps.print.Statement.{statement}
 use Rattle.channel_tool.proofs.steps.print.Tie as tie
 
@@ -44,6 +44,27 @@ slice-aggregate-print-steps c = simp length-take (omega arith)
 print-steps-requires : tie.Need-print-steps-requires
 print-steps-requires c κs = search needs
 
+slice-aggregate-trace-check : tie.Need-slice-aggregate-trace-check
+slice-aggregate-trace-check c = search needs
+
+array-share-prefix-trace-2 : tie.Need-array-share-prefix-trace-2
+array-share-prefix-trace-2 c = search needs
+
+slice-aggregate-trace-check-2 : tie.Need-slice-aggregate-trace-check-2
+slice-aggregate-trace-check-2 c = simp length-take (omega arith)
+
+trace-check-requires : tie.Need-trace-check-requires
+trace-check-requires c κs = search needs
+
+array-share-prefix-trace-3 : tie.Need-array-share-prefix-trace-3
+array-share-prefix-trace-3 c = search needs
+
+slice-aggregate-print-2 : tie.Need-slice-aggregate-print-2
+slice-aggregate-print-2 c = simp length-take (omega arith)
+
+print-requires-2 : tie.Need-print-requires-2
+print-requires-2 c κs = search needs
+
 returns : tie.Need-returns
 returns c = search needs
 
@@ -67,5 +88,12 @@ print-spec =
     array-share-prefix-trace
     slice-aggregate-print-steps
     print-steps-requires
+    slice-aggregate-trace-check
+    array-share-prefix-trace-2
+    slice-aggregate-trace-check-2
+    trace-check-requires
+    array-share-prefix-trace-3
+    slice-aggregate-print-2
+    print-requires-2
     returns
     returns-2)

@@ -630,9 +630,9 @@ static careful_cure_answer cure(const uint8_t *text, size_t len, uint64_t *scrat
     static const char heading[] = "kind one two\n";
     sheet s;
     walk w;
-    refusal r = read(text, len, &s, scratch);
+    refusal r = read(text, len, &s, scratch, 0);
     w.words = scratch;
-    if (!r.number) r = expand(&s, &w);
+    if (!r.number) r = expand(&s, &w, 0);
     if (r.number) return (careful_cure_answer){1, r.number, r.line};
     cover_rows(&w);
     size_t rows = 1 + w.count, at = sizeof heading - 1;

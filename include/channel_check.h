@@ -37,7 +37,7 @@ typedef struct {
  *                       2 * three of them: two for each step, 0 send, 1 deliver, 2 consume, and then the message.
  *
  * The three buffers do not overlap. A pointer is valid for its length; with length 0 any pointer but NULL is taken.
- * A call needs less than 16 KiB of stack (7,288 bytes measured on x86-64, tests/stack.c).
+ * A call needs less than 16 KiB of stack (10,104 bytes measured on x86-64, tests/stack.c).
  * The function always returns, stays inside the buffers, keeps nothing between calls, and may be called from several threads
  * at a time with buffers of their own.
  */

@@ -6,6 +6,7 @@
 #[allow(dead_code)]
 mod reference;
 #[path = "texts.rs"]
+#[allow(dead_code)] // files with choices are for the other test
 mod texts;
 
 use std::io::Write;

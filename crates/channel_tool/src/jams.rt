@@ -32,7 +32,7 @@ fn held_on(trace: &[u8], boards: &[u8; EVENTS_MOST], board: usize) -> u8 {
 }
 
 // The event, by what it is of its message.
-fn print_event(event: u16) {
+pub fn print_event(event: u16) {
     report::print(b"event ");
     report::print_decimal(event as u32);
     if event % 2 == 0 {

@@ -2,8 +2,11 @@
 mod arguments;
 mod choices;
 mod jams;
+mod lines;
+mod reasons;
 mod steps;
 mod traces;
+mod watch;
 
 use arguments::Code;
 use libc::STDERR_FILENO;
@@ -25,6 +28,10 @@ fn print_usage() {
         b"       channel_tool replay CODE TRACEFILE < SHEET\n",
     );
     io::write_all(STDERR_FILENO, b"       channel_tool choices CODE < SHEET\n");
+    io::write_all(
+        STDERR_FILENO,
+        b"       channel_tool watch CODE SHEETFILE [TRACEFILE] < STEPS\n",
+    );
 }
 
 // The words that name a channel code behind them.
@@ -36,6 +43,8 @@ fn answer_on(word: &[u8], code: u32) {
     } else if check::same(word, b"trace") {
         let n = io::read_full(STDIN_FILENO, &mut text);
         steps::write(&text[..n], code);
+    } else if check::same(word, b"watch") {
+        watch::run(code);
     } else if check::same(word, b"choices") {
         let n = io::read_full(STDIN_FILENO, &mut text);
         choices::print(&text[..n], code);

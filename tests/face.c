@@ -53,6 +53,18 @@ static void expect(int holds, sheet s, uint32_t code, const char *what) {
     failures++;
 }
 
+/* what a call that may write steps leaves: its trace, its scratch, untouched on refusals 1 and 2, and the text; all are given back */
+static void left(sheet s, uint32_t code, buffer text, buffer scratch, buffer trace, int untouched, const void *steps, size_t count) {
+    size_t written = 2 * count, cleared = untouched ? 0 : 8 * (size_t)WORDS;
+    expect(memcmp(trace.at, steps, written) == 0, s, code, "steps");
+    expect(painted(trace.at + written, trace.guard), s, code, "trace bytes behind the steps");
+    expect(zero(scratch.at, scratch.at + cleared), s, code, "scratch words not zero");
+    expect(painted(scratch.at + cleared, scratch.guard), s, code, "scratch words touched");
+    expect(painted(scratch.from, scratch.at) && painted(trace.from, trace.at), s, code, "bytes ahead of a buffer");
+    expect(memcmp(text.at, s.text, s.len) == 0 && painted(text.from, text.at), s, code, "the text was written to");
+    give_back(text), give_back(scratch), give_back(trace);
+}
+
 static void call(sheet s, uint32_t code, size_t words, size_t bytes, channel_check_answer e, const void *steps) {
     buffer text = lend(s.len), scratch = lend(words * 8), trace = lend(bytes);
     memcpy(text.at, s.text, s.len);
@@ -62,14 +74,7 @@ static void call(sheet s, uint32_t code, size_t words, size_t bytes, channel_che
     if (a.word != e.word || a.one != e.one || a.two != e.two || a.three != e.three)
         printf("  expected %u %u %u %u, got %u %u %u %u\n", e.word, e.one, e.two, e.three, a.word, a.one, a.two, a.three);
     expect(a.word == e.word && a.one == e.one && a.two == e.two && a.three == e.three, s, code, "answer");
-    size_t written = e.word == 1 ? 2 * (size_t)e.three : 0, cleared = e.word == 2 && e.one <= 2 ? 0 : 8 * (size_t)WORDS;
-    expect(memcmp(trace.at, steps, written) == 0, s, code, "steps");
-    expect(painted(trace.at + written, trace.guard), s, code, "trace bytes behind the steps");
-    expect(zero(scratch.at, scratch.at + cleared), s, code, "scratch words not zero");
-    expect(painted(scratch.at + cleared, scratch.guard), s, code, "scratch words touched");
-    expect(painted(scratch.from, scratch.at) && painted(trace.from, trace.at), s, code, "bytes ahead of a buffer");
-    expect(memcmp(text.at, s.text, s.len) == 0 && painted(text.from, text.at), s, code, "the text was written to");
-    give_back(text), give_back(scratch), give_back(trace);
+    left(s, code, text, scratch, trace, e.word == 2 && e.one <= 2, steps, e.word == 1 ? e.three : 0);
 }
 
 static void exact_and_larger(sheet s, uint32_t code, channel_check_answer e, const void *steps) {
@@ -329,12 +334,7 @@ static void choose(sheet s, uint32_t code, size_t words, size_t bytes, choice_ch
     if (memcmp(&a, &e, sizeof a) != 0)
         printf("  expected %u %u %u %u, list %u %u; got %u %u %u %u, list %u %u\n", e.word, e.one, e.two, e.three, e.length, e.choices, a.word, a.one, a.two, a.three, a.length, a.choices);
     expect(memcmp(&a, &e, sizeof a) == 0, s, code, "answer over the lists");
-    size_t written = e.word == 1 ? 2 * (size_t)e.three : 0, cleared = e.word == 2 && e.one <= 2 ? 0 : 8 * (size_t)WORDS;
-    expect(memcmp(trace.at, steps, written) == 0 && painted(trace.at + written, trace.guard), s, code, "steps of the list");
-    expect(zero(scratch.at, scratch.at + cleared) && painted(scratch.at + cleared, scratch.guard), s, code, "scratch behind the lists");
-    expect(painted(scratch.from, scratch.at) && painted(trace.from, trace.at), s, code, "bytes ahead of a buffer");
-    expect(memcmp(text.at, s.text, s.len) == 0 && painted(text.from, text.at), s, code, "the text was written to");
-    give_back(text), give_back(scratch), give_back(trace);
+    left(s, code, text, scratch, trace, e.word == 2 && e.one <= 2, steps, e.word == 1 ? e.three : 0);
 }
 
 static void chosen(sheet s, uint32_t code, choice_check_answer e, const void *steps) {

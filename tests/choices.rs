@@ -109,15 +109,7 @@ fn try_code(r: &mut Random, seen: &mut Seen, text: &[u8], file: &Result<Vec<List
         println!("expected {:?}, got {:?}", numbers, got);
         fail("choices: answer", text, code);
     }
-    if !b.trace_holds(&steps) {
-        fail("choices: trace", text, code);
-    }
-    if !b.scratch_holds(if matches!(answer, Choice::Refused((1 | 2, _))) { 0 } else { SCRATCH_LEAST }) {
-        fail("choices: scratch", text, code);
-    }
-    if lent != text {
-        fail("choices: the text was written to", text, code);
-    }
+    b.left(text, &lent, code, &steps, matches!(answer, Choice::Refused((1 | 2, _))));
     seen.words[got.word as usize] += 1;
     seen.thirteen += u64::from(got.word == 2 && got.one == 13);
     let lists = match file {

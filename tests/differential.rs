@@ -67,6 +67,19 @@ impl Buffers {
         self.trace[written.clone()] == *steps && (0..self.trace.len()).all(kept)
     }
 
+    /// What a call that may write steps leaves: the steps, the scratch, untouched on refusals 1 and 2, and the text that it was lent.
+    fn left(&self, text: &[u8], lent: &[u8], code: u32, steps: &[u8], untouched: bool) {
+        if !self.trace_holds(steps) {
+            fail("trace", text, code);
+        }
+        if !self.scratch_holds(if untouched { 0 } else { SCRATCH_LEAST }) {
+            fail("scratch", text, code);
+        }
+        if lent != text {
+            fail("the text was written to", text, code);
+        }
+    }
+
     fn scratch_holds(&self, cleared: usize) -> bool {
         let zero = BESIDE..BESIDE + cleared;
         self.scratch.iter().enumerate().all(|(i, w)| *w == if zero.contains(&i) { 0 } else { mark(self.key, i) })
@@ -108,15 +121,7 @@ fn compare(r: &mut Random, text: &[u8], sheet: &Result<Scenario, Refusal>, code:
         println!("expected {:?}, got {:?}", numbers, [got.word, got.one, got.two, got.three]);
         fail("answer", text, code);
     }
-    if !b.trace_holds(&steps) {
-        fail("trace", text, code);
-    }
-    if !b.scratch_holds(if matches!(expected, Answer::Refused((1 | 2, _))) { 0 } else { SCRATCH_LEAST }) {
-        fail("scratch", text, code);
-    }
-    if lent != text {
-        fail("the text was written to", text, code);
-    }
+    b.left(text, &lent, code, &steps, matches!(expected, Answer::Refused((1 | 2, _))));
     let written = b.trace[BESIDE..BESIDE + steps.len()].to_vec();
     (expected, written)
 }

@@ -2,3 +2,4 @@ pub mod Choosing
 mod Steps
 pub mod Seeking
 pub mod Closing
+pub mod BlockRows

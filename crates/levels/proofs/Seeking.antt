@@ -1,6 +1,6 @@
 -- What the loop between two blocks keeps, row by row, and where it leaves them. Each law has the premises of one place of the code.
 -- Assumes nothing.
-use Prim.Native.Nat.{ℕ, _+_, _-_, _<_, _≤_}
+use Prim.Native.Nat.{ℕ, zero, suc, _+_, _-_, _<_, _≤_}
 use native.Mathlib.Omega.{arith}
 use mathlib.Core.Path.{_≡_, refl, sym, _∙_, ap, subst}
 use mathlib.Core.Bool.{Bool, true, false, _||_}
@@ -10,7 +10,7 @@ use lib.ListN.{length, getD, set, length-set}
 use lib.Seq.{getD-set-same, getD-set-other}
 use mir.Syntax.{w64}
 use mir.Val.{Fits}
-use borrow.Author.Tests.{eqb-true, eqb-false}
+use borrow.Author.Tests.{lt-ltb, eqb-true, eqb-false}
 use Rattle.model.specs.Limits.{levels, callsMost}
 use Rattle.model.specs.Refusal.{depthRefusal, callsRefusal, choicesRefusal}
 use Rattle.model.specs.Rows.{Row, block, call}
@@ -23,10 +23,10 @@ use Rattle.blocks.specs.Store.{Store}
 use Rattle.walk.specs.Block.{rowsFrom, inBlock, AllStand}
 use Rattle.walk.proofs.Meeting.{rows-next, not-in}
 use Rattle.levels.specs.Options.{isCall, isNinth, sheetCalled, choicesBehind}
-use Rattle.levels.specs.Levels.{letterAt, idle, rest, rank, Behind, Sheets, Between, Reaches}
+use Rattle.levels.specs.Levels.{letterAt, BehindBlocks, idle, rest, rank, Behind, Sheets, Between, Reaches}
 use Rattle.levels.specs.declared.Reached.{Reached}
 use Rattle.levels.specs.declared.Reached.the-variants as reached
-use Rattle.levels.proofs.Steps.{row-there, row-letter, rest-end, rest-back, rest-block, rest-deep, rest-calls, rest-ninth, rest-called}
+use Rattle.levels.proofs.Steps.{row-there, row-letter, letter-inside, rest-end, rest-back, rest-block, rest-deep, rest-calls, rest-ninth, rest-called}
 use Rattle.levels.proofs.Choosing.{either}
 
 -- where the walk came to, known by another name
@@ -92,11 +92,12 @@ module _ (options : ℕ) (kind one two : List ℕ) (count : ℕ) (from₀ : List
         is : getD kind i 0 ≡ letter
         is = row-letter kind count i letter read on-there
 
-        pub on-next : (start : List ℕ) → Sheets options kind one two count start → Fits w64 (i + 1)
-        on-next start lent = omega (arith, on-there, lent .rows .few)
+        -- the row behind it, and some more, can be counted
+        pub on-next : (start : List ℕ) (k : ℕ) → Sheets options kind one two count start → k ≤ 2 → Fits w64 (i + k)
+        on-next start k lent few = omega (arith, on-there, lent .rows .few)
 
-        pub on-less : rank count level (i + 1) calls < rank count level i calls
-        on-less = omega (arith, on-there)
+        pub on-inside : i + 1 ≤ count
+        on-inside = omega (arith, on-there)
 
         pub seeking-on : Seeking from level (i + 1) calls choices
         seeking-on =
@@ -115,7 +116,7 @@ module _ (options : ℕ) (kind one two : List ℕ) (count : ℕ) (from₀ : List
                     (j .between .stand) .1;
                 behind = j .between .behind;
               };
-              nearer = omega (arith, j .nearer, on-less);
+              nearer = omega (arith, j .nearer, on-there);
             }
 
       module _ (start : List ℕ) (lent : Sheets options kind one two count start) where
@@ -123,11 +124,11 @@ module _ (options : ℕ) (kind one two : List ℕ) (count : ℕ) (from₀ : List
         pub back-inside : (level ≡ 0 → ⊥) → getD from (level - 1) 0 < count
         back-inside n = j .between .behind (level - 1) (omega arith) .inside
 
-        pub back-next : (level ≡ 0 → ⊥) → Fits w64 (getD from (level - 1) 0 + 1)
-        back-next n = omega (arith, back-inside n, lent .rows .few)
+        pub back-next : (k : ℕ) → (level ≡ 0 → ⊥) → k ≤ 2 → Fits w64 (getD from (level - 1) 0 + k)
+        back-next k n few = omega (arith, back-inside n, lent .rows .few)
 
-        pub back-less : (level ≡ 0 → ⊥) → rank count (level - 1) (getD from (level - 1) 0 + 1) calls < rank count level i calls
-        back-less n = omega (arith, lent .rows .few)
+        pub back-less : (k : ℕ) → (level ≡ 0 → ⊥) → rank count (level - 1) (getD from (level - 1) 0 + k) calls < rank count level i calls
+        back-less k n = omega (arith, lent .rows .few)
 
         pub seeking-back : letter ≡ 83 → (level ≡ 0 → ⊥) → Seeking from (level - 1) (getD from (level - 1) 0 + 1) calls choices
         seeking-back e n =
@@ -140,7 +141,7 @@ module _ (options : ℕ) (kind one two : List ℕ) (count : ℕ) (from₀ : List
                 stand = j .between .behind (level - 1) (omega arith) .stand;
                 behind = λ k h. j .between .behind k (omega arith);
               };
-              nearer = omega (arith, j .nearer, back-less n);
+              nearer = omega (arith, j .nearer, back-less 1 n);
             }
 
         -- a call
@@ -241,3 +242,42 @@ module _ (options : ℕ) (kind one two : List ℕ) (count : ℕ) (from₀ : List
                       };
                       nearer = omega (arith, j .nearer, called-less);
                     }
+
+module _ (options : ℕ) (kind one two : List ℕ) (count : ℕ) (from₀ : List ℕ) (level₀ row calls₀ choices₀ : ℕ) where
+  abbrev At : List ℕ → ℕ → ℕ → ℕ → ℕ → Type 0
+  At from level i calls choices = Seeking options kind one two count from₀ level₀ row calls₀ choices₀ from level i calls choices
+
+  -- a B row is no row of a block and no call
+  block-outside : (i : ℕ) → i < count → getD kind i 0 ≡ 66 → false ≡ inBlock kind count i
+  unfolding inBlock
+  block-outside i h e = rw (lt-ltb i count h, e)
+
+  block-no-call : false ≡ isCall 66
+  unfolding isCall
+  block-no-call = refl
+
+  -- B rows, one after another: so many from row i on
+  blocks-on : (from : List ℕ) (level calls choices i n : ℕ) → i + n ≤ count → ((k : ℕ) → i ≤ k → k < i + n → getD kind k 0 ≡ 66)
+      → At from level i calls choices → At from level (i + n) calls choices
+  blocks-on from level calls choices i zero h b j = subst (λ (k : ℕ). At from level k calls choices) (omega arith) j
+  blocks-on from level calls choices i (suc n) h b j =
+      let inside : i < count = omega arith in
+      let is : getD kind i 0 ≡ 66 = b i (omega arith) (omega arith) in
+      subst (λ (k : ℕ). At from level k calls choices) (omega arith)
+      (blocks-on from level calls choices (i + 1) n (omega arith) (λ k l m. b k (omega (arith, l)) (omega (arith, m)))
+      (seeking-on options kind one two count from₀ level₀ row calls₀ choices₀ from level i calls choices j 66 (sym is ∙ letter-inside kind count i inside)
+      false (block-outside i inside is) refl false block-no-call refl (λ z. absurd (omega (arith, z)))))
+
+  -- behind a B row, the walk goes on at the first row that is none
+  module _ (from : List ℕ) (level i calls choices : ℕ) (j : At from level i calls choices) (letter : ℕ) (read : letter ≡ letterAt kind count i)
+      (r : Bool) (test : r ≡ inBlock kind count i) (out : r ≡ false) (q : Bool) (asks : q ≡ isCall letter) (no-call : q ≡ false) (b : letter ≡ 83 → ⊥)
+      (next : ℕ) (passed : BehindBlocks kind count (i + 1) next) where
+    pub behind-less : rank count level next calls < rank count level i calls
+    behind-less = omega (arith, passed .on, passed .inside)
+
+    pub seeking-behind : At from level next calls choices
+    seeking-behind =
+        let same : i + 1 + (next - (i + 1)) ≡ next = omega (arith, passed .on) in
+        subst (λ (k : ℕ). At from level k calls choices) same
+        (blocks-on from level calls choices (i + 1) (next - (i + 1)) (omega (arith, passed .inside)) (λ k l m. passed .blocks k l (omega (arith, m, same)))
+        (seeking-on options kind one two count from₀ level₀ row calls₀ choices₀ from level i calls choices j letter read r test out q asks no-call b))

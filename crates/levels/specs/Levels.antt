@@ -23,6 +23,13 @@ use Rattle.levels.specs.declared.Reached.the-variants as reached
 unfoldable pub letterAt : List ℕ → ℕ → ℕ → ℕ
 letterAt kind count i = cond (ltb i count) (getD kind i 0) (code "S")
 
+-- the first row from row i on that is no B row
+pub record BehindBlocks (kind : List ℕ) (count i r : ℕ) : Type 0 where
+  pub on : i ≤ r
+  pub inside : r ≤ count
+  pub blocks : (k : ℕ) → i ≤ k → k < r → getD kind k 0 ≡ code "B"
+  pub first : r < count → getD kind r 0 ≡ code "B" → ⊥
+
 -- how far it is to the end: a call is one more of those allowed, and else the walk goes back a level or on a row
 abbrev pub rank : ℕ → ℕ → ℕ → ℕ → ℕ
 rank count level i calls = (2 * (callsMost - calls) + level) * (rowsMost + 1) + (count - i)

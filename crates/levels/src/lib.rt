@@ -7,7 +7,7 @@ ghost use Prim.Native.Nat.{_<_, _≤_};
 ghost use lib.ListN.{length, getD};
 ghost use Rattle.model.specs.Limits.{choicesMost};
 ghost use Rattle.levels.specs.Options.{optionsOf, isCall, isNinth, sheetCalled, choicesBehind};
-ghost use Rattle.levels.specs.Levels.{letterAt, Sheets, Between, Reaches};
+ghost use Rattle.levels.specs.Levels.{letterAt, BehindBlocks, Sheets, Between, Reaches};
 
 // Where the walk comes to between two blocks: the level and row of the next block, with the calls made and the A rows met; the end of
 // sheet 0, with the A rows met; or a refusal's number and line.
@@ -85,6 +85,22 @@ fn start_of(start: &[u16], sheet: u8) -> usize
     start[n] as usize
 }
 
+// The first row from `row` on that is no B row: an empty block costs its row alone.
+fn behind_blocks(kind: &[u8], rows: usize, row: usize) -> usize
+    requires { ⌜ rows ≤ length (now kind) ⌝ }
+    requires { ⌜ row ≤ rows ⌝ }
+    ensures { λ r. ⌜ BehindBlocks (now (kind .entry)) rows row r ⌝ }
+{
+    let mut at = row;
+    while at < rows {
+        if kind[at] != b'B' {
+            return at;
+        }
+        at += 1;
+    }
+    at
+}
+
 // From a row on, the open block being empty, to the next row of a block: a B row changes nothing then; a call goes one level down,
 // with refusal 8 at level 8, else 9 at call 1,025, else 13 at the ninth A row; and where a sheet ends, the walk goes on behind the call
 // that was open. The options are those of a list of eight, as a number.
@@ -140,6 +156,6 @@ pub fn next_block(
             at = from[level] + 1;
             continue;
         }
-        at += 1;
+        at = behind_blocks(kind, rows, at + 1);
     }
 }

@@ -3,7 +3,7 @@
 use borrow.Author.Needs.{needs}
 use Rattle.levels.specs.Levels.{rank}
 use Rattle.levels.proofs.Choosing.{room-left}
-use Rattle.levels.proofs.Seeking.{Seeking, seeking-start, seeking-block, seeking-deep, seeking-calls, seeking-ninth, seeking-end, seeking-called, seeking-back, seeking-on, called-less, back-less, on-less, on-next, back-next, call-line, call-one, call-two, call-sheet}
+use Rattle.levels.proofs.Seeking.{Seeking, seeking-start, seeking-block, seeking-deep, seeking-calls, seeking-ninth, seeking-end, seeking-called, seeking-back, seeking-behind, called-less, back-less, behind-less, on-next, on-inside, back-next, call-line, call-one, call-two, call-sheet}
 use Rattle.levels.proofs.next_block.Statement.{statement}
 use Rattle.levels.proofs.next_block.Tie as tie
 
@@ -119,14 +119,17 @@ loop-less-2 c = search back-less
 loop-again-2 : tie.Need-loop-again-2 Inv-loop μ-loop
 loop-again-2 c = search seeking-back
 
-add-at-2 : tie.Need-add-at-2 Inv-loop μ-loop
-add-at-2 c = search (on-next, needs)
+add-behind-blocks : tie.Need-add-behind-blocks Inv-loop μ-loop
+add-behind-blocks c = search (on-next, needs)
+
+behind-blocks-requires : tie.Need-behind-blocks-requires Inv-loop μ-loop
+behind-blocks-requires c κs = search on-inside
 
 loop-less-3 : tie.Need-loop-less-3 Inv-loop μ-loop
-loop-less-3 c = search on-less
+loop-less-3 c = search behind-less
 
 loop-again-3 : tie.Need-loop-again-3 Inv-loop μ-loop
-loop-again-3 c = search seeking-on
+loop-again-3 c = search seeking-behind
 
 pub next-block-spec : {M : Type 1} → statement M
 next-block-spec =
@@ -169,6 +172,7 @@ next-block-spec =
     add-at
     loop-less-2
     loop-again-2
-    add-at-2
+    add-behind-blocks
+    behind-blocks-requires
     loop-less-3
     loop-again-3)

@@ -2,28 +2,26 @@
 -- Assumes nothing.
 use Prim.Native.Nat.{ℕ, _+_, _*_, _/_, _%_, _<_}
 use native.Mathlib.Omega.{arith}
-use mathlib.Core.Path.{_≡_, refl, sym, _∙_, ap, subst, subst₂, fun-ext}
+use mathlib.Core.Path.{_≡_, refl, sym, _∙_, ap, subst₂, fun-ext}
 use mathlib.Core.Bool.{Bool, true, false, cond, _&&_}
 use mathlib.Core.List.{List, []}
 use lib.Dec.{eqb, ltb}
 use lib.ListN.{getD}
 use borrow.Author.Tests.{lt-ltb, ltb-true, eq-eqb}
-use Rattle.model.specs.Refusal.{Out, ok, refusal, andThen, circleRefusal}
+use Rattle.model.specs.Refusal.{Out, ok, andThen}
 use Rattle.model.specs.Rows.{Row}
 use Rattle.model.specs.Expansion.{Walk, Progress, expand}
-use Rattle.model.specs.Order.{Event, sendOf, receiveOf, number, event, messageOf, isEvent, isOwn, isEarlier, Scenario, Met, exchangeOf, scenarioOf, hasCircle}
-use Rattle.model.specs.Answer.{withoutCircle}
-use Rattle.model.proofs.Bounded.{and-left, and-right, and-both, any-from, any-some}
+use Rattle.model.specs.Order.{Event, sendOf, receiveOf, number, event, messageOf, isEvent, isOwn, isEarlier, Scenario, Met, exchangeOf, scenarioOf}
+use Rattle.model.proofs.Bounded.{and-left, and-right, and-both}
 use Rattle.model.proofs.Events.{event-number, number-event, below-number, below-event}
 use Rattle.model.proofs.Order.{boardIn, own-parts, EarlierBlock, earlier-parts, before-row, before-own, before-earlier, before-transitive, before-least}
 use Rattle.model.proofs.Standing.{Fits}
 use Rattle.model.proofs.Walked.{Sound}
 use Rattle.model.proofs.Accepted.{board-at, rows-inside}
 use Rattle.relation.specs.Width.{width}
-use Rattle.relation.specs.Rows.{holds, anyOwn}
+use Rattle.relation.specs.Rows.{holds}
 use Rattle.relation.specs.Scenario.{scenarioIn}
 use Rattle.relation.proofs.Tests.{both-ways}
-use Rattle.relation.proofs.Own.{own-any, any-own}
 use Rattle.blocks.specs.Store.{Store, storeOps, concluded, countedWith}
 use Rattle.blocks.proofs.Sim.{Orders, Sim, Begins, inRow}
 use Rattle.blocks.proofs.Twin.{met, Match, going, stopped, expand-match}
@@ -157,30 +155,10 @@ module _ (w : Walk) (m : Met) (t : Store) (h : Sound (met w m)) (r : Sim w m t) 
     before = fun-ext (λ x. fun-ext (λ y. before-same x y)) i;
   }
 
-  -- and so is the circle test
-  circle-same : anyOwn width (t .words) (2 * w .count) ≡ hasCircle S
-  unfolding hasCircle Held scenarioOf exchangeOf
-  circle-same =
-      both-ways (anyOwn width (t .words) (2 * w .count)) (hasCircle S)
-      (λ p. let u = any-own width (t .words) (2 * w .count) p in
-      any-from (2 * w .count) (λ k. S .before (event k) (event k)) (u .0) (u .1) (r .least numbered before-orders (u .0) (u .0) (u .1) (u .1) (u .2)))
-      (λ p. let u = any-some (2 * w .count) (λ k. S .before (event k) (event k)) p in
-      own-any width (t .words) (2 * w .count) (u .0) (u .1)
-      (subst (λ (k : ℕ). inRow t k k ≡ true) (number-event (u .0)) (before-held (event (u .0)) (event (u .0)) (u .2) .2)))
-
--- a walk that ends, with the A rows that it met
-ended : (S : Scenario) (n : ℕ) (b : Bool)
-    → cond {A = Out (Scenario × ℕ)} b (refusal circleRefusal 0) (ok (S, n)) ≡ andThen (cond b (refusal circleRefusal 0) (ok S)) (λ S. ok (S, n))
-unfolding andThen
-ended S n true = refl
-ended S n false = refl
-
 match-concluded : {o : Out (Progress Met)} {o′ : Out (Progress Store)} → Match o o′
-    → andThen o′ concluded ≡ andThen o (λ s. andThen (withoutCircle (scenarioOf (exchangeOf s))) (λ S. ok (S, s .walk .choices)))
-unfolding andThen withoutCircle
-match-concluded (going {w = w} {m = m} {t = t} h r) =
-    rw (circle-same w m t h r, scenario-same w m t h r)
-    (ended (scenarioOf (exchangeOf (met w m))) (w .choices) (hasCircle (scenarioOf (exchangeOf (met w m)))))
+    → andThen o′ concluded ≡ andThen o (λ s. ok (scenarioOf (exchangeOf s), s .walk .choices))
+unfolding andThen
+match-concluded (going {w = w} {m = m} {t = t} h r) = rw (scenario-same w m t h r)
 match-concluded stopped = refl
 
 -- The rows of a sheet file that fits, walked with the store, give the scenario or the refusal of the paper.

@@ -2,16 +2,15 @@
 -- the open block there is behind. Each part says what the code does, list by list, for rows of any width W.
 -- Assumes nothing.
 use Prim.Native.Nat.{ℕ, zero, suc, _+_, _-_, _*_}
-use mathlib.Core.Bool.{Bool, cond}
+use mathlib.Core.Bool.{Bool}
 use mathlib.Core.List.{List}
 use lib.ListN.{getD, set}
-use Rattle.model.specs.Refusal.{Out, ok, refusal, andThen, circleRefusal}
+use Rattle.model.specs.Refusal.{Out, ok, andThen}
 use Rattle.model.specs.Rows.{Row}
 use Rattle.model.specs.Order.{Scenario, nothingMet, metOps, exchangeOf, scenarioOf}
-use Rattle.model.specs.Answer.{withoutCircle}
 use Rattle.model.specs.Expansion.{Ops, Progress, expand}
 use Rattle.relation.specs.Width.{width}
-use Rattle.relation.specs.Rows.{marked, joined, joinedFrom, copiedFrom, inserted, anyOwn}
+use Rattle.relation.specs.Rows.{marked, joined, joinedFrom, copiedFrom, inserted}
 use Rattle.relation.specs.Scenario.{scenarioIn}
 
 -- row p of `past` holds board p's events of earlier blocks and all before them
@@ -60,13 +59,10 @@ storeOps =
       withBlock = λ w t. record { events = t .events; words = t .words; past = passed width (t .past) (t .events) (t .words) (2 * w .first) (2 * w .count) };
     }
 
--- what a walk with the store ends in: the scenario, and the A rows met, unless an event is in its own row
+-- what a walk with the store ends in: the scenario, and the A rows met
 abbrev pub concluded : Progress Store → Out (Scenario × ℕ)
-concluded s =
-    cond (anyOwn width (s .kept .words) (2 * s .walk .count)) (refusal circleRefusal 0)
-    (ok (scenarioIn (s .walk .count) (s .kept .events) (s .kept .words), s .walk .choices))
+concluded s = ok (scenarioIn (s .walk .count) (s .kept .events) (s .kept .words), s .walk .choices)
 
 -- the scenario of the rows on a list of options, and the A rows that the walk meets
 unfoldable pub countedWith : List Bool → List Row → Out (Scenario × ℕ)
-countedWith options file =
-    andThen (expand metOps options file nothingMet) (λ s. andThen (withoutCircle (scenarioOf (exchangeOf s))) (λ S. ok (S, s .walk .choices)))
+countedWith options file = andThen (expand metOps options file nothingMet) (λ s. ok (scenarioOf (exchangeOf s), s .walk .choices))

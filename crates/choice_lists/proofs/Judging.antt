@@ -18,7 +18,7 @@ use Rattle.model.specs.Order.{Scenario, Met, exchangeOf, scenarioOf}
 use Rattle.model.specs.Channel.{channelOf}
 use Rattle.model.specs.Race.{raceRuleOf, lowestRace}
 use Rattle.model.specs.Schedule.{schedule}
-use Rattle.model.specs.Answer.{Answer, free, locked, refused, withoutCircle, expandedWith, verdictOf, answerFor}
+use Rattle.model.specs.Answer.{Answer, free, locked, refused, expandedWith, verdictOf, answerFor}
 use Rattle.model.specs.Choice.{ChoiceList, listsOf, ChoiceAnswer, firstLocked, refusalIn, lockIn}
 use Rattle.model.proofs.Refusal.{and-then-ok}
 use Rattle.model.proofs.Standing.{Fits, read-fits}
@@ -53,16 +53,15 @@ module _ (file : List Row) (l : List Bool) (c : ChoiceList file l) where
   same-walk : countedWith (optionsOf (placeOf l)) file ≡ countedWith l file
   unfolding countedWith
   same-walk =
-      ap (λ (o : List Bool). andThen (walkOn file o) (λ s. andThen (withoutCircle (scenarioOf (exchangeOf s))) (λ S. ok (S, s .walk .choices)))) (options-at l short)
-      ∙ ap (λ (w : Out (Progress Met)). andThen w (λ s. andThen (withoutCircle (scenarioOf (exchangeOf s))) (λ S. ok (S, s .walk .choices))))
+      ap (λ (o : List Bool). andThen (walkOn file o) (λ s. ok (scenarioOf (exchangeOf s), s .walk .choices))) (options-at l short)
+      ∙ ap (λ (w : Out (Progress Met)). andThen w (λ s. ok (scenarioOf (exchangeOf s), s .walk .choices)))
       (list-padded file l (padding l short) (c .whole) (padded-length l short))
 
   counted-choices : (S : Scenario) (n : ℕ) → countedWith l file ≡ ok (S, n) → n ≡ length l
   unfolding countedWith
   counted-choices S n e =
-      let d = and-then-ok (walkOn file l) (λ s. andThen (withoutCircle (scenarioOf (exchangeOf s))) (λ S. ok (S, s .walk .choices))) (S, n) e in
-      let f = and-then-ok (withoutCircle (scenarioOf (exchangeOf (d .0)))) (λ T. ok (T, d .0 .walk .choices)) (S, n) (d .2) in
-      let g : _≡_ {A = Scenario × ℕ} (f .0, d .0 .walk .choices) (S, n) = cc (f .2) in
+      let d = and-then-ok (walkOn file l) (λ s. ok (scenarioOf (exchangeOf s), s .walk .choices)) (S, n) e in
+      let g : _≡_ {A = Scenario × ℕ} (scenarioOf (exchangeOf (d .0)), d .0 .walk .choices) (S, n) = cc (d .2) in
       sym (ap (λ (p : Scenario × ℕ). p .1) g) ∙ list-count file (c .beginning) (d .0) (d .1)
 
   module _ (at : ℕ) (place : at ≡ placeOf l) (boards words : List ℕ) (r : Counted) (h : countedOf r boards words ≡ countedWith (optionsOf at) file) where

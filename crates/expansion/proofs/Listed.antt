@@ -8,7 +8,7 @@ use Rattle.model.specs.Rows.{Row}
 use Rattle.model.specs.Expansion.{Progress}
 use Rattle.model.specs.Expansion.{expand as expandRows}
 use Rattle.model.specs.Order.{Scenario, Met, metOps, nothingMet, exchangeOf, scenarioOf}
-use Rattle.model.specs.Answer.{withoutCircle, expandedWith}
+use Rattle.model.specs.Answer.{expandedWith}
 use Rattle.model.specs.Choice.{Plain}
 use Rattle.model.proofs.WithoutChoices.{expanded-plain}
 use Rattle.relation.specs.Scenario.{scenarioIn}
@@ -22,13 +22,9 @@ uncounted-same : (options : List Bool) (rows : List Row) → expandedWith option
 unfolding expandedWith countedWith andThen
 uncounted-same options rows = go (expandRows metOps options rows nothingMet)
   where
-    ended : (o : Out Scenario) (n : ℕ) → o ≡ andThen (andThen {B = Scenario × ℕ} o (λ S. ok (S, n))) (λ p. ok (p .0))
-    ended (ok S) n = refl
-    ended (refusal number line) n = refl
-
-    go : (o : Out (Progress Met)) → andThen o (λ s. withoutCircle (scenarioOf (exchangeOf s)))
-        ≡ andThen (andThen {B = Scenario × ℕ} o (λ s. andThen (withoutCircle (scenarioOf (exchangeOf s))) (λ S. ok (S, s .walk .choices)))) (λ p. ok (p .0))
-    go (ok u) = ended (withoutCircle (scenarioOf (exchangeOf u))) (u .walk .choices)
+    go : (o : Out (Progress Met)) → andThen o (λ s. ok (scenarioOf (exchangeOf s)))
+        ≡ andThen (andThen {B = Scenario × ℕ} o (λ s. ok (scenarioOf (exchangeOf s), s .walk .choices))) (λ p. ok (p .0))
+    go (ok u) = refl
     go (refusal number line) = refl
 
 module _ (boards words : List ℕ) (r : Counted) (options : List Bool) (rows : List Row) (h : countedOf r boards words ≡ countedWith options rows) where

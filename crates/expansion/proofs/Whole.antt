@@ -3,21 +3,19 @@
 use Prim.Native.Nat.{ℕ, _+_, _-_, _*_, _<_, _≤_}
 use native.Mathlib.Omega.{arith}
 use mathlib.Core.Path.{_≡_, refl, sym, _∙_, ap, subst}
-use mathlib.Core.Bool.{Bool, true, false, cond}
+use mathlib.Core.Bool.{true}
 use mathlib.Core.List.{List, _++_, append-nil}
 use lib.ListN.{length, getD, replicate, length-replicate, drop-of-length-le}
 use Rattle.model.specs.Limits.{boards, messagesMost, levels}
-use Rattle.model.specs.Refusal.{Out, ok, refusal, andThen, circleRefusal}
+use Rattle.model.specs.Refusal.{Out, ok, refusal, andThen}
 use Rattle.model.specs.Rows.{Row}
 use Rattle.model.specs.Place.{lineOf}
 use Rattle.model.specs.Expansion.{Progress, startOf, walkRows, callAt}
 use Rattle.model.specs.Expansion.{expand as expandRows}
-use Rattle.model.specs.Order.{Scenario}
 use Rattle.model.proofs.Lists.{replicate-at}
 use Rattle.model.proofs.Standing.{read-fits}
 use Rattle.relation.specs.Width.{width}
-use Rattle.relation.specs.Rows.{cleared, anyOwn}
-use Rattle.relation.specs.Scenario.{scenarioIn}
+use Rattle.relation.specs.Rows.{cleared}
 use Rattle.relation.proofs.Loops.{Clearing, clearing-end}
 use Rattle.sheet.specs.Bridge.{rowsOf}
 use Rattle.blocks.specs.Store.{Store, storeOf, storeOps, concluded, countedWith}
@@ -29,10 +27,9 @@ use Rattle.walk.proofs.Meeting.{in-rows, rows-drop}
 use Rattle.blocks.proofs.Sim.{Begins}
 use Rattle.blocks.proofs.Scenarios.{expanded-same}
 use Rattle.expansion.specs.Lent.{RowsRead}
-use Rattle.expansion.specs.Outcome.{countedOf, concludedAs, zeros}
+use Rattle.expansion.specs.Outcome.{countedOf, zeros}
 use Rattle.levels.specs.Options.{optionsOf}
 use Rattle.levels.specs.Levels.{after, idle, rest, rank, Between, Reaches}
-use Rattle.expansion.specs.declared.Counted.{Counted}
 use Rattle.expansion.specs.declared.Counted.the-variants as counted
 use Rattle.levels.specs.declared.Reached.{Reached}
 use Rattle.levels.specs.declared.Reached.the-variants as reached
@@ -48,14 +45,6 @@ cleared-zeros n l e =
 pub boards-zero : (l : List ℕ) (i : ℕ) (now : List ℕ) → Clearing (2 * messagesMost) l i now → 2 * messagesMost ≤ i → length l ≡ 2 * messagesMost
     → now ≡ zeros (2 * messagesMost)
 boards-zero l i now j h e = clearing-end (2 * messagesMost) l i now j h ∙ cleared-zeros (2 * messagesMost) l e
-
--- the circle test, by what the code's branch learned
-module _ (words : List ℕ) (count : ℕ) (r : Bool) (test : r ≡ anyOwn width words (2 * count)) where
-  pub circle-found : (choices : ℕ) → r ≡ true → counted.Refused circleRefusal 0 ≡ concludedAs (anyOwn width words (2 * count)) count choices
-  circle-found choices e = rw (sym test ∙ e)
-
-  pub circle-none : (choices : ℕ) → r ≡ false → counted.Messages count choices ≡ concludedAs (anyOwn width words (2 * count)) count choices
-  circle-none choices e = rw (sym test ∙ e)
 
 module _ (options : ℕ) (kind one two : List ℕ) (count : ℕ) where
   abbrev file : List Row
@@ -122,15 +111,9 @@ module _ (options : ℕ) (kind one two : List ℕ) (count : ℕ) where
     walking-stopped number line r = sym (r .exact (w .count) t) ∙ j .exact
 
     -- sheet 0 has ended
-    pub walking-end : (choices : ℕ) → Reached-as (reached.End choices) → (a : Counted) → a ≡ concludedAs (anyOwn width (t .words) (2 * w .count)) (w .count) choices
-        → countedOf a (t .events) (t .words) ≡ countedWith (optionsOf options) file
-    walking-end choices r a e =
-        ap (λ (x : Counted). countedOf x (t .events) (t .words)) e ∙ by-test (anyOwn width (t .words) (2 * w .count)) ∙ sym (r .exact (w .count) t) ∙ j .exact
-      where
-        by-test : (b : Bool) → countedOf (concludedAs b (w .count) choices) (t .events) (t .words)
-            ≡ cond {A = Out (Scenario × ℕ)} b (refusal circleRefusal 0) (ok (scenarioIn (w .count) (t .events) (t .words), choices))
-        by-test true = refl
-        by-test false = refl
+    pub walking-end : (choices : ℕ) → Reached-as (reached.End choices)
+        → countedOf (counted.Messages (w .count) choices) (t .events) (t .words) ≡ countedWith (optionsOf options) file
+    walking-end choices r = sym (r .exact (w .count) t) ∙ j .exact
 
     -- a block is walked
     module _ (level′ i′ calls choices : ℕ) (r : Reached-as (reached.Block level′ i′ calls choices)) where

@@ -1,5 +1,5 @@
 // The expansion of calls: rows in, and a list of options for their A rows; the messages that the walk meets and their causal order in
-// words, or refusal 8 to 11 or 13, out.
+// words, or refusal 8 to 10 or 13, out.
 use blocks::PAST;
 use levels::Reached;
 use walk::Walk;
@@ -11,12 +11,11 @@ ghost use Rattle.model.specs.Limits.{messagesMost};
 ghost use Rattle.model.specs.Answer.{expandedOf};
 ghost use Rattle.model.specs.Choice.{Plain};
 ghost use Rattle.relation.specs.Width.{width};
-ghost use Rattle.relation.specs.Rows.{anyOwn};
 ghost use Rattle.sheet.specs.Bridge.{rowsOf};
 ghost use Rattle.expansion.specs.Lent.{RowsRead};
 ghost use Rattle.blocks.specs.Store.{countedWith};
 ghost use Rattle.levels.specs.Options.{optionsOf};
-ghost use Rattle.expansion.specs.Outcome.{outcomeOf, countedOf, concludedAs, zeros};
+ghost use Rattle.expansion.specs.Outcome.{outcomeOf, countedOf, zeros};
 
 // So many messages are in boards and words; or the refusal's number and line.
 pub enum Expanded {
@@ -40,20 +39,8 @@ fn clear_boards(boards: &mut [u8])
     }
 }
 
-// The messages of a walk that is over, unless an event is before itself: refusal 11.
-fn without_circle(words: &[u64], count: usize, choices: usize) -> Counted
-    requires { ⌜ length (now words) ≡ 2 * messagesMost * width ⌝ }
-    requires { ⌜ count ≤ messagesMost ⌝ }
-    ensures { λ r. ⌜ r ≡ concludedAs (anyOwn width (now (words .entry)) (2 * count)) count choices ⌝ }
-{
-    if relation::circle(words, 2 * count) {
-        return Counted::Refused(model::CIRCLE, 0);
-    }
-    Counted::Messages(count, choices)
-}
-
 // The walk of sheet 0 and of all that it calls, block by block, on a list of eight options: the scenario in boards and words and the
-// A rows met, or refusal 8 to 11 or 13.
+// A rows met, or refusal 8 to 10 or 13.
 pub fn expand_list(
     kind: &[u8],
     one: &[u8],
@@ -90,7 +77,7 @@ pub fn expand_list(
             here.choices,
         ) {
             Reached::Stopped(number, line) => return Counted::Refused(number, line),
-            Reached::End(choices) => return without_circle(words, here.count, choices),
+            Reached::End(choices) => return Counted::Messages(here.count, choices),
             Reached::Block(deep, row, calls, choices) => {
                 let met = here.count;
                 let walk = Walk {
@@ -112,7 +99,7 @@ pub fn expand_list(
     }
 }
 
-// The walk of rows without an A row: the scenario in boards and words, or refusal 8 to 11.
+// The walk of rows without an A row: the scenario in boards and words, or refusal 8 to 10.
 pub fn expand(
     kind: &[u8],
     one: &[u8],

@@ -13,7 +13,7 @@ use mir.Val.{Fits}
 use borrow.Author.Tests.{lt-ltb, eqb-true, eqb-false}
 use Rattle.model.specs.Limits.{levels, callsMost}
 use Rattle.model.specs.Refusal.{depthRefusal, callsRefusal, choicesRefusal}
-use Rattle.model.specs.Rows.{Row, block, call}
+use Rattle.model.specs.Rows.{Row}
 use Rattle.model.specs.Place.{lineOf}
 use Rattle.model.specs.Expansion.{startOf}
 use Rattle.model.proofs.Bounded.{not-both}

@@ -13,8 +13,8 @@ use Rattle.model.specs.Refusal.{ok, andThen}
 use Rattle.model.specs.Rows.{Row}
 use Rattle.model.specs.Place.{readOf}
 use Rattle.model.specs.Expansion.{Progress, expand}
-use Rattle.model.specs.Order.{Event, sendOf, receiveOf, number, boardOf, Scenario, Met, nothingMet, metOps, exchangeOf, scenarioOf, board, hasCircle}
-use Rattle.model.specs.Answer.{withoutCircle, expandedWith, expandedOf, exchangeWith, sheetOf, exchangeMet, acceptedOf}
+use Rattle.model.specs.Order.{Event, sendOf, receiveOf, number, boardOf, Scenario, Met, nothingMet, metOps, exchangeOf, scenarioOf, board}
+use Rattle.model.specs.Answer.{expandedWith, expandedOf, exchangeWith, sheetOf, exchangeMet, acceptedOf}
 use Rattle.model.specs.Verdict.{IsMet, Meets}
 use Rattle.model.proofs.Bounded.{not-both}
 use Rattle.model.proofs.Events.{below-number}
@@ -23,20 +23,20 @@ use Rattle.model.proofs.Causal.{Causal}
 use Rattle.model.proofs.Order.{boardIn, RowsInside, RowsOnOneBoard, before-exact, causal}
 use Rattle.model.proofs.Standing.{Fits, read-fits}
 use Rattle.model.proofs.Walked.{Sound, expanded-sound}
+use Rattle.model.proofs.Clean.{Clean, read-clean}
+use Rattle.model.proofs.NoCircle.{walk-no-circle}
 
 -- what the scenario of a walk on a list of options comes from
 pub record WalkParts (options : List Bool) (rows : List Row) (S : Scenario) : Type 0 where
   pub walked : Progress Met
   pub expanded : expand metOps options rows nothingMet ≡ ok walked
   pub scenario : scenarioOf (exchangeOf walked) ≡ S
-  pub noCircle : hasCircle (scenarioOf (exchangeOf walked)) ≡ false
 
 pub walk-parts : (options : List Bool) (rows : List Row) (S : Scenario) → expandedWith options rows ≡ ok S → WalkParts options rows S
-unfolding expandedWith withoutCircle
+unfolding expandedWith
 walk-parts options rows S e =
-    let d = and-then-ok (expand metOps options rows nothingMet) (λ s. withoutCircle (scenarioOf (exchangeOf s))) S e in
-    let f = cond-refused (hasCircle (scenarioOf (exchangeOf (d .0)))) _ _ _ S (d .2) in
-    record { walked = d .0; expanded = d .1; scenario = cc (f .1); noCircle = f .0 }
+    let d = and-then-ok (expand metOps options rows nothingMet) (λ s. ok (scenarioOf (exchangeOf s))) S e in
+    record { walked = d .0; expanded = d .1; scenario = cc (d .2) }
 
 -- what the scenario of a text comes from
 pub record SheetParts (text : List ℕ) (S : Scenario) : Type 0 where
@@ -100,11 +100,13 @@ module _ (options : List Bool) (rows : List Row) (fits : Fits [] rows) (S : Scen
   pub walk-sound : Sound (walk-parts options rows S e .walked)
   walk-sound = let a = walk-parts options rows S e in expanded-sound options rows fits (a .walked) (a .expanded)
 
-  pub walk-causal : Causal S
-  walk-causal =
+  -- and, where no block has a circle, no event is before itself
+  pub walk-causal : Clean 0 [] rows → Causal S
+  walk-causal clean =
       let a = walk-parts options rows S e in
       subst Causal (a .scenario)
-      (causal (exchangeOf (a .walked)) (rows-inside (a .walked) walk-sound) (rows-on-one-board (a .walked) walk-sound) (a .noCircle))
+      (causal (exchangeOf (a .walked)) (rows-inside (a .walked) walk-sound) (rows-on-one-board (a .walked) walk-sound)
+      (walk-no-circle options rows fits clean (a .walked) (a .expanded)))
 
   pub walk-count : S .count ≤ messagesMost
   unfolding scenarioOf exchangeOf
@@ -141,7 +143,7 @@ module _ (text : List ℕ) (S : Scenario) (e : sheetOf text ≡ ok S) where
   sheet-rows-fit = let a = sheet-parts text S e in read-fits false text (a .rows) (a .read)
 
   pub sheet-causal : Causal S
-  sheet-causal = let a = sheet-parts text S e in walk-causal [] (a .rows) sheet-rows-fit S (a .whole)
+  sheet-causal = let a = sheet-parts text S e in walk-causal [] (a .rows) sheet-rows-fit S (a .whole) (read-clean false text (a .rows) (a .read))
 
   pub sheet-count : S .count ≤ messagesMost
   sheet-count = let a = sheet-parts text S e in walk-count [] (a .rows) sheet-rows-fit S (a .whole)

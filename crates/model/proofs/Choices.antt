@@ -22,15 +22,16 @@ use Rattle.model.specs.Choice.{ChoiceList, listsOf, Ahead, Among, InOrde
 use Rattle.model.proofs.Refusal.{not-refused, cond-ok, cond-refused}
 use Rattle.model.proofs.Standing.{Fits, read-fits}
 use Rattle.model.proofs.Causal.{Causal}
+use Rattle.model.proofs.Clean.{Clean, read-clean}
 use Rattle.model.proofs.Accepted.{or-false, walk-causal, walk-meets}
 use Rattle.model.proofs.PointThree.{Decided, isFree, isLocked, decided, verdict-for}
 use Rattle.model.proofs.ChoiceLists.{ahead-one-way, all-lists}
 
-module _ (file : List Row) (fits : Fits [] file) (code : ℕ) (known : code < channels) where
+module _ (file : List Row) (fits : Fits [] file) (clean : Clean 0 [] file) (code : ℕ) (known : code < channels) where
   -- the verdict on the scenario of one list
   list-verdict : (l : List Bool) (S : Scenario) → expandedWith l file ≡ ok S → (trace : List ℕ)
       → Verdict S code (numbersOf (verdictOf S code)) (traceAfter (verdictOf S code) trace)
-  list-verdict l S e trace = let C = walk-causal l file fits S e in verdict-for S C code known (verdictOf S code) (decided S C code known) trace
+  list-verdict l S e trace = let C = walk-causal l file fits S e clean in verdict-for S C code known (verdictOf S code) (decided S C code known) trace
 
   list-as : (l : List Bool) (S : Scenario) (a : Answer) → expandedWith l file ≡ ok S → verdictOf S code ≡ a → (trace : List ℕ)
       → Verdict S code (numbersOf a) (traceAfter a trace)
@@ -176,7 +177,7 @@ module _ (file : List Row) (fits : Fits [] file) (code : ℕ) (known : code < ch
                 a;
           }
       go (refused number line) i b f =
-          let C = walk-causal l file fits S here in absurd (never-refused S C (verdictOf S code) (decided S C code known) number line i)
+          let C = walk-causal l file fits S here clean in absurd (never-refused S C (verdictOf S code) (decided S C code known) number line i)
 
   -- The answer over all lists of the file.
   module _ (trace : List ℕ) where
@@ -300,4 +301,4 @@ unfolding choiceAnswerOf choiceAnswerFor
 choice-right text code scratchLength trace file e =
     let a = choosable-parts text code scratchLength (length trace) file e in
     subst⁻¹ (λ (o : Out (List Row)). ChoiceVerdict file code (choiceNumbers (choiceAnswerFor o code)) (traceChosen (choiceAnswerFor o code) trace)) e
-    (judged-right file (read-fits true text file (a .read)) code (a .codeKnown) trace)
+    (judged-right file (read-fits true text file (a .read)) (read-clean true text file (a .read)) code (a .codeKnown) trace)

@@ -12,16 +12,15 @@ use borrow.Author.Tests.{eq-eqb, lt-ltb}
 use Rattle.model.specs.Limits.{rowsMost, boards, messagesMost}
 use Rattle.model.specs.Closure.{listed}
 use Rattle.model.specs.Refusal.{Out, ok, refusal, andThen, messagesRefusal}
-use Rattle.model.specs.Rows.{sheet, order}
 use Rattle.model.specs.Expansion.{Progress, startOf, messageMet, orderMet, walkRows, expand}
-use Rattle.model.specs.Order.{Event, sendOf, receiveOf, number, event, messageOf, Exchange, isOwn, isEarlier, Scenario, scenarioOf, board, hasCircle, Met, nothingMet, metOps, exchangeOf}
-use Rattle.model.specs.Answer.{withoutCircle, expandedWith, sheetOf}
+use Rattle.model.specs.Order.{Event, sendOf, receiveOf, number, messageOf, Exchange, isOwn, isEarlier, Scenario, scenarioOf, board, Met, nothingMet, metOps, exchangeOf}
+use Rattle.model.specs.Answer.{expandedWith, sheetOf}
 use Rattle.model.specs.Cure.{isOwnPair, curedBefore, isWritten, ordersBelow, curedRows, curedText, SameMessages}
-use Rattle.model.proofs.Bounded.{or-cases, or-left, which, not-both, any-some}
+use Rattle.model.proofs.Bounded.{or-cases, or-left, not-both}
 use Rattle.model.proofs.Events.{event-number, below-number}
 use Rattle.model.proofs.Causal.{Causal}
 use Rattle.model.proofs.Order.{RowsInside, own-parts, earlier-parts, before-row, before-own, before-transitive, before-least}
-use Rattle.model.proofs.Cured.{cured-trans, cured-irreflexive, cured-own, own-pair-from, own-pair-parts, chain}
+use Rattle.model.proofs.Cured.{cured-trans, cured-own, own-pair-from, own-pair-parts, chain}
 use Rattle.model.proofs.WrittenBack.{IsRow, listed-written, eventsTo, events-at, messagesFrom, ordersRead, rowsWritten, cured-read, written-cured, written-row}
 
 -- the P rows as the walk keeps them, the last first
@@ -152,20 +151,10 @@ module _ (S : Scenario) (C : Causal S) (few : S .count ≤ messagesMost) (low : 
     chain S C (λ a b. scenarioOf met .before a b ≡ true) written-before own-before (before-transitive met) x y,
   )
 
-  cured-no-circle : hasCircle (scenarioOf met) ≡ false
-  unfolding hasCircle
-  cured-no-circle =
-      ⊎-elim
-      (λ t.
-      let k = any-some (2 * scenarioOf met .count) (λ i. scenarioOf met .before (event i) (event i)) t in
-      absurd (cured-irreflexive S C (event (k .0)) (cured-met (event (k .0)) (event (k .0)) .0 (k .2))))
-      (λ f. f)
-      (which (hasCircle (scenarioOf met)))
-
   -- So the text is accepted, with the same messages.
   pub cured-sheet : length (curedRows S) ≤ rowsMost → sheetOf (curedText S) ≡ ok (scenarioOf met)
-  unfolding sheetOf expandedWith withoutCircle andThen
-  cured-sheet fits = rw (cured-read S C few low fits, cured-walked, cured-no-circle)
+  unfolding sheetOf expandedWith andThen
+  cured-sheet fits = rw (cured-read S C few low fits, cured-walked)
 
   pub cured-messages : SameMessages S (scenarioOf met)
   unfolding scenarioOf exchangeOf

@@ -7,8 +7,10 @@ pub mod Block
 pub mod Order
 pub mod Refusal
 pub mod Standing
+pub mod Walks
 pub mod Walked
 pub mod Clean
+pub mod NoCircle
 pub mod Causal
 pub mod Accepted
 pub mod Lines

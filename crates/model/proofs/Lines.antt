@@ -15,8 +15,8 @@ use Rattle.model.specs.Text.{Line, Columns, linesOf, headingOf}
 use Rattle.model.specs.Rows.{Row, sheet, message, order, block, call, choice, rowOf}
 use Rattle.model.specs.Place.{Place, outside, placed, circleAt, lineOf, judged, rowsFrom, opens, strayCall, complete, bodyOf, readWith, readOf}
 use Rattle.model.specs.Expansion.{Ops, Progress, startOf, blockOpened, taken, callMade, messageMet, orderMet, walkRows, callAt, expand}
-use Rattle.model.specs.Order.{metOps, nothingMet, exchangeOf, scenarioOf, hasCircle}
-use Rattle.model.specs.Answer.{withoutCircle, expandedWith, expandedOf, sheetOf}
+use Rattle.model.specs.Order.{metOps, nothingMet, exchangeOf, scenarioOf}
+use Rattle.model.specs.Answer.{expandedWith, expandedOf, sheetOf}
 use Rattle.model.proofs.Refusal.{not-refused}
 
 -- a refusal's number is over 2 and at most 13, and its line at most the one given
@@ -240,12 +240,10 @@ module _ {T : Type 0} (ops : Ops T) (options : List Bool) (file : List Row) (few
   expand-well t = walk-well (callAt ops options levels file) (calls-well levels) (drop (startOf 0 file) file) (lineOf (startOf 0 file)) _ (body-within 0)
 
 pub expanded-well : (options : List Bool) (file : List Row) → length file ≤ rowsMost → Well (lineOf rowsMost) (expandedWith options file)
-unfolding expandedWith withoutCircle
+unfolding expandedWith
 expanded-well options file h =
-    well-then (lineOf rowsMost) (expand metOps options file nothingMet) (λ s. withoutCircle (scenarioOf (exchangeOf s)))
-    (expand-well metOps options file h nothingMet)
-    (λ s e. well-cond (lineOf rowsMost) (hasCircle (scenarioOf (exchangeOf s))) (refusal circleRefusal 0) (ok (scenarioOf (exchangeOf s)))
-    (λ t. record { behind = omega arith; known = omega arith; within = omega arith }) (λ f. tt))
+    well-then (lineOf rowsMost) (expand metOps options file nothingMet) (λ s. ok (scenarioOf (exchangeOf s)))
+    (expand-well metOps options file h nothingMet) (λ s e. tt)
 
 -- the scenario of a text, or a refusal named well
 pub sheet-well : (text : List ℕ) → Well (lineOf rowsMost) (sheetOf text)

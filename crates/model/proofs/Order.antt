@@ -5,18 +5,11 @@ use mathlib.Core.Logic.{_⊎_, inl, inr, ⊎-elim, _↔_}
 use mathlib.Core.Bool.{Bool, true, false, _&&_, _||_}
 use lib.Dec.{eqb, ltb}
 use borrow.Author.Tests.{eqb-true, eq-eqb, ltb-true, lt-ltb}
-use Rattle.model.specs.Order.{Event, sendOf, receiveOf, number, event, messageOf, Exchange, boardOf, isEvent, isOwn, isEarlier, Before, row, own, earlier, link, direct, beforeTable, Scenario, scenarioOf, atOrBefore, hasCircle}
-use Rattle.model.proofs.Bounded.{and-left, and-right, and-both, or-cases, or-left, or-right, not-both, any-none}
+use Rattle.model.specs.Order.{Event, sendOf, receiveOf, number, event, messageOf, Exchange, boardOf, isEvent, isOwn, isEarlier, Before, row, own, earlier, link, direct, beforeTable, scenarioOf, atOrBefore}
+use Rattle.model.proofs.Bounded.{and-left, and-right, and-both, or-cases, or-left, or-right, not-both}
 use Rattle.model.proofs.Events.{event-number, below-number, at-or-before-cases, at-or-before-same, at-or-before-before}
 use Rattle.model.proofs.Closure.{linked-below, closure-holds, closure-transitive, closure-least}
 use Rattle.model.proofs.Causal.{LastLink, Causal}
-
--- no event is before itself, unless the scenario has a circle
-pub no-circle : (S : Scenario) → hasCircle S ≡ false → (x : Event) → messageOf x < S .count → S .before x x ≡ false
-unfolding hasCircle
-no-circle S h x l =
-    subst (λ (y : Event). S .before y y ≡ false) (event-number x)
-    (any-none (2 * S .count) (λ k. S .before (event k) (event k)) h (number x) (below-number x (S .count) .0 l))
 
 module _ (E : Exchange) where
   -- the board of an event
@@ -183,15 +176,14 @@ module _ (E : Exchange) where
   unfolding isOwn
   own-both m h = and-both (eqb m m) (ltb m (E .count)) (eq-eqb m m refl) (lt-ltb m (E .count) h)
 
-  -- all that the theorem uses of "before"
-  pub causal : RowsInside → RowsOnOneBoard → hasCircle (scenarioOf E) ≡ false → Causal (scenarioOf E)
+  -- all that the theorem uses of "before", where no event is before itself
+  pub causal : RowsInside → RowsOnOneBoard → ((x : Event) → Before E x x → ⊥) → Causal (scenarioOf E)
   unfolding scenarioOf
   causal inside oneBoard noCircle =
       record {
         inside = before-inside;
         own = λ m h. before-own (sendOf m) (receiveOf m) (own-both m h);
         trans = before-transitive;
-        irreflexive = λ x b.
-            not-both (scenarioOf E .before x x) b (no-circle (scenarioOf E) noCircle x (before-inside x x b .0));
+        irreflexive = λ x b. noCircle x (before-relation x x b);
         lastLink = λ x y h. relation-last inside oneBoard (before-relation x y h);
       }

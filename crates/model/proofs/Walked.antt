@@ -7,20 +7,20 @@ use mathlib.Core.Path.{_≡_, refl, sym, _∙_, ap, subst, subst₂}
 use mathlib.Core.Logic.{⊎-elim}
 use mathlib.Core.Bool.{Bool, true, false, not, _&&_}
 use mathlib.Core.List.{List, [], _∷_, _++_}
-use lib.Dec.{eqb, leb, ltb}
+use lib.Dec.{eqb, ltb}
 use lib.ListN.{length, getD, drop, length-append, length-drop, List·getD-append, drop-of-length-le}
 use lib.Seq.{getD-drop, drop-append-le, getD-at}
 use borrow.Author.Tests.{ltb-true, ltb-false, eqb-true, eqb-false, not-true}
-use Rattle.model.specs.Limits.{boards, messagesMost, levels, callsMost}
-use Rattle.model.specs.Refusal.{Out, ok, refusal, callsRefusal, messagesRefusal, choicesRefusal}
-use Rattle.model.specs.Rows.{Row, sheet, message, order, block, call, choice}
-use Rattle.model.specs.Place.{withMessage, messageFits, orderFits, lineOf}
-use Rattle.model.specs.Expansion.{freshWalk, Progress, startOf, blockOpened, taken, callMade, messageMet, orderMet, walkRows, callAt, expand}
+use Rattle.model.specs.Limits.{boards, messagesMost, callsMost}
+use Rattle.model.specs.Refusal.{ok}
+use Rattle.model.specs.Rows.{Row, message, order}
+use Rattle.model.specs.Place.{withMessage, messageFits, orderFits}
+use Rattle.model.specs.Expansion.{freshWalk, Progress, blockOpened, callMade, messageMet, orderMet, expand}
 use Rattle.model.specs.Closure.{listed}
 use Rattle.model.specs.Order.{Met, nothingMet, metOps}
 use Rattle.model.proofs.Bounded.{and-left, and-right, or-cases, which, not-both}
-use Rattle.model.proofs.Refusal.{not-refused, and-then-ok}
 use Rattle.model.proofs.Standing.{Fits, sheet-fits}
+use Rattle.model.proofs.Walks.{Kept, walk-keeps}
 
 -- two different events on one board, by the board of each event
 pub record OnOneBoard (events : List ℕ) (x y : ℕ) : Type 0 where
@@ -204,76 +204,28 @@ sound-call byChoice s h room =
       earlierBlocks = h .earlierBlocks;
     }
 
--- a part that calls keeps it
-abbrev pub Keeps : (Bool → ℕ → ℕ → Progress Met → Out (Progress Met)) → Type 0
-Keeps callOf = (byChoice : Bool) (n line : ℕ) (s t : Progress Met) → Sound s → callOf byChoice n line s ≡ ok t → Sound t
+pub opened-call : (byChoice : Bool) (s : Progress Met) (e : List ℕ) → Opened s e → Opened (callMade metOps byChoice s) e
+unfolding callMade
+opened-call byChoice s e o = o
 
-module _ (options : List Bool) where
-  -- the rows of a sheet, if the calls in them do
-  pub walk-sound : (callOf : Bool → ℕ → ℕ → Progress Met → Out (Progress Met)) → Keeps callOf
-      → (e : List ℕ) (rs : List Row) (line : ℕ) (s t : Progress Met) → Fits e rs → Sound s → Opened s e
-      → walkRows metOps options callOf rs line s ≡ ok t
-      → Sound t
-  unfolding walkRows
-  walk-sound callOf keeps e [] line s t f h o w = let same : s ≡ t = cc in subst Sound same h
-  walk-sound callOf keeps e (sheet n ∷ rs) line s t f h o w = let same : s ≡ t = cc in subst Sound same h
-  walk-sound callOf keeps e (message a b ∷ rs) line s t f h o w = go (ltb (s .walk .count) messagesMost) refl w
-      (walk-sound callOf keeps (withMessage e a b) rs (suc line) (messageMet metOps a b s) t (f .1))
-    where
-      go : (c : Bool) → ltb (s .walk .count) messagesMost ≡ c
-          → elim c [ true ↦ walkRows metOps options callOf rs (suc line) (messageMet metOps a b s) | false ↦ refusal messagesRefusal line ] ≡ ok t
-          → (Sound (messageMet metOps a b s) → Opened (messageMet metOps a b s) (withMessage e a b)
-          → walkRows metOps options callOf rs (suc line) (messageMet metOps a b s) ≡ ok t → Sound t)
-          → Sound t
-      go true room w behind =
+-- every row keeps it, where the rows fit the open block's events
+abbrev pub sound-kept : Kept (List ℕ) Fits (λ (e : List ℕ) (s : Progress Met). Sound s × Opened s e)
+sound-kept =
+    record {
+      empty = [];
+      withMessage = withMessage;
+      withOrder = λ e x y. e;
+      message = λ e a b rs s f h room.
           let p = message-parts e a b (f .0) in
-          behind (sound-message s a b h (p .0) (p .1) (ltb-true (s .walk .count) messagesMost room)) (opened-message s a b h e o) w
-      go false room w behind = not-refused w
-  walk-sound callOf keeps e (order x y ∷ rs) line s t f h o w =
-      walk-sound callOf keeps e rs (suc line) (orderMet metOps x y s) t (f .1)
-      (sound-order s x y e h o (order-parts e x y (f .0))) (opened-order s x y e o) w
-  walk-sound callOf keeps e (block ∷ rs) line s t f h o w =
-      walk-sound callOf keeps [] rs (suc line) (blockOpened metOps s) t f (sound-block s h) (opened-block s h) w
-  walk-sound callOf keeps e (call n ∷ rs) line s t f h o w =
-      let c = and-then-ok (callOf false n line s) (λ s′. walkRows metOps options callOf rs (suc line) (blockOpened metOps s′)) t w in
-      let g = keeps false n line s (c .0) h (c .1) in
-      walk-sound callOf keeps [] rs (suc line) (blockOpened metOps (c .0)) t f (sound-block (c .0) g) (opened-block (c .0) g) (c .2)
-  walk-sound callOf keeps e (choice m n ∷ rs) line s t f h o w =
-      let k = taken options (s .walk .choices) m n in
-      let c = and-then-ok (callOf true k line s) (λ s′. walkRows metOps options callOf rs (suc line) (blockOpened metOps s′)) t w in
-      let g = keeps true k line s (c .0) h (c .1) in
-      walk-sound callOf keeps [] rs (suc line) (blockOpened metOps (c .0)) t f (sound-block (c .0) g) (opened-block (c .0) g) (c .2)
+          (f .1, (sound-message s a b (h .0) (p .0) (p .1) room, opened-message s a b (h .0) e (h .1)));
+      order = λ e x y rs s f h. (f .1, (sound-order s x y e (h .0) (h .1) (order-parts e x y (f .0)), opened-order s x y e (h .1)));
+      opened = λ e s h. (sound-block s (h .0), opened-block s (h .0));
+      made = λ e byChoice s h room. (sound-call byChoice s (h .0) room, opened-call byChoice s e (h .1));
+      behindBlock = λ e rs f. f;
+      behindCall = λ e n rs f. f;
+      behindChoice = λ e m n rs f. f;
+    }
 
-  module _ (file : List Row) (fits : Fits [] file) where
-    -- so each level of calls keeps it
-    pub call-sound : (left : ℕ) → Keeps (callAt metOps options left file)
-    unfolding callAt
-    call-sound zero byChoice n line s t h w = not-refused w
-    call-sound (suc left) byChoice n line s t h w =
-        go (ltb (s .walk .calls) callsMost) refl (byChoice && leb (length options) (s .walk .choices)) w (call-sound left)
-      where
-        go : (c : Bool) → ltb (s .walk .calls) callsMost ≡ c → (d : Bool)
-            → elim c [
-              | true ↦ elim d [
-                | true ↦ refusal choicesRefusal line
-                | false ↦ walkRows metOps options (callAt metOps options left file) (drop (startOf n file) file) (lineOf (startOf n file))
-                    (blockOpened metOps (callMade metOps byChoice s))
-              ]
-              | false ↦ refusal callsRefusal line
-            ] ≡ ok t
-            → Keeps (callAt metOps options left file)
-            → Sound t
-        go true room true w keeps = not-refused w
-        go true room false w keeps =
-            let g = sound-call byChoice s h (ltb-true (s .walk .calls) callsMost room) in
-            walk-sound (callAt metOps options left file) keeps [] (drop (startOf n file) file) (lineOf (startOf n file))
-            (blockOpened metOps (callMade metOps byChoice s)) t
-            (sheet-fits n [] file fits) (sound-block (callMade metOps byChoice s) g) (opened-block (callMade metOps byChoice s) g) w
-        go false room d w keeps = not-refused w
-
-    -- and so does the whole walk
-    pub expanded-sound : (s : Progress Met) → expand metOps options file nothingMet ≡ ok s → Sound s
-    unfolding expand
-    expanded-sound s w =
-        walk-sound (callAt metOps options levels file) (call-sound levels) [] (drop (startOf 0 file) file) (lineOf (startOf 0 file))
-        (record { walk = freshWalk; kept = nothingMet }) s (sheet-fits 0 [] file fits) sound-start refl w
+-- so it holds of the whole walk
+pub expanded-sound : (options : List Bool) (file : List Row) → Fits [] file → (s : Progress Met) → expand metOps options file nothingMet ≡ ok s → Sound s
+expanded-sound options file fits s w = walk-keeps sound-kept options file (λ n. sheet-fits n [] file fits) s (sound-start, refl) w .1 .0

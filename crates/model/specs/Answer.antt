@@ -7,25 +7,21 @@ use mathlib.Core.Option.{none, some}
 use lib.Dec.{ltb, leb}
 use lib.ListN.{length, drop, replicate}
 use Rattle.model.specs.Limits.{channels, scratchLeast, traceLeast}
-use Rattle.model.specs.Refusal.{Out, ok, refusal, andThen, channelRefusal, benchRefusal, circleRefusal}
+use Rattle.model.specs.Refusal.{Out, ok, refusal, andThen, channelRefusal, benchRefusal}
 use Rattle.model.specs.Rows.{Row}
 use Rattle.model.specs.Place.{readOf}
 use Rattle.model.specs.Expansion.{expand}
-use Rattle.model.specs.Order.{Exchange, Scenario, nothingMet, metOps, exchangeOf, scenarioOf, hasCircle}
+use Rattle.model.specs.Order.{Exchange, Scenario, nothingMet, metOps, exchangeOf, scenarioOf}
 use Rattle.model.specs.Channel.{channelOf}
 use Rattle.model.specs.Run.{Step}
 use Rattle.model.specs.Race.{raceRuleOf, lowestRace}
 use Rattle.model.specs.Schedule.{schedule, bytesOf}
 
--- the scenario, unless an event is before itself (refusal 11)
-unfoldable pub withoutCircle : Scenario → Out Scenario
-withoutCircle S = cond (hasCircle S) (refusal circleRefusal 0) (ok S)
-
--- the scenario of the rows read, on a list of options, or refusal 8 to 11 or 13
+-- the scenario of the rows read, on a list of options, or refusal 8 to 10 or 13; that it has no circle is a theorem (specs/NoCircle)
 unfoldable pub expandedWith : List Bool → List Row → Out Scenario
-expandedWith options file = andThen (expand metOps options file nothingMet) (λ s. withoutCircle (scenarioOf (exchangeOf s)))
+expandedWith options file = andThen (expand metOps options file nothingMet) (λ s. ok (scenarioOf (exchangeOf s)))
 
--- the scenario of rows without an A row, which no list is asked for: refusal 8 to 11
+-- the scenario of rows without an A row, which no list is asked for: refusal 8 to 10
 abbrev pub expandedOf : List Row → Out Scenario
 expandedOf file = expandedWith [] file
 

@@ -12,6 +12,7 @@ pub mod Run
 pub mod Race
 pub mod Schedule
 pub mod Answer
+pub mod NoCircle
 pub mod Verdict
 pub mod Replay
 pub mod Waits

@@ -6,7 +6,6 @@ use mathlib.Core.Bool.{Bool, true, false, cond, _&&_, _||_}
 use mathlib.Core.List.{List, [], _∷_, _++_}
 use lib.Dec.{eqb, ltb}
 use lib.ListN.{getD}
-use Rattle.model.specs.Bounded.{any}
 use Rattle.model.specs.Closure.{listed, reads, linked}
 use Rattle.model.specs.Expansion.{Ops, Progress}
 
@@ -91,10 +90,6 @@ board S x = boardOf (S .source) (S .target) x
 -- "at or before" adds equality
 unfoldable pub atOrBefore : Scenario → Event → Event → Bool
 atOrBefore S x y = eqb (number x) (number y) || S .before x y
-
--- an event is before itself (refusal 11)
-unfoldable pub hasCircle : Scenario → Bool
-hasCircle S = any (2 * S .count) (λ k. S .before (event k) (event k))
 
 -- What the walk collects for the exchange: the board of each event, the block of each message, the P rows by event number,
 -- and the number of the open block.

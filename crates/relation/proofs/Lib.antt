@@ -5,7 +5,6 @@ pub mod Marked
 pub mod Joined
 pub mod Inserted
 pub mod Cleared
-pub mod Own
 pub mod Closed
 pub mod Scenario
 pub mod Loops

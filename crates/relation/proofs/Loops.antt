@@ -5,7 +5,6 @@ use mathlib.Core.Bool.{Bool, true, false}
 use mathlib.Core.List.{List}
 use Prim.Native.Nat.{ℕ, suc, _+_, _-_, _*_, _<_, _≤_}
 use native.Mathlib.Nat.{le-antisymm, sub-self}
-use native.Mathlib.Numerals.{add-one}
 use native.Mathlib.Omega.{arith}
 use lib.Bits.{bitOr}
 use lib.Dec.{eqb}
@@ -13,11 +12,10 @@ use lib.ListN.{length, getD, set, length-set}
 use borrow.Author.Fill.{fill-none, fill-more}
 use borrow.Author.Tests.{eq-eqb, ne-eqb}
 use Rattle.model.proofs.Bounded.{or-right}
-use Rattle.relation.specs.Rows.{holds, marked, merged, joined, behind, insertedAt, insertedIn, inserted, cleared, anyOwn}
+use Rattle.relation.specs.Rows.{holds, marked, merged, joined, behind, insertedAt, insertedIn, inserted, cleared}
 use Rattle.relation.proofs.Place.{word-column}
 use Rattle.relation.proofs.Joined.{merged-outside, merged-more}
 use Rattle.relation.proofs.Inserted.{length-inserted-at}
-use Rattle.relation.proofs.Own.{own-any}
 
 -- What the loop of a join or a copy keeps: the first n words of the row are merged with theirs.
 pub record Merging (op : ℕ → ℕ → ℕ) (W n : ℕ) (l : List ℕ) (a : ℕ) (other : List ℕ) (b : ℕ) (words : List ℕ) : Type 0 where
@@ -134,15 +132,3 @@ clearing-more count l n words j h room =
 
 pub clearing-end : (count : ℕ) (l : List ℕ) (n : ℕ) (words : List ℕ) → Clearing count l n words → count ≤ n → words ≡ cleared count l
 clearing-end count l n words j h = j .exact ∙ ap (λ (m : ℕ). cleared m l) (le-antisymm (j .most) h)
-
-module _ (W : ℕ) (l : List ℕ) where
-  -- what the turns of the loop say: the row at hand holds its own event, or it too does not
-  pub own-found : (n y : ℕ) (r : Bool) → r ≡ holds W l y y → r ≡ true → y < n → true ≡ anyOwn W l n
-  own-found n y r e t h = sym (own-any W l n y h (sym e ∙ t))
-
-  pub own-next : (y : ℕ) (r : Bool) → r ≡ holds W l y y → r ≡ false → anyOwn W l y ≡ false → anyOwn W l (y + 1) ≡ false
-  unfolding anyOwn
-  own-next y r e t none = rw (add-one, none) (sym e ∙ t)
-
-  pub own-none : (n y : ℕ) → anyOwn W l y ≡ false → y ≤ n → n ≤ y → false ≡ anyOwn W l n
-  own-none n y none p q = sym (ap (anyOwn W l) (le-antisymm q p) ∙ none)

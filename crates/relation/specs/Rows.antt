@@ -1,6 +1,6 @@
 -- Rows of words: row y holds the predecessors of event y, an event a bit. Every definition is over any width W, the words of a row.
 -- Assumes nothing.
-use mathlib.Core.Bool.{Bool, false, cond, _||_}
+use mathlib.Core.Bool.{Bool, cond, _||_}
 use mathlib.Core.List.{List, _++_}
 use Prim.Native.Nat.{ℕ, zero, suc, _+_, _-_, _*_, _/_, _%_, _^_}
 use lib.Dec.{eqb}
@@ -68,8 +68,3 @@ inserted W words x y from to = cond (holds W words y x) words (insertedIn W word
 -- The first n words are zero, the rest as they were.
 unfoldable pub cleared : ℕ → List ℕ → List ℕ
 cleared n words = replicate n 0 ++ drop n words
-
--- Some event of the first n rows is in its own row: the order has a circle.
-unfoldable pub anyOwn : ℕ → List ℕ → ℕ → Bool
-anyOwn W words zero = false
-anyOwn W words (suc n) = anyOwn W words n || holds W words n n

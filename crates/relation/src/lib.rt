@@ -4,7 +4,7 @@ ghost use Prim.Native.Nat.{_+_, _*_, _<_, _≤_};
 ghost use lib.ListN.{length};
 ghost use Rattle.relation.specs.Width.{width, wordBits};
 ghost use Rattle.model.specs.Bounded.{lowest};
-ghost use Rattle.relation.specs.Rows.{holds, marked, joined, joinedFrom, copiedFrom, inserted, cleared, anyOwn};
+ghost use Rattle.relation.specs.Rows.{holds, marked, joined, joinedFrom, copiedFrom, inserted, cleared};
 ghost use Rattle.relation.specs.Own.{foundIn, isOwn};
 
 // The words of a row: the model's limit, as the specs' `width` is.
@@ -110,20 +110,6 @@ pub fn clear(words: &mut [u64], count: usize)
     for i in 0..count {
         words[i] = 0;
     }
-}
-
-// Some event of the first `rows` is its own predecessor.
-pub fn circle(words: &[u64], rows: usize) -> bool
-    requires { ⌜ rows * width ≤ length (now words) ⌝ }
-    requires { ⌜ rows ≤ wordBits * width ⌝ }
-    ensures { λ r. ⌜ r ≡ anyOwn width (now (words .entry)) rows ⌝ }
-{
-    for y in 0..rows {
-        if test(words, y, y) {
-            return true;
-        }
-    }
-    false
 }
 
 // The lowest event that is its own predecessor, if one is.

@@ -58,10 +58,6 @@ returns c =
 enum-known-choices : tie.Need-enum-known-choices Inv-loop μ-loop
 enum-known-choices c = search needs
 
-without-circle-requires : tie.Need-without-circle-requires Inv-loop μ-loop
-without-circle-requires c κs =
-    let j = c .before .before .before .before .before .before .before .loop .inv in (j .room .wordsLong, j .room .countMost)
-
 same-length-3 : tie.Need-same-length-3 Inv-loop μ-loop
 same-length-3 c = search needs
 
@@ -70,7 +66,7 @@ same-length-4 c = search needs
 
 returns-2 : tie.Need-returns-2 Inv-loop μ-loop
 returns-2 c =
-    walking-end _ _ _ _ _ _ _ _ _ _ (c .before .before .before .before .before .before .before .before .loop .inv) _ _ (reaches-as (c .before .before .before .choices .given .1) (c .before .before .before .before .before .before .next-block .ensures)) _ (c .without-circle .ensures)
+    walking-end _ _ _ _ _ _ _ _ _ _ (c .before .before .before .before .before .before .loop .inv) _ _ (reaches-as (c .before .choices .given .1) (c .before .before .before .before .next-block .ensures))
 
 enum-known-deep : tie.Need-enum-known-deep Inv-loop μ-loop
 enum-known-deep c = search needs
@@ -126,7 +122,6 @@ expand-list-spec =
     same-length-2
     returns
     enum-known-choices
-    without-circle-requires
     same-length-3
     same-length-4
     returns-2

@@ -204,13 +204,25 @@ static void run(int proved, uint32_t code) {
     watch(proved, code, trace, a.word == 1 ? a.three : 0, scratch);
 }
 
+/* The cure, once, since it is given no channel: its answer, and a sum of the whole output. */
+static void cure(int proved) {
+    static uint64_t scratch[CHANNEL_CHECK_SCRATCH_WORDS];
+    static uint8_t output[CURE_SHEET_OUTPUT_BYTES];
+    cure_sheet_answer a = (proved ? cure_sheet : careful_cure_sheet)((const uint8_t *)text, len, scratch, CHANNEL_CHECK_SCRATCH_WORDS, output, CURE_SHEET_OUTPUT_BYTES);
+    unsigned sum = 0;
+    for (size_t i = 0; i < sizeof output; i++) sum = 31 * sum + output[i];
+    printf("cured: %u %u %u, output %u\n", a.word, a.one, a.two, sum);
+}
+
 int main(int argc, char **argv) {
     if (argc < 4) return 2;
     for (size_t i = 0; i < sizeof sheets / sizeof *sheets; i++)
         if (strcmp(argv[2], sheets[i].name) == 0) sheets[i].make(atoi(argv[3]));
     if (len == 0) return 2;
     if (strcmp(argv[1], "text") == 0) return fwrite(text, 1, len, stdout) != len;
+    int proved = strcmp(argv[1], "proved") == 0;
     for (uint32_t code = 0; code < 6; code++)
-        if (argc < 5 || (uint32_t)atoi(argv[4]) == code) run(strcmp(argv[1], "proved") == 0, code);
+        if (argc < 5 || (uint32_t)atoi(argv[4]) == code) run(proved, code);
+    cure(proved);
     return 0;
 }

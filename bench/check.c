@@ -626,31 +626,32 @@ static size_t put_row(uint8_t *out, uint8_t letter, unsigned one, unsigned two) 
     return at;
 }
 
-static careful_cure_answer cure(const uint8_t *text, size_t len, uint64_t *scratch, uint8_t *output) {
+static cure_sheet_answer cure(const uint8_t *text, size_t len, uint64_t *scratch, uint8_t *output) {
     static const char heading[] = "kind one two\n";
     sheet s;
     walk w;
     refusal r = read(text, len, &s, scratch, 0);
     w.words = scratch;
     if (!r.number) r = expand(&s, &w, 0);
-    if (r.number) return (careful_cure_answer){1, r.number, r.line};
+    if (r.number) return (cure_sheet_answer){1, r.number, r.line};
     cover_rows(&w);
     size_t rows = 1 + w.count, at = sizeof heading - 1;
     for (size_t x = 0; x < 2 * w.count; x++)
         for (size_t e = 0; e < w.count; e++) rows += (size_t)test(w.words, 2 * e + 1, x);
-    if (rows > ROWS) return (careful_cure_answer){1, 15, 0};
+    if (rows > ROWS) return (cure_sheet_answer){1, 15, 0};
     memcpy(output, heading, at);
     at += put_row(output + at, 'S', 0, 0);
     for (size_t m = 0; m < w.count; m++) at += put_row(output + at, 'M', w.boards[2 * m], w.boards[2 * m + 1]);
     for (size_t x = 0; x < 2 * w.count; x++)
         for (size_t e = 0; e < w.count; e++)
             if (test(w.words, 2 * e + 1, x)) at += put_row(output + at, 'P', (unsigned)x, (unsigned)(2 * e));
-    return (careful_cure_answer){0, (uint32_t)at, 0};
+    return (cure_sheet_answer){0, (uint32_t)at, 0};
 }
 
-careful_cure_answer careful_cure(const uint8_t *text, size_t text_len, uint64_t *scratch, size_t scratch_len, uint8_t *output, size_t output_len) {
-    if (scratch_len < 1024 || output_len < 8192) return (careful_cure_answer){1, 2, 0};
-    careful_cure_answer a = cure(text, text_len, scratch, output);
+cure_sheet_answer careful_cure_sheet(const uint8_t *text, size_t text_len, uint64_t *scratch, size_t scratch_len, uint8_t *output,
+                                     size_t output_len) {
+    if (scratch_len < 1024 || output_len < 8192) return (cure_sheet_answer){1, 2, 0};
+    cure_sheet_answer a = cure(text, text_len, scratch, output);
     memset(scratch, 0, 1024 * 8);
     return a;
 }

@@ -13,7 +13,6 @@ monitor_answer careful_monitor_step(monitor state, uint32_t kind, uint32_t messa
                                     uint64_t *scratch, size_t scratch_len);
 monitor_answer careful_monitor_switch(monitor state, uint32_t code, const uint8_t *text, size_t text_len, uint64_t *scratch,
                                       size_t scratch_len);
-/* the cure of request (i): 0 written, one the text's length; 1 refused */
-typedef struct { uint32_t word, one, two; } careful_cure_answer;
-careful_cure_answer careful_cure(const uint8_t *text, size_t text_len, uint64_t *scratch, size_t scratch_len, uint8_t *output, size_t output_len);
+cure_sheet_answer careful_cure_sheet(const uint8_t *text, size_t text_len, uint64_t *scratch, size_t scratch_len, uint8_t *output,
+                                     size_t output_len);
 #endif

@@ -2,7 +2,8 @@
  * coverage counters, which guides the search, and on the careful C program of bench/, and all must agree in answer, trace,
  * scratch and text. Input: a byte for the code, one for the buffers' lengths, then the text. Where the second byte is over 127 the call is
  * trace_check: a byte for a third of the trace's length follows, then the trace, then the text; with bit 4 of the first byte the bytes are
- * not a trace but calls of the monitor. Otherwise the call is choice_check where the first byte has bit 3, else channel_check. */
+ * not a trace but calls of the monitor. Otherwise the call is cure_sheet where the first byte has bit 4, choice_check where it has bit 3,
+ * else channel_check. */
 #define _GNU_SOURCE
 #include "../bench/check.h"
 #include <stdio.h>
@@ -16,6 +17,7 @@ choice_check_answer guided_choice_check(const uint8_t *, size_t, uint32_t, uint6
 monitor_answer guided_monitor_open(const uint8_t *, size_t, uint32_t, uint64_t *, size_t);
 monitor_answer guided_monitor_step(monitor, uint32_t, uint32_t, const uint8_t *, size_t, uint64_t *, size_t);
 monitor_answer guided_monitor_switch(monitor, uint32_t, const uint8_t *, size_t, uint64_t *, size_t);
+cure_sheet_answer guided_cure_sheet(const uint8_t *, size_t, uint64_t *, size_t, uint8_t *, size_t);
 int LLVMFuzzerTestOneInput(const uint8_t *data, size_t size);
 
 enum { WORDS = CHANNEL_CHECK_SCRATCH_WORDS, BYTES = CHANNEL_CHECK_TRACE_BYTES, PAINT = 0xa5, AHEAD = 64, ROOM = 1 << 16, GUARD = 1 << 16 };
@@ -139,10 +141,47 @@ static void try_monitor(const uint8_t *text, size_t len, uint32_t code, const ui
     free(exact_text), free(exact);
 }
 
+/* the cure: answer, output and scratch of all three; what was written is cured to itself and free; the header's promise of the buffers */
+static void try_cure(const uint8_t *text, size_t len, size_t words, size_t bytes) {
+    uint8_t *exact_text = memcpy(malloc(len), text, len), *exact_output = memset(malloc(bytes), PAINT, bytes);
+    uint64_t *exact = memset(malloc(words * 8), PAINT, words * 8);
+    cure_sheet_answer c = careful_cure_sheet(exact_text, len, exact, words, exact_output, bytes);
+    for (int is_guided = 0; is_guided < 2; is_guided++) {
+        call a = {.text_len = len, .words = words, .bytes = bytes};
+        a.text = memcpy(guarded(0, len), text, len);
+        a.scratch = guarded(1, words * 8);
+        a.trace = guarded(2, bytes);
+        cure_sheet_answer t = (is_guided ? guided_cure_sheet : cure_sheet)(a.text, len, (uint64_t *)a.scratch, words, a.trace, bytes);
+        size_t cleared = t.word == 1 && t.one == 2 ? 0 : 8 * WORDS, written = t.word == 0 ? t.one : 0;
+        a.answer = (choice_check_answer){t.word, t.one, t.two, 0, 0, 0};
+        if (memcmp(&t, &c, sizeof t) != 0) stop("answer of the cure", &a);
+        if (memcmp(a.trace, exact_output, bytes) != 0) stop("output of the cure", &a);
+        if (memcmp(a.scratch, exact, words * 8) != 0) stop("scratch behind a cure", &a);
+        if (memcmp(a.text, text, len) != 0) stop("the text was written to", &a);
+        if (!ahead_painted(a.text) || !ahead_painted(a.scratch) || !ahead_painted(a.trace)) stop("bytes ahead of a buffer", &a);
+        for (size_t i = 0; i < 8 * words; i++)
+            if (a.scratch[i] != (i < cleared ? 0 : PAINT)) stop("scratch bytes behind a cure", &a);
+        for (size_t i = written; i < bytes; i++)
+            if (a.trace[i] != PAINT) stop("output bytes behind the text", &a);
+    }
+    if (c.word == 0) {
+        static uint64_t scratch[WORDS];
+        static uint8_t again[CURE_SHEET_OUTPUT_BYTES], steps[BYTES];
+        call a = {.answer = {c.word, c.one, c.two, 0, 0, 0}};
+        cure_sheet_answer t = cure_sheet(exact_output, c.one, scratch, WORDS, again, sizeof again);
+        if (t.word != 0 || t.one != c.one || memcmp(again, exact_output, c.one) != 0) stop("a cured sheet is cured to another", &a);
+        for (uint32_t code = 0; code < 6; code++)
+            if (channel_check(exact_output, c.one, code, scratch, WORDS, steps, BYTES).word != 0) stop("a cured sheet is not free", &a);
+    }
+    free(exact_text), free(exact_output), free(exact);
+}
+
 int LLVMFuzzerTestOneInput(const uint8_t *data, size_t size) {
     static const uint32_t codes[8] = {0, 1, 2, 3, 4, 5, 6, UINT32_MAX};
     static const size_t words[8] = {WORDS, WORDS, WORDS, WORDS + 1, 2 * WORDS, WORDS, WORDS - 1, 0};
     static const size_t bytes[8] = {BYTES, BYTES, BYTES, BYTES + 1, BYTES + 9, BYTES, BYTES - 1, 0};
+    enum { OUT = CURE_SHEET_OUTPUT_BYTES };
+    static const size_t output[8] = {OUT, OUT, OUT, OUT + 1, OUT + 9, OUT, OUT - 1, 0};
     if (size < 2) return -1;
     call c = {.choices = data[0] / 8 % 2, .text_len = size - 2, .words = words[data[1] % 8], .bytes = bytes[data[1] / 8 % 8]}, a = c;
     uint32_t code = codes[data[0] % 8];
@@ -151,6 +190,10 @@ int LLVMFuzzerTestOneInput(const uint8_t *data, size_t size) {
         size_t most = 3 * (size_t)data[2] + data[1] / 64 % 2, length = most < size - 3 ? most : size - 3;
         if (data[0] / 16 % 2) try_monitor(data + 3 + length, size - 3 - length, code, data + 3, length);
         else try_trace(data + 3 + length, size - 3 - length, code, c.words, data + 3, length);
+        return 0;
+    }
+    if (data[0] / 16 % 2) {
+        try_cure(data + 2, size - 2, c.words, output[data[1] / 8 % 8]);
         return 0;
     }
     careful(&c, data + 2, code);

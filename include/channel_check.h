@@ -133,6 +133,33 @@ monitor_answer monitor_step(monitor state, uint32_t kind, uint32_t message, cons
                             size_t scratch_len);
 monitor_answer monitor_switch(monitor state, uint32_t code, const uint8_t *text, size_t text_len, uint64_t *scratch, size_t scratch_len);
 
+/* The least length of the output that cure_sheet is lent. */
+#define CURE_SHEET_OUTPUT_BYTES 8192
+
+/* word: 0 written, 1 refused.
+ * written: one is the text's length.
+ * refused: one is the refusal's number, 2 to 11 or 15; two its line, 0 where the table gives none.
+ * Numbers that a word does not name are 0. */
+typedef struct {
+    uint32_t word, one, two;
+} cure_sheet_answer;
+
+/* Writes the loosest sheet that is free and keeps a sheet's messages: sends stay before their receives, and an order stays only where it
+ * ends in a send, closed transitively.
+ *
+ * text, scratch         as channel_check's, and so is the scratch at exit. No channel is given, so there is no refusal 1.
+ * output, output_len    bytes for the text; fewer than 8,192 are refusal 2. Only the first `one` of them change, and on a refusal none.
+ *
+ * The text: `kind one two`, `S 0 0`, the M rows as the walk meets them, then `P x y` for each x before y on one board with no event of any
+ * board between them, but for a message's own send and receive, by x and then y. A sheet that is free already is written too. A text of
+ * more than 512 rows is refusal 15, behind all others.
+ *
+ * Proved of every text written: this library reads it, with the same messages and exactly that order, which lies inside the old one; it is free
+ * on all six channels; and every sheet of the same messages that is accepted, free on channel 0 and ordered inside the old order is ordered
+ * inside this one.
+ */
+cure_sheet_answer cure_sheet(const uint8_t *text, size_t text_len, uint64_t *scratch, size_t scratch_len, uint8_t *output, size_t output_len);
+
 #ifdef __cplusplus
 }
 #endif

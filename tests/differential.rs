@@ -4,6 +4,8 @@
 
 #[path = "choices.rs"]
 mod choices;
+#[path = "cures.rs"]
+mod cures;
 #[path = "monitors.rs"]
 mod monitors;
 #[path = "reference.rs"]
@@ -179,6 +181,7 @@ struct Seen {
     traces: traces::Seen,
     choices: choices::Seen,
     monitors: monitors::Seen,
+    cures: cures::Seen,
 }
 
 impl Seen {
@@ -194,6 +197,7 @@ impl Seen {
         self.traces.add(&o.traces);
         self.choices.add(&o.choices);
         self.monitors.add(&o.monitors);
+        self.cures.add(&o.cures);
     }
 
     fn limits_of(&mut self, s: &Scenario) {
@@ -209,14 +213,16 @@ impl Seen {
         self.traces.print();
         self.choices.print();
         self.monitors.print();
+        self.cures.print();
         println!("traces replayed {}, free orders taken {}, sheets searched whole {}", self.replayed, self.wandered, self.searched);
     }
 
     fn whole(&self) -> bool {
         let eager = [0, 2, 4, 5].iter().all(|c| self.locked[*c] > 0);
         let some = |all: &[u64]| all.iter().all(|n| *n > 0);
-        let judged = self.replayed * self.wandered * self.searched > 0 && self.traces.whole() && self.choices.whole() && self.monitors.whole();
-        eager && some(&self.free) && some(&self.refused[1..]) && some(&self.limits) && judged
+        let judged = self.replayed * self.wandered * self.searched > 0;
+        let calls = self.traces.whole() && self.choices.whole() && self.monitors.whole() && self.cures.whole();
+        eager && some(&self.free) && some(&self.refused[1..]) && some(&self.limits) && judged && calls
     }
 }
 
@@ -272,6 +278,9 @@ fn try_text(r: &mut Random, seen: &mut Seen) {
     }
     if r.one_in(8) {
         monitors::try_monitors(r, &mut seen.monitors, &text, &sheet);
+    }
+    if r.one_in(8) {
+        cures::try_cure(r, &mut seen.cures, &text);
     }
 }
 

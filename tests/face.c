@@ -1,6 +1,7 @@
 /* The C face, called on every kind of answer with a guard page right behind each buffer: the answer, and the bytes of trace
  * and scratch, on all eleven refusals and both words, with exact and larger buffers, odd codes and empty text; trace_check on
- * every word and on traces of every length up to two beyond the limit; and choice_check on every word, with lists of every length. */
+ * every word and on traces of every length up to two beyond the limit; choice_check on every word, with lists of every length; the
+ * monitor; and cure_sheet on every refusal, with texts of 512 rows and one row more. */
 #define _GNU_SOURCE
 #include "../include/channel_check.h"
 #include <stdio.h>
@@ -53,16 +54,17 @@ static void expect(int holds, sheet s, uint32_t code, const char *what) {
     failures++;
 }
 
-/* what a call that may write steps leaves: its trace, its scratch, untouched on refusals 1 and 2, and the text; all are given back */
-static void left(sheet s, uint32_t code, buffer text, buffer scratch, buffer trace, int untouched, const void *steps, size_t count) {
-    size_t written = 2 * count, cleared = untouched ? 0 : 8 * (size_t)WORDS;
-    expect(memcmp(trace.at, steps, written) == 0, s, code, "steps");
-    expect(painted(trace.at + written, trace.guard), s, code, "trace bytes behind the steps");
+/* what a call that may write steps, or a sheet, leaves: those bytes, its scratch, untouched on refusals 1 and 2, and the text; all are
+ * given back */
+static void left(sheet s, uint32_t code, buffer text, buffer scratch, buffer output, int untouched, const void *bytes, size_t written) {
+    size_t cleared = untouched ? 0 : 8 * (size_t)WORDS;
+    expect(memcmp(output.at, bytes, written) == 0, s, code, "bytes written");
+    expect(painted(output.at + written, output.guard), s, code, "bytes behind those written");
     expect(zero(scratch.at, scratch.at + cleared), s, code, "scratch words not zero");
     expect(painted(scratch.at + cleared, scratch.guard), s, code, "scratch words touched");
-    expect(painted(scratch.from, scratch.at) && painted(trace.from, trace.at), s, code, "bytes ahead of a buffer");
+    expect(painted(scratch.from, scratch.at) && painted(output.from, output.at), s, code, "bytes ahead of a buffer");
     expect(memcmp(text.at, s.text, s.len) == 0 && painted(text.from, text.at), s, code, "the text was written to");
-    give_back(text), give_back(scratch), give_back(trace);
+    give_back(text), give_back(scratch), give_back(output);
 }
 
 static void call(sheet s, uint32_t code, size_t words, size_t bytes, channel_check_answer e, const void *steps) {
@@ -74,7 +76,7 @@ static void call(sheet s, uint32_t code, size_t words, size_t bytes, channel_che
     if (a.word != e.word || a.one != e.one || a.two != e.two || a.three != e.three)
         printf("  expected %u %u %u %u, got %u %u %u %u\n", e.word, e.one, e.two, e.three, a.word, a.one, a.two, a.three);
     expect(a.word == e.word && a.one == e.one && a.two == e.two && a.three == e.three, s, code, "answer");
-    left(s, code, text, scratch, trace, e.word == 2 && e.one <= 2, steps, e.word == 1 ? e.three : 0);
+    left(s, code, text, scratch, trace, e.word == 2 && e.one <= 2, steps, e.word == 1 ? 2 * (size_t)e.three : 0);
 }
 
 static void exact_and_larger(sheet s, uint32_t code, channel_check_answer e, const void *steps) {
@@ -334,7 +336,7 @@ static void choose(sheet s, uint32_t code, size_t words, size_t bytes, choice_ch
     if (memcmp(&a, &e, sizeof a) != 0)
         printf("  expected %u %u %u %u, list %u %u; got %u %u %u %u, list %u %u\n", e.word, e.one, e.two, e.three, e.length, e.choices, a.word, a.one, a.two, a.three, a.length, a.choices);
     expect(memcmp(&a, &e, sizeof a) == 0, s, code, "answer over the lists");
-    left(s, code, text, scratch, trace, e.word == 2 && e.one <= 2, steps, e.word == 1 ? e.three : 0);
+    left(s, code, text, scratch, trace, e.word == 2 && e.one <= 2, steps, e.word == 1 ? 2 * (size_t)e.three : 0);
 }
 
 static void chosen(sheet s, uint32_t code, choice_check_answer e, const void *steps) {
@@ -460,10 +462,98 @@ static void monitors(void) {
             if (!monitor_words[c][w] && !(w == 1 && c != 1)) printf("FAILED: call %d of the monitor never said %d\n", c, w), failures++;
 }
 
+/* ------------------------------------------------------------------ cure_sheet */
+
+static int cure_words[2], cure_refused[16];
+
+/* one call, with a guard page behind text, scratch and output; `cured` is the text to be written, where one is */
+static void cure(sheet s, size_t words, size_t bytes, cure_sheet_answer e, const char *cured) {
+    buffer text = lend(s.len), scratch = lend(words * 8), output = lend(bytes);
+    memcpy(text.at, s.text, s.len);
+    cure_sheet_answer a = cure_sheet(text.at, s.len, (uint64_t *)scratch.at, words, output.at, bytes);
+    calls++;
+    if (a.word < 2) cure_words[a.word]++;
+    if (a.word == 1 && a.one < 16) cure_refused[a.one]++;
+    if (memcmp(&a, &e, sizeof a) != 0) printf("  expected %u %u %u, got %u %u %u\n", e.word, e.one, e.two, a.word, a.one, a.two);
+    expect(memcmp(&a, &e, sizeof a) == 0, s, 0, "answer of the cure");
+    left(s, 0, text, scratch, output, e.word == 1 && e.one == 2, cured, e.word == 0 ? e.one : 0);
+}
+
+enum { OUT = CURE_SHEET_OUTPUT_BYTES };
+
+/* on exact and larger buffers, and on each that is too short */
+static void cures_to(sheet s, const char *cured) {
+    cure_sheet_answer e = {0, (uint32_t)strlen(cured), 0}, bench = {1, 2, 0};
+    cure(s, WORDS, OUT, e, cured);
+    cure(s, WORDS + 3, OUT + 5, e, cured);
+    cure(s, 2 * WORDS, 2 * OUT, e, cured);
+    cure(s, WORDS - 1, OUT, bench, "");
+    cure(s, WORDS, OUT - 1, bench, "");
+    cure(s, WORDS + 9, 0, bench, "");
+    cure(s, 0, OUT + 9, bench, "");
+}
+
+static void cure_refuses(sheet s, uint32_t number, uint32_t line) {
+    cure(s, WORDS, OUT, (cure_sheet_answer){1, number, line}, "");
+    cure(s, WORDS + 3, OUT + 5, (cure_sheet_answer){1, number, line}, "");
+    cure(s, WORDS - 1, OUT, (cure_sheet_answer){1, 2, 0}, "");
+}
+
+/* 16 receives of board 0, each directly before each of 24 sends of it a block later: 384 P rows. With n messages in all it is n + 385 rows. */
+static void rows_at_the_limit(void) {
+    static char cured[16384];
+    for (int n = 127; n <= 128; n++) {
+        begin(H "S 0 0\n");
+        repeat("M 1 0\n", 16);
+        repeat("B 0 0\n", 1);
+        repeat("M 0 1\n", 24);
+        repeat("M 15 15\n", n - 40);
+        strcpy(cured, H "S 0 0\n");
+        for (int m = 0; m < n; m++) strcat(cured, m < 16 ? "M 1 0\n" : m < 40 ? "M 0 1\n" : "M 15 15\n");
+        for (int x = 1; x < 32; x += 2)
+            for (int y = 32; y < 80; y += 2) sprintf(cured + strlen(cured), "P %d %d\n", x, y);
+        if (n == 127) cures_to(named("512 rows to write", made), cured);
+        else cure_refuses(named("15 513 rows to write", made), 15, 0);
+    }
+}
+
+static void cures(void) {
+    cures_to(named("no message", H "S 0 0\n"), H "S 0 0\n");
+    cures_to(named("sheet 2", H "S 0 0\nM 0 1\nM 2 1\nP 1 3\n"), H "S 0 0\nM 0 1\nM 2 1\n");
+    cures_to(named("sheet 3", H "S 0 0\nM 0 1\nM 0 1\nP 0 2\nP 1 3\n"), H "S 0 0\nM 0 1\nM 0 1\nP 0 2\n");
+    cures_to(named("free already", H "S 0 0\nM 0 1\nM 1 0\nP 1 2\nP 0 3\n"), H "S 0 0\nM 0 1\nM 1 0\nP 1 2\n");
+    cures_to(named("its own board", H "S 0 0\nM 3 3\nP 0 1\n"), H "S 0 0\nM 3 3\n");
+    cures_to(named("an order through another board", H "S 0 0\nM 0 2\nM 0 1\nM 1 2\nP 0 2\nP 3 4\nP 1 5\n"), H "S 0 0\nM 0 2\nM 0 1\nM 1 2\nP 0 2\nP 3 4\n");
+    cures_to(named("two receives ahead of a send", H "S 0 0\nM 0 1\nM 2 1\nP 1 3\nM 1 0\nP 3 4\n"), H "S 0 0\nM 0 1\nM 2 1\nM 1 0\nP 1 4\nP 3 4\n");
+    cures_to(named("by x and then y", H "S 0 0\nM 0 1\nM 0 2\nM 0 3\nP 0 4\nP 0 2\nM 1 0\nP 1 6\n"), H "S 0 0\nM 0 1\nM 0 2\nM 0 3\nM 1 0\nP 0 2\nP 0 4\nP 1 6\n");
+    cures_to(named("blocks and a call", "two kind one\n0 S 1\n1 M 0\n0 S 0\n1 M 0\n0 C 1\n1 M 0\n"), H "S 0 0\nM 0 1\nM 0 1\nM 0 1\nP 0 2\nP 2 4\n");
+    rows_at_the_limit();
+    for (size_t i = 0; i < sizeof refused / sizeof *refused; i++) cure_refuses(named(refused[i].name, refused[i].text), refused[i].number, refused[i].line);
+    cure_refuses(named("5 an A row for the cure", H "S 0 0\nA 0 0\n"), 5, 3);
+    begin(H "S 0 0\n");
+    repeat("B 0 0\n", 1362);
+    repeat("\n", 1);
+    cure_refuses((sheet){"8,192 bytes are read", made, 8192}, 5, 514);
+    cure_refuses((sheet){"3 length 8,193", strcat(made, "\n"), 8193}, 3, 0);
+    begin(H "S 0 0\nC 1 0\nC 1 0\nM 0 0\nS 1 0\n");
+    repeat("M 0 1\n", 64);
+    cure_refuses(named("10 messages", made), 10, 5);
+    begin(H "S 0 0\n");
+    repeat("C 1 0\n", 32);
+    repeat("S 1 0\n", 1);
+    repeat("C 2 0\n", 32);
+    repeat("S 2 0\n", 1);
+    cure_refuses(named("9 calls", made), 9, 36);
+    for (int n = 2; n < 16; n++)
+        if (!cure_refused[n] && (n < 12 || n == 15)) printf("FAILED: the cure never refused with %d\n", n), failures++;
+    if (!cure_words[0]) printf("FAILED: nothing was cured\n"), failures++;
+}
+
 int main(void) {
     traces();
     choices();
     monitors();
+    cures();
     words();
     limits();
     refusals();

@@ -593,3 +593,51 @@ pub fn watchable(sheet: &Result<Scenario, Refusal>, code: u32, scratch: usize) -
     }
     sheet.as_ref().map_err(|refusal| *refusal)
 }
+
+// ---------------------------------------------------------------- request (i): the loosest change that cures a sheet
+
+pub const OUTPUT_LEAST: usize = 8192;
+
+/// The cured order, from the request's words: sends before receives, and an order only where it ends in a send, closed transitively.
+pub fn cured(s: &Scenario) -> Vec<Vec<bool>> {
+    let n = 2 * s.messages.len();
+    let own = |x: usize, y: usize| x % 2 == 0 && y == x + 1;
+    let mut order: Vec<Vec<bool>> = (0..n).map(|x| (0..n).map(|y| own(x, y) || (y % 2 == 0 && s.before[x][y])).collect()).collect();
+    for k in 0..n {
+        let through = order[k].clone();
+        for row in order.iter_mut().filter(|row| row[k]) {
+            row.iter_mut().zip(&through).for_each(|(a, b)| *a |= b);
+        }
+    }
+    order
+}
+
+/// The rows of the cured sheet: the M rows, then a P row for each same-board pair of the cured order with no event of any board between
+/// them, unless they are a message's own two, by x and then y.
+fn cured_rows(s: &Scenario) -> Vec<String> {
+    let n = 2 * s.messages.len();
+    let order = cured(s);
+    let mut rows = vec!["S 0 0\n".to_string()];
+    rows.extend(s.messages.iter().map(|(a, b)| format!("M {} {}\n", a, b)));
+    for x in 0..n {
+        for y in 0..n {
+            let own = x % 2 == 0 && y == x + 1;
+            if order[x][y] && !own && s.board(x) == s.board(y) && !(0..n).any(|z| order[x][z] && order[z][y]) {
+                rows.push(format!("P {} {}\n", x, y));
+            }
+        }
+    }
+    rows
+}
+
+/// The text, or the refusal: 2 for the scratch or the output, then the sheet's, and 15 last.
+pub fn cure(sheet: &Result<Scenario, Refusal>, scratch: usize, output: usize) -> Result<Vec<u8>, Refusal> {
+    if scratch < SCRATCH_LEAST || output < OUTPUT_LEAST {
+        return Err((2, 0));
+    }
+    let rows = cured_rows(sheet.as_ref().map_err(|refusal| *refusal)?);
+    if rows.len() > 512 {
+        return Err((15, 0));
+    }
+    Ok(["kind one two\n", &rows.concat()].concat().into_bytes())
+}

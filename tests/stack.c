@@ -12,7 +12,7 @@ enum { SIZE = 1 << 20, PAINT = 0xc3 };
 static char text[16384];
 static size_t len;
 static uint64_t scratch[CHANNEL_CHECK_SCRATCH_WORDS];
-static uint8_t trace[CHANNEL_CHECK_TRACE_BYTES];
+static uint8_t trace[CHANNEL_CHECK_TRACE_BYTES], output[CURE_SHEET_OUTPUT_BYTES];
 static uint32_t code;
 static channel_check_answer answer;
 static uint8_t *top; /* where the caller's frame stands */
@@ -25,6 +25,7 @@ static void *run(void *unused) {
     monitor m = monitor_open((const uint8_t *)text, len, code, scratch, CHANNEL_CHECK_SCRATCH_WORDS).next;
     m = monitor_step(m, 0, 0, (const uint8_t *)text, len, scratch, CHANNEL_CHECK_SCRATCH_WORDS).next;
     monitor_switch(m, code, (const uint8_t *)text, len, scratch, CHANNEL_CHECK_SCRATCH_WORDS);
+    cure_sheet((const uint8_t *)text, len, scratch, CHANNEL_CHECK_SCRATCH_WORDS, output, CURE_SHEET_OUTPUT_BYTES);
     return unused;
 }
 

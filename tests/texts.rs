@@ -390,3 +390,27 @@ pub fn choice_text(r: &mut Random) -> Vec<u8> {
     }
     text
 }
+
+/// Sheets whose cure is about as long as one may be: on board 0 each of some receives is directly before each of some sends, a block
+/// later, and messages of a board of their own fill up to near 512 rows.
+fn many_covers(r: &mut Random) -> Rows {
+    let receives = 12 + r.below(20);
+    let sends = 390 / receives + 1;
+    let more = *r.pick(&[511, 512, 512, 513, 513, 514]) - (1 + receives + sends + receives * sends);
+    let mut out = vec![('S', 0, 0)];
+    (0..receives).for_each(|i| out.push(('M', 1 + i % 14, 0)));
+    out.push(('B', 0, 0));
+    (0..sends).for_each(|i| out.push(('M', 0, 1 + i % 14)));
+    (0..more).for_each(|_| out.push(('M', 15, 15)));
+    out
+}
+
+/// A text for the cure: mostly sheets that are accepted, some with a cure near the limit.
+pub fn cure_text(r: &mut Random) -> Vec<u8> {
+    let rows = match r.below(24) {
+        0 => many_covers(r),
+        1 => large(r),
+        _ => small(r),
+    };
+    write(r, &rows)
+}

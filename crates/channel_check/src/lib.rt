@@ -4,16 +4,21 @@ ghost use Rattle.model.specs.Verdict.{Checked};
 ghost use Rattle.model.specs.Choice.{ChoiceChecked};
 ghost use Rattle.model.specs.Waits.{TraceChecked};
 ghost use Rattle.model.specs.Monitor.{Opened, Stepped, Switched, WholeLists};
+ghost use Rattle.model.specs.Cure.{CureChecked};
 ghost use Rattle.choice.specs.Bridge as chosen;
 ghost use Rattle.monitor.specs.Bridge.{heldIn, zeros, answerIn};
 ghost use Rattle.replay.specs.Bridge as replayed;
 ghost use Rattle.verdict.specs.Parts.{numbersFor};
 ghost use Rattle.channel_check.specs.Numbers.{Small, numbersIn};
+ghost use Rattle.channel_check.specs.Cures as cured;
+pub use crate::cures::CureSheetAnswer;
 use choice::ChoiceCheckAnswer;
 use monitor::Monitor;
 use monitor::MonitorAnswer;
 use replay::TraceCheckAnswer;
 use verdict::Answer;
+
+mod cures;
 
 // The answer as C gets it: word 0 free, 1 locked, 2 refused.
 #[repr(C)]
@@ -127,4 +132,12 @@ pub extern "C" fn monitor_switch(
     ensures { λ r. ⌜ Switched heldIn state code (now (text .entry)) (now (scratch .entry)) (now (scratch .exit)) (answerIn r) × WholeLists heldIn zeros ⌝ }
 {
     state.switch(code, text, scratch)
+}
+
+// The loosest sheet that is free, as text: any text, any lengths.
+#[no_mangle]
+pub extern "C" fn cure_sheet(text: &[u8], scratch: &mut [u64], output: &mut [u8]) -> CureSheetAnswer
+    ensures { λ r. ⌜ CureChecked (now (text .entry)) (now (scratch .entry)) (now (scratch .exit)) (now (output .entry)) (now (output .exit)) (cured.numbersIn r) ⌝ }
+{
+    cures::told(cure::cure(text, scratch, output))
 }

@@ -1,6 +1,7 @@
 // For a technician: the check at the command line, a word a call. The sheet comes from standard input.
 mod arguments;
 mod choices;
+mod cures;
 mod jams;
 mod lines;
 mod reasons;
@@ -31,6 +32,10 @@ fn print_usage() {
     io::write_all(
         STDERR_FILENO,
         b"       channel_tool watch CODE SHEETFILE [TRACEFILE] < STEPS\n",
+    );
+    io::write_all(
+        STDERR_FILENO,
+        b"       channel_tool cure < SHEET > NEW.sheet\n",
     );
 }
 
@@ -64,6 +69,10 @@ fn main() {
         let mut text = [0u8; MOST];
         let n = io::read_full(STDIN_FILENO, &mut text);
         report::print_channels(&text[..n]);
+    } else if check::same(word, b"cure") {
+        let mut text = [0u8; MOST];
+        let n = io::read_full(STDIN_FILENO, &mut text);
+        cures::write(&text[..n]);
     } else {
         match arguments::code_in(2) {
             Code::Missing => print_usage(),

@@ -7,13 +7,13 @@ use crate::{bytes, channel_check, fail, length, replay, Buffers, BESIDE, CODES};
 
 #[repr(C)]
 #[derive(Clone, Copy, Debug, PartialEq)]
-struct Numbers {
-    word: u32,
-    one: u32,
-    two: u32,
-    three: u32,
-    length: u32,
-    choices: u32,
+pub struct Numbers {
+    pub word: u32,
+    pub one: u32,
+    pub two: u32,
+    pub three: u32,
+    pub length: u32,
+    pub choices: u32,
 }
 
 extern "C" {
@@ -52,6 +52,12 @@ impl Seen {
     pub fn whole(&self) -> bool {
         self.words.iter().all(|n| *n > 0) && self.thirteen * self.behind * self.full * self.plain * self.searched > 0
     }
+}
+
+/// The call's answer on a code, with buffers of the least length.
+pub fn checked(text: &[u8], code: u32) -> Numbers {
+    let (mut scratch, mut trace) = (vec![0u64; SCRATCH_LEAST], vec![0u8; TRACE_LEAST]);
+    unsafe { choice_check(text.as_ptr(), text.len(), code, scratch.as_mut_ptr(), scratch.len(), trace.as_mut_ptr(), trace.len()) }
 }
 
 /// The numbers that the request fixes, and the bytes of the steps.

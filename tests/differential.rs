@@ -14,6 +14,8 @@ mod reference;
 mod texts;
 #[path = "traces.rs"]
 mod traces;
+#[path = "wired.rs"]
+mod wired;
 
 use reference::{Answer, Refusal, Scenario, State, Step, SCRATCH_LEAST, TRACE_LEAST};
 use std::sync::atomic::{AtomicU64, Ordering};
@@ -182,6 +184,7 @@ struct Seen {
     choices: choices::Seen,
     monitors: monitors::Seen,
     cures: cures::Seen,
+    wired: wired::Seen,
 }
 
 impl Seen {
@@ -198,6 +201,7 @@ impl Seen {
         self.choices.add(&o.choices);
         self.monitors.add(&o.monitors);
         self.cures.add(&o.cures);
+        self.wired.add(&o.wired);
     }
 
     fn limits_of(&mut self, s: &Scenario) {
@@ -214,6 +218,7 @@ impl Seen {
         self.choices.print();
         self.monitors.print();
         self.cures.print();
+        self.wired.print();
         println!("traces replayed {}, free orders taken {}, sheets searched whole {}", self.replayed, self.wandered, self.searched);
     }
 
@@ -221,7 +226,7 @@ impl Seen {
         let eager = [0, 2, 4, 5].iter().all(|c| self.locked[*c] > 0);
         let some = |all: &[u64]| all.iter().all(|n| *n > 0);
         let judged = self.replayed * self.wandered * self.searched > 0;
-        let calls = self.traces.whole() && self.choices.whole() && self.monitors.whole() && self.cures.whole();
+        let calls = self.traces.whole() && self.choices.whole() && self.monitors.whole() && self.cures.whole() && self.wired.whole();
         eager && some(&self.free) && some(&self.refused[1..]) && some(&self.limits) && judged && calls
     }
 }
@@ -281,6 +286,9 @@ fn try_text(r: &mut Random, seen: &mut Seen) {
     }
     if r.one_in(8) {
         cures::try_cure(r, &mut seen.cures, &text);
+    }
+    if r.one_in(8) {
+        wired::try_wired(r, &mut seen.wired, &text, sheet.as_ref().ok());
     }
 }
 

@@ -37,6 +37,7 @@ pub mod Replay
 pub mod Waits
 pub mod Monitor
 pub mod Wired
+pub mod WiredChoices
 pub mod FinishedRuns
 pub mod Ahead
 pub mod Course

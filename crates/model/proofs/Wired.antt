@@ -33,7 +33,7 @@ wired-rule code w =
     (λ (e : code ≡ 5). subst⁻¹ (λ (k : ℕ). raceRuleOf k ≡ byOrigin) e refl))
     w
 
-wired-known : (code : ℕ) → IsWired code → code < channels
+pub wired-known : (code : ℕ) → IsWired code → code < channels
 wired-known code w = ⊎-elim (λ e. omega arith) (⊎-elim (λ e. omega arith) (λ e. omega arith)) w
 
 -- Codes with one rule name one race: the answers for a scenario differ at most in the steps.
@@ -114,14 +114,14 @@ module _ (S : Scenario) (C : Causal S) where
         go a (isLocked L) h = absurd (omega (arith, h refl .word))
 
 -- What a sheet's scenario or its refusal is answered: a refusal is the same on every code.
-same-answer : (o : Out Scenario) (code other : ℕ) → IsWired code → IsWired other
+pub same-answer : (o : Out Scenario) (code other : ℕ) → IsWired code → IsWired other
     → SameVerdict (numbersOf (answerFor o code)) (numbersOf (answerFor o other))
 unfolding answerFor
 same-answer (ok S) code other v w = same-verdict S code other v w
 same-answer (refusal number line) code other v w = record { word = refl; one = refl; two = refl }
 
 module _ (code : ℕ) (known : code < channels) where
-  locked-answer : (o : Out Scenario) → ((S : Scenario) → o ≡ ok S → Causal S) → numbersOf (answerFor o code) .word ≡ lockedWord
+  pub locked-answer : (o : Out Scenario) → ((S : Scenario) → o ≡ ok S → Causal S) → numbersOf (answerFor o code) .word ≡ lockedWord
       → LockedNoHigher (numbersOf (answerFor o 0)) (numbersOf (answerFor o code))
   unfolding answerFor
   locked-answer (ok S) causal i = locked-on-zero S (causal S refl) code known (omega arith) i

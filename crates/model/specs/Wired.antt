@@ -1,9 +1,9 @@
--- One verdict for FIFO, synchronous and token ring, and what a finished run does. The verdicts are read from the text, the code and
+-- Request (j), one verdict for FIFO, synchronous and token ring, and what a finished run does. The verdicts are read from the text, the code and
 -- the lengths of the buffers lent, over the numbers that the check answers. Assumes nothing.
 use Prim.Native.Nat.{ℕ, suc, _*_, _<_, _≤_}
 use mathlib.Core.Path.{_≡_}
 use mathlib.Core.Logic.{_⊎_}
-use mathlib.Core.Bool.{false, cond}
+use mathlib.Core.Bool.{Bool, false, cond}
 use mathlib.Core.List.{List, [], _∷_, _++_}
 use lib.Dec.{eqb}
 use lib.ListN.{length}
@@ -14,6 +14,7 @@ use Rattle.model.specs.Channel.{channelOf}
 use Rattle.model.specs.Run.{Step, send, deliver, consume, EndsFinished}
 use Rattle.model.specs.Answer.{Numbers, freeWord, lockedWord, acceptedOf, answerOf, numbersOf}
 use Rattle.model.specs.Verdict.{Meets}
+use Rattle.model.specs.Choice.{Ahead, ChoiceAnswer, firstLocked, choiceAnswerOf, ChoiceNumbers, choiceNumbers, firstFour}
 
 -- the wired models: FIFO, synchronous and token ring
 abbrev pub IsWired : ℕ → Type 0
@@ -49,6 +50,38 @@ pub record OneVerdict (text : List ℕ) (scratchLength traceLength : ℕ) : Type
   -- hence a sheet free on 0 is free on all six
   pub freeOnAll : answered text 0 scratchLength traceLength .word ≡ freeWord → (code : ℕ) → code < channels
       → answered text code scratchLength traceLength .word ≡ freeWord
+
+-- Over choice lists: the same word, the same race and the same list.
+pub record SameChoiceVerdict (r s : ChoiceNumbers) : Type 0 where
+  pub verdict : SameVerdict (firstFour r) (firstFour s)
+  pub options : r .options ≡ s .options
+  pub choices : r .choices ≡ s .choices
+
+-- the answer is locked, on a list ahead of l, or on l itself at message e or a lower one
+pub record LockedNoLater (a : ChoiceAnswer) (l : List Bool) (e : ℕ) : Type 0 where
+  pub list : List Bool
+  pub message : ℕ
+  pub raceEvent : ℕ
+  pub steps : List Step
+  pub isLocked : a ≡ firstLocked list message raceEvent steps
+  pub noLater : Ahead list l ⊎ ((list ≡ l) × (message ≤ e))
+
+-- the numbers that the check of choices answers
+abbrev pub chosen : List ℕ → ℕ → ℕ → ℕ → ChoiceNumbers
+chosen text code scratchLength traceLength = choiceNumbers (choiceAnswerOf text code scratchLength traceLength)
+
+-- One verdict over the choice lists of a file, for every text, whatever buffers are lent.
+pub record OneChoiceVerdict (text : List ℕ) (scratchLength traceLength : ℕ) : Type 0 where
+  -- codes 2, 4 and 5 give the same word and, where locked, the same first list and race
+  pub sameOnWired : (code other : ℕ) → IsWired code → IsWired other
+      → SameChoiceVerdict (chosen text code scratchLength traceLength) (chosen text other scratchLength traceLength)
+  -- a file locked there, or on any code, is locked on 0, on the same list or one ahead of it; on the same list, at the same or a lower message
+  pub lockedOnZero : (code : ℕ) → code < channels → (l : List Bool) (e x : ℕ) (ts : List Step)
+      → choiceAnswerOf text code scratchLength traceLength ≡ firstLocked l e x ts
+      → LockedNoLater (choiceAnswerOf text 0 scratchLength traceLength) l e
+  -- hence a file free on 0 is free on all six
+  pub freeOnAll : chosen text 0 scratchLength traceLength .word ≡ freeWord → (code : ℕ) → code < channels
+      → chosen text code scratchLength traceLength .word ≡ freeWord
 
 -- The events of a run, in its order: a send does the message's send, a consumption its receive, a delivery none.
 unfoldable pub eventsOf : List Step → List Event

@@ -1,0 +1,60 @@
+-- `Queue::is_free` meets its contract. Assumes nothing.
+use Prim.Native.Nat.{_-_}
+use Rattle.model.specs.Dispatcher.{placesOf}
+use Rattle.queue.proofs.Jobs.{Looked, looked-none, looked-one, looked-here, looked-all}
+use borrow.Author.Needs.{needs}
+use Rattle.queue.proofs.Queue.is_free.Statement.{statement}
+use Rattle.queue.proofs.Queue.is_free.Tie as tie
+
+abbrev Inv-loop : tie.InvT-loop
+Inv-loop place self count i₀ i = Looked placesOf self place count i
+
+abbrev μ-loop : tie.MeasureT-loop
+μ-loop place self count i₀ i = count - i
+
+count-requires : tie.Need-count-requires Inv-loop μ-loop
+count-requires c κs = search needs
+
+loop-holds : tie.Need-loop-holds Inv-loop μ-loop
+loop-holds c = search looked-none
+
+mul-job : tie.Need-mul-job Inv-loop μ-loop
+mul-job c = search needs
+
+element-copy-out-job : tie.Need-element-copy-out-job Inv-loop μ-loop
+element-copy-out-job c = search needs
+
+cast-if1 : tie.Need-cast-if1 Inv-loop μ-loop
+cast-if1 c = search needs
+
+returns : tie.Need-returns Inv-loop μ-loop
+returns c = search looked-here
+
+add-i : tie.Need-add-i Inv-loop μ-loop
+add-i c = search needs
+
+loop-less : tie.Need-loop-less Inv-loop μ-loop
+loop-less c = search needs
+
+loop-again : tie.Need-loop-again Inv-loop μ-loop
+loop-again c = looked-one _ _ _ _ _ (search needs) (search needs) (c .if1 .left) (search needs)
+
+returns-2 : tie.Need-returns-2 Inv-loop μ-loop
+returns-2 c = search looked-all
+
+pub is-free-spec : {M : Type 1} → statement M
+is-free-spec =
+    tie.close
+    (tie.spec
+    Inv-loop
+    μ-loop
+    count-requires
+    loop-holds
+    mul-job
+    element-copy-out-job
+    cast-if1
+    returns
+    add-i
+    loop-less
+    loop-again
+    returns-2)

@@ -47,3 +47,5 @@ pub mod Taps
 pub mod MessageLines
 pub mod Senders
 pub mod Permitted
+pub mod Queue
+pub mod Jobs

@@ -62,7 +62,7 @@ module _ (n p code count : ℕ) where
   pub data Moved (t x : ℕ) (d : Desk) (o : Outcome) : Type 0 where
     stays : {y : ℕ} → Stands d t y → y ≤ x → (isUnrefused o ≡ true → y < x) → names n o ≡ false → Moved t x d o
     goesOn : {y : ℕ} → Stands d (suc t) y → t < 2 * count → o ≡ taken n → Moved t x d o
-    isAnswered : Gone d → 2 * count ≤ t → o ≡ answered n → Moved t x d o
+    isAnswered : Gone d → x ≡ 0 → 2 * count ≤ t → o ≡ answered n → Moved t x d o
     isCancelled : Gone d → o ≡ cancelled n → Moved t x d o
 
   -- a turn: the head is this job, or another one
@@ -76,7 +76,7 @@ module _ (n p code count : ℕ) where
     where
       go : (last : Bool) → leb (2 * count) t ≡ last → Gone (record { queue = rest; given = given })
           → Moved t 0 (record { queue = cond last rest (rest ++ (jobAt (suc t) ∷ [])); given = given }) (cond last (answered n) (taken n))
-      go true e gone = isAnswered gone (leb-true (2 * count) t e) refl
+      go true e gone = isAnswered gone refl (leb-true (2 * count) t e) refl
       go false e gone = goesOn (record { ahead = rest; rest = []; queue = refl; position = refl }) (leb-false (2 * count) t e) refl
   turn-moves given (k ∷ ahead) t rest h =
       let o = once-parts given (k .number) (map numberOf (ahead ++ (jobAt t ∷ rest))) h in

@@ -49,3 +49,4 @@ pub mod Senders
 pub mod Permitted
 pub mod Queue
 pub mod Jobs
+pub mod Calls

@@ -14,10 +14,11 @@ use Rattle.model.specs.Refusal.{Out, ok, refusal, benchRefusal, heldRefu
 use Rattle.model.specs.Order.{Scenario}
 use Rattle.model.specs.Closure.{cells}
 use Rattle.model.specs.Answer.{sheetOf, Numbers}
-use Rattle.model.specs.Dispatcher.{Lent, lengthAt, codeAt, sheetAt, Job, Desk, numbersIn, freePlace, admissible, admitting, isLast, turned, without, Call, admit, turn, cancel, traceTo, Outcome, admitted, idle, taken, answered, cancelled, refused, wordsShort, turnShort, headOutcome, admission, outcomeOf, admittedTo, behind, admittedWord, Told, noAnswer, toldAs, Served, Serves, Entry, Session, opened, served, callsOf, deskFrom, ToldFrom, givenOut}
+use Rattle.model.specs.Dispatcher.{Lent, lengthAt, codeAt, sheetAt, Job, Desk, numbersIn, freePlace, admissible, admitting, isLast, turned, without, Call, admit, turn, cancel, lentTo, traceTo, Outcome, admitted, idle, taken, answered, cancelled, refused, wordsShort, turnShort, headOutcome, admission, outcomeOf, admittedTo, behind, admittedWord, Told, noAnswer, toldAs, Served, Serves, Entry, Session, opened, served, callsOf, deskFrom, ToldFrom, givenOut}
 use Rattle.model.specs.Bounded.{among}
 use Rattle.model.proofs.Bounded.{not-both}
 use Rattle.model.proofs.Refusal.{cond-ok, cond-refused}
+use Rattle.model.proofs.Closure.{cells-same}
 use Rattle.model.proofs.Accepted.{or-false}
 use Rattle.model.proofs.Queue.{cond-either, cond-both, OneEach, one-each-behind}
 
@@ -39,14 +40,13 @@ admissible-parts d l p S place e =
     let f = cond-refused (ltb textMost (lengthAt l p)) _ _ _ S (c .1) in
     record { place = place; codeKnown = ltb-true _ _ (a .0); numberLeft = ltb-true _ _ (c .0); sheet = f .1 }
 
--- a call that admits
+-- a call that admits, into place p and with number n
 pub record Admission (d : Desk) (c : Call) (n p : ℕ) : Type 0 where
-  pub lent : Lent
   pub scenario : Scenario
-  pub isAdmit : c ≡ admit lent
+  pub isAdmit : c ≡ admit (lentTo c)
   pub isNext : n ≡ d .given
-  pub isOk : admissible d lent ≡ ok scenario
-  pub parts : Admissible d lent p scenario
+  pub isOk : admissible d (lentTo c) ≡ ok scenario
+  pub parts : Admissible d (lentTo c) p scenario
 
 -- the outcomes that each call has
 abbrev has : Call → Outcome → Bool
@@ -104,14 +104,15 @@ admission-of d (admit l) n p e = go (freePlace d) (admissible d l) refl refl e
     go (some q) (ok S) f g i =
         let number : n ≡ d .given = cc in
         let place : q ≡ p = cc in
-        record {
-          lent = l;
-          scenario = S;
-          isAdmit = refl;
-          isNext = number;
-          isOk = g;
-          parts = admissible-parts d l p S (f ∙ ap some place) g;
-        }
+        record { scenario = S; isAdmit = refl; isNext = number; isOk = g; parts = admissible-parts d l p S (f ∙ ap some place) g }
+
+-- the new job stands behind the last
+pub admission-behind : (d : Desk) (c : Call) (n p : ℕ) (a : Admission d c n p)
+    → behind d c ≡ admitting d p (codeAt (lentTo c) p) (a .scenario .count)
+unfolding behind admittedTo
+admission-behind d c n p a =
+    ap (behind d) (a .isAdmit) ∙ ap (λ o. admittedTo d (lentTo c) o (admissible d (lentTo c))) (a .parts .place)
+    ∙ ap (admittedTo d (lentTo c) (some p)) (a .isOk)
 
 -- a job is answered only where the trace lent is long enough
 pub trace-enough : (d : Desk) (c : Call) (n : ℕ) → outcomeOf d c ≡ answered n → traceLeast ≤ length (traceTo c)
@@ -165,11 +166,6 @@ call-gives d (cancel m l) =
     cond-both (Gives d) (wordsShort l) d _ (refused benchRefusal 0) _ (givesNone (λ a. refl) refl)
     (cond-both (Gives d) (among m (numbersIn (d .queue))) _ d (cancelled m) (refused heldRefusal 0)
     (givesNone (λ a. refl) refl) (givesNone (λ a. refl) refl))
-
-cells-same : {A : Type 0} (n : ℕ) (f g : ℕ → A) → ((k : ℕ) → f k ≡ g k) → cells n f ≡ cells n g
-unfolding cells
-cells-same zero f g h = refl
-cells-same (suc n) f g h = rw (h 0) (ap (λ l. g 0 ∷ l) (cells-same n (λ k. f (suc k)) (λ k. g (suc k)) (λ k. h (suc k))))
 
 -- numbers given out behind the first so many: one after the other from there, and none past the last
 pub record Numbered (given : ℕ) (numbers : List ℕ) : Type 0 where

@@ -50,3 +50,4 @@ pub mod Permitted
 pub mod Queue
 pub mod Jobs
 pub mod Calls
+pub mod Dispatcher

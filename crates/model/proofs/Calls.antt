@@ -1,9 +1,9 @@
 -- Request (k), lists of calls: each takes the dispatcher that the last call left. The state, the answers and the numbers given out are those of
 -- the calls one after the other. Assumes nothing.
-use Prim.Native.Nat.{ℕ, zero, suc, _+_, _<_, _≤_}
+use Prim.Native.Nat.{ℕ, suc, _+_, _<_, _≤_}
 use native.Mathlib.Omega.{arith}
 use mathlib.Core.Path.{_≡_, refl, sym, _∙_, ap, subst, subst⁻¹}
-use mathlib.Core.Bool.{Bool, true, false, cond, _||_}
+use mathlib.Core.Bool.{Bool, true, false, cond}
 use mathlib.Core.List.{List, [], _∷_, _++_}
 use mathlib.Core.Option.{Option, none, some}
 use lib.Dec.{eqb, ltb}
@@ -14,7 +14,7 @@ use Rattle.model.specs.Refusal.{Out, ok, refusal, benchRefusal, heldRefu
 use Rattle.model.specs.Order.{Scenario}
 use Rattle.model.specs.Closure.{cells}
 use Rattle.model.specs.Answer.{sheetOf, Numbers}
-use Rattle.model.specs.Dispatcher.{Lent, lengthAt, codeAt, sheetAt, Job, Desk, numbersIn, freePlace, admissible, admitting, isLast, turned, without, Call, admit, turn, cancel, lentTo, traceTo, Outcome, admitted, idle, taken, answered, cancelled, refused, wordsShort, turnShort, headOutcome, admission, outcomeOf, admittedTo, behind, admittedWord, Told, noAnswer, toldAs, Served, Serves, Entry, Session, opened, served, callsOf, deskFrom, ToldFrom, givenOut}
+use Rattle.model.specs.Dispatcher.{Lent, lengthAt, codeAt, sheetAt, Job, Desk, numbersIn, freePlace, admissible, admitting, isLast, Call, admit, turn, cancel, lentTo, traceTo, Outcome, admitted, idle, taken, answered, cancelled, refused, wordsShort, turnShort, headOutcome, admission, outcomeOf, admittedTo, behind, admittedWord, Told, noAnswer, toldAs, Served, Serves, Entry, Session, opened, served, callsOf, deskFrom, ToldFrom, givenOut}
 use Rattle.model.specs.Bounded.{among}
 use Rattle.model.proofs.Bounded.{not-both}
 use Rattle.model.proofs.Refusal.{cond-ok, cond-refused}

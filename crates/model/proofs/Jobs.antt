@@ -1,26 +1,24 @@
 -- Request (k), one job followed: where it stands in the queue, and what each call does to it. It stays, with no more jobs ahead of it, and
 -- fewer behind every turn that is not refused; it has a turn and goes behind the last; it is answered, or cancelled, and is gone for good.
 -- Assumes nothing.
-use Prim.Native.Nat.{ℕ, zero, suc, _+_, _*_, _<_, _≤_}
+use Prim.Native.Nat.{ℕ, suc, _*_, _<_, _≤_}
 use native.Mathlib.Omega.{arith}
 use mathlib.Core.Path.{_≡_, refl, sym, _∙_, ap, subst, subst⁻¹}
-use mathlib.Core.Logic.{_⊎_, inl, inr, ⊎-elim}
-use mathlib.Core.Bool.{Bool, true, false, not, cond, _&&_, _||_}
+use mathlib.Core.Bool.{Bool, true, false, cond}
 use mathlib.Core.List.{List, [], _∷_, _++_, map, append-assoc}
 use mathlib.Core.Option.{Option, none, some}
-use lib.Dec.{eqb, ltb, leb}
+use lib.Dec.{eqb, leb}
 use lib.ListN.{length}
-use borrow.Author.Tests.{eqb-true, eqb-false, eq-eqb, ne-eqb, leb-true, leb-false}
-use Rattle.model.specs.Limits.{jobsMost}
+use borrow.Author.Tests.{eqb-true, eqb-false, ne-eqb, leb-true, leb-false}
 use Rattle.model.specs.Bounded.{among}
 use Rattle.model.specs.Refusal.{Out, ok, refusal, heldRefusal}
 use Rattle.model.specs.Order.{Scenario}
 use Rattle.model.specs.Taps.{eachOnce as onceBelow}
-use Rattle.model.specs.Dispatcher.{Lent, codeAt, Job, Desk, numbersIn, freePlace, admissible, newJob, admitting, isLast, turned, without, Call, admit, turn, cancel, Outcome, admitted, idle, taken, answered, cancelled, refused, wordsShort, turnShort, headOutcome, admission, outcomeOf, admittedTo, behind}
-use Rattle.model.proofs.Bounded.{which, not-both}
+use Rattle.model.specs.Dispatcher.{codeAt, Job, Desk, numbersIn, freePlace, admissible, newJob, admitting, isLast, turned, without, Call, admit, turn, cancel, Outcome, admitted, idle, taken, answered, cancelled, refused, wordsShort, turnShort, headOutcome, admission, outcomeOf, admittedTo, behind}
+use Rattle.model.proofs.Bounded.{not-both}
 use Rattle.model.proofs.Accepted.{or-false}
 use Rattle.model.proofs.Ahead.{once-parts, once-below}
-use Rattle.model.proofs.Queue.{cond-either, cond-both, again, numberOf, numbers-map, among-behind, among-turned, among-without, among-held, number-leaves, Kept, without-kept, OneEach}
+use Rattle.model.proofs.Queue.{cond-either, cond-both, again, numberOf, numbers-map, among-behind, among-turned, among-without, among-held, number-leaves, without-kept, OneEach}
 
 -- the outcome is a turn of job n, or its cancellation
 abbrev pub names : ℕ → Outcome → Bool

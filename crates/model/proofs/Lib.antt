@@ -50,4 +50,5 @@ pub mod Permitted
 pub mod Queue
 pub mod Jobs
 pub mod Calls
+pub mod Turns
 pub mod Dispatcher

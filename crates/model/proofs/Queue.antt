@@ -1,23 +1,23 @@
 -- Request (k), the queue: each job of an orderly dispatcher has a place and a number of its own, at most so many are held, and every call
 -- keeps this. Said once for whatever is read of a job, its place or its number. Assumes nothing.
-use Prim.Native.Nat.{ℕ, zero, suc, _+_, _<_, _≤_}
+use Prim.Native.Nat.{ℕ, zero, suc, _<_, _≤_}
 use native.Mathlib.Nat.{not-suc-le-zero, le-of-suc-le-suc, eq-or-lt-of-le, le-step}
 use native.Mathlib.Omega.{arith}
 use mathlib.Core.Path.{_≡_, refl, sym, _∙_, ap, subst, subst⁻¹}
-use mathlib.Core.Logic.{_⊎_, inl, inr, ⊎-elim}
-use mathlib.Core.Bool.{Bool, true, false, not, cond, _&&_, _||_}
+use mathlib.Core.Logic.{⊎-elim}
+use mathlib.Core.Bool.{Bool, true, false, cond, _||_}
 use mathlib.Core.List.{List, [], _∷_, _++_, map, map-append}
 use mathlib.Core.Option.{Option, none, some}
-use lib.Dec.{eqb, ltb}
+use lib.Dec.{eqb}
 use lib.ListN.{length, length-map}
-use borrow.Author.Tests.{eqb-true, eqb-false, eq-eqb, ne-eqb, ltb-true, lt-ltb, not-true}
+use borrow.Author.Tests.{eqb-true, eqb-false, eq-eqb, ne-eqb, lt-ltb, not-true}
 use Rattle.model.specs.Limits.{jobsMost}
-use Rattle.model.specs.Bounded.{howMany, among, lowest}
+use Rattle.model.specs.Bounded.{howMany, among}
 use Rattle.model.specs.Refusal.{Out, ok, refusal}
 use Rattle.model.specs.Order.{Scenario}
 use Rattle.model.specs.Taps.{eachOnce as onceBelow}
-use Rattle.model.specs.Dispatcher.{Lent, codeAt, Job, Desk, emptyDesk, placesOf, numbersIn, isFree, freePlace, admissible, newJob, admitting, isLast, turned, without, Call, admit, turn, cancel, wordsShort, turnShort, admittedTo, behind, eachOnce, allBelow, Orderly}
-use Rattle.model.proofs.Bounded.{and-left, and-right, and-both, which, not-both, many-same, many-most, IsLowest, lowest-some}
+use Rattle.model.specs.Dispatcher.{codeAt, Job, Desk, emptyDesk, placesOf, numbersIn, isFree, freePlace, admissible, newJob, admitting, isLast, turned, without, Call, admit, turn, cancel, wordsShort, turnShort, admittedTo, behind, eachOnce, allBelow, Orderly}
+use Rattle.model.proofs.Bounded.{which, many-same, many-most, lowest-some}
 use Rattle.model.proofs.Accepted.{or-false}
 use Rattle.model.proofs.Ahead.{among-snoc, among-here, among-there, among-not, once-parts, once-make, once-below, once-snoc}
 

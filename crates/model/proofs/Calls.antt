@@ -14,7 +14,7 @@ use Rattle.model.specs.Refusal.{Out, ok, refusal, benchRefusal, heldRefu
 use Rattle.model.specs.Order.{Scenario}
 use Rattle.model.specs.Closure.{cells}
 use Rattle.model.specs.Answer.{sheetOf, Numbers}
-use Rattle.model.specs.Dispatcher.{Lent, lengthAt, codeAt, sheetAt, Job, Desk, numbersIn, freePlace, admissible, admitting, isLast, Call, admit, turn, cancel, lentTo, traceTo, Outcome, admitted, idle, taken, answered, cancelled, refused, wordsShort, turnShort, headOutcome, admission, outcomeOf, admittedTo, behind, admittedWord, Told, noAnswer, toldAs, Served, Serves, Entry, Session, opened, served, callsOf, deskFrom, ToldFrom, givenOut}
+use Rattle.model.specs.Dispatcher.{Lent, lengthAt, codeAt, sheetAt, Job, Desk, numbersIn, freePlace, admissible, admitting, isLast, Call, admit, turn, cancel, lentTo, traceTo, Outcome, admitted, idle, taken, answered, cancelled, refused, wordsShort, turnShort, headOutcome, admission, outcomeOf, admittedTo, behind, admittedWord, idleWord, takenWord, answeredWord, cancelledWord, refusedWord, Told, noAnswer, toldAs, Served, Serves, Entry, Session, opened, served, callsOf, deskFrom, ToldFrom, givenOut}
 use Rattle.model.specs.Bounded.{among}
 use Rattle.model.proofs.Bounded.{not-both}
 use Rattle.model.proofs.Refusal.{cond-ok, cond-refused}
@@ -132,11 +132,11 @@ told-admitted (admitted m q) a n p e =
     let number : m ≡ n = ap (λ (t : Told). t .one) e in
     let place : q ≡ p = ap (λ (t : Told). t .two) e in
     cc
-told-admitted idle a n p e = let w : _≡_ {A = ℕ} 1 0 = ap (λ (t : Told). t .word) e in absurd (omega arith)
-told-admitted (taken m) a n p e = let w : _≡_ {A = ℕ} 2 0 = ap (λ (t : Told). t .word) e in absurd (omega arith)
-told-admitted (answered m) a n p e = let w : _≡_ {A = ℕ} 3 0 = ap (λ (t : Told). t .word) e in absurd (omega arith)
-told-admitted (cancelled m) a n p e = let w : _≡_ {A = ℕ} 4 0 = ap (λ (t : Told). t .word) e in absurd (omega arith)
-told-admitted (refused number line) a n p e = let w : _≡_ {A = ℕ} 5 0 = ap (λ (t : Told). t .word) e in absurd (omega arith)
+told-admitted idle a n p e = let w : idleWord ≡ admittedWord = ap (λ (t : Told). t .word) e in absurd (omega arith)
+told-admitted (taken m) a n p e = let w : takenWord ≡ admittedWord = ap (λ (t : Told). t .word) e in absurd (omega arith)
+told-admitted (answered m) a n p e = let w : answeredWord ≡ admittedWord = ap (λ (t : Told). t .word) e in absurd (omega arith)
+told-admitted (cancelled m) a n p e = let w : cancelledWord ≡ admittedWord = ap (λ (t : Told). t .word) e in absurd (omega arith)
+told-admitted (refused number line) a n p e = let w : refusedWord ≡ admittedWord = ap (λ (t : Told). t .word) e in absurd (omega arith)
 
 -- ---- the numbers given out
 

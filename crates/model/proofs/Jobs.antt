@@ -38,6 +38,66 @@ isUnrefused (answered m) = true
 isUnrefused (cancelled m) = false
 isUnrefused (refused number line) = false
 
+-- A job's number.
+module _ (n : ℕ) where
+  -- it was given out, and is not held
+  pub record Gone (d : Desk) : Type 0 where
+    pub absent : among n (map numberOf (d .queue)) ≡ false
+    pub wasGiven : n < d .given
+
+  -- What is so of a job that is gone, and stays so: no outcome names it again.
+  pub record StaysGone (d : Desk) (o : Outcome) : Type 0 where
+    pub gone : Gone d
+    pub unnamed : names n o ≡ false
+
+  head-unnamed : (js : List Job) → among n (map numberOf js) ≡ false → names n (headOutcome js) ≡ false
+  unfolding headOutcome among
+  head-unnamed [] h = refl
+  head-unnamed (j ∷ js) h =
+      let apart : eqb (j .number) n ≡ false = ne-eqb (j .number) n (λ e. eqb-false n (j .number) (or-false _ _ h .0) (sym e)) in
+      cond-either (λ o. names n o ≡ false) (isLast j) (answered (j .number)) (taken (j .number)) apart apart
+
+  pub gone-call : (d : Desk) (c : Call) → Gone d → StaysGone (behind d c) (outcomeOf d c)
+  unfolding behind outcomeOf admission admittedTo admitting
+  gone-call d (admit l) g = go (freePlace d) (admissible d l)
+    where
+      go : (place : Option ℕ) (sheet : Out Scenario) → StaysGone (admittedTo d l place sheet) (admission d place sheet)
+      go place (refusal number line) = record { gone = g; unnamed = refl }
+      go none (ok S) = record { gone = g; unnamed = refl }
+      go (some q) (ok S) =
+          let given : n < d .given = g .wasGiven in
+          record {
+            gone = record {
+              absent = among-behind numberOf (λ j. refl) n (d .queue) _ (g .absent) (λ e. omega arith);
+              wasGiven = omega arith;
+            };
+            unnamed = refl;
+          }
+  gone-call d (turn l trace) g =
+      cond-both StaysGone (turnShort l trace) d _ (refused _ _) (headOutcome (d .queue))
+      (record { gone = g; unnamed = refl })
+      (record {
+        gone = record { absent = among-turned numberOf (λ j. refl) n (d .queue) (g .absent); wasGiven = g .wasGiven };
+        unnamed = head-unnamed (d .queue) (g .absent);
+      })
+  gone-call d (cancel m l) g =
+      cond-both StaysGone (wordsShort l) d _ (refused _ _) _
+      (record { gone = g; unnamed = refl })
+      (go (among m (numbersIn (d .queue))) refl)
+    where
+      go : (held : Bool) → among m (numbersIn (d .queue)) ≡ held
+          → StaysGone (cond held (record { queue = without m (d .queue); given = d .given }) d) (cond held (cancelled m) (refused heldRefusal 0))
+      go true e =
+          record {
+            gone = record { absent = among-without numberOf (λ j. refl) n m (d .queue) (g .absent); wasGiven = g .wasGiven };
+            unnamed =
+                ne-eqb m n
+                (λ i.
+                not-both (among m (map numberOf (d .queue))) (rw (numbers-map (d .queue)) at e)
+                (subst⁻¹ (λ (k : ℕ). among k (map numberOf (d .queue)) ≡ false) i (g .absent)));
+          }
+      go false e = record { gone = g; unnamed = refl }
+
 -- The job n, in place p, with its code and its count of messages.
 module _ (n p code count : ℕ) where
   -- after t turns
@@ -51,17 +111,12 @@ module _ (n p code count : ℕ) where
     pub queue : d .queue ≡ ahead ++ (jobAt t ∷ rest)
     pub position : length ahead ≡ x
 
-  -- its number was given out, and it is not held
-  pub record Gone (d : Desk) : Type 0 where
-    pub absent : among n (map numberOf (d .queue)) ≡ false
-    pub wasGiven : n < d .given
-
   -- What a call does to it, by the dispatcher behind the call and its outcome.
   pub data Moved (t x : ℕ) (d : Desk) (o : Outcome) : Type 0 where
     stays : {y : ℕ} → Stands d t y → y ≤ x → (isUnrefused o ≡ true → y < x) → names n o ≡ false → Moved t x d o
     goesOn : {y : ℕ} → Stands d (suc t) y → t < 2 * count → o ≡ taken n → Moved t x d o
-    isAnswered : Gone d → x ≡ 0 → 2 * count ≤ t → o ≡ answered n → Moved t x d o
-    isCancelled : Gone d → o ≡ cancelled n → Moved t x d o
+    isAnswered : Gone n d → x ≡ 0 → 2 * count ≤ t → o ≡ answered n → Moved t x d o
+    isCancelled : Gone n d → o ≡ cancelled n → Moved t x d o
 
   -- a turn: the head is this job, or another one
   turn-moves : (given : ℕ) (ahead : List Job) (t : ℕ) (rest : List Job)
@@ -72,7 +127,7 @@ module _ (n p code count : ℕ) where
       let o = once-parts given n (map numberOf rest) h in
       go (leb (2 * count) t) refl (record { absent = o .fresh; wasGiven = o .below })
     where
-      go : (last : Bool) → leb (2 * count) t ≡ last → Gone (record { queue = rest; given = given })
+      go : (last : Bool) → leb (2 * count) t ≡ last → Gone n (record { queue = rest; given = given })
           → Moved t 0 (record { queue = cond last rest (rest ++ (jobAt (suc t) ∷ [])); given = given }) (cond last (answered n) (taken n))
       go true e gone = isAnswered gone refl (leb-true (2 * count) t e) refl
       go false e gone = goesOn (record { ahead = rest; rest = []; queue = refl; position = refl }) (leb-false (2 * count) t e) refl
@@ -166,56 +221,3 @@ module _ (n p code count : ℕ) where
       (as-standing d t x s (λ y q. Moved t y (record { queue = without m q; given = d .given }) (cancelled m))
       (cancel-moves m (d .given) (s .ahead) t (s .rest) h))
       (untouched d _ t x s refl refl))
-
-  -- What is so of a job that is gone, and stays so: no outcome names it again.
-  pub record StaysGone (d : Desk) (o : Outcome) : Type 0 where
-    pub gone : Gone d
-    pub unnamed : names n o ≡ false
-
-  head-unnamed : (js : List Job) → among n (map numberOf js) ≡ false → names n (headOutcome js) ≡ false
-  unfolding headOutcome among
-  head-unnamed [] h = refl
-  head-unnamed (j ∷ js) h =
-      let apart : eqb (j .number) n ≡ false = ne-eqb (j .number) n (λ e. eqb-false n (j .number) (or-false _ _ h .0) (sym e)) in
-      cond-either (λ o. names n o ≡ false) (isLast j) (answered (j .number)) (taken (j .number)) apart apart
-
-  pub gone-call : (d : Desk) (c : Call) → Gone d → StaysGone (behind d c) (outcomeOf d c)
-  unfolding behind outcomeOf admission admittedTo admitting
-  gone-call d (admit l) g = go (freePlace d) (admissible d l)
-    where
-      go : (place : Option ℕ) (sheet : Out Scenario) → StaysGone (admittedTo d l place sheet) (admission d place sheet)
-      go place (refusal number line) = record { gone = g; unnamed = refl }
-      go none (ok S) = record { gone = g; unnamed = refl }
-      go (some q) (ok S) =
-          let given : n < d .given = g .wasGiven in
-          record {
-            gone = record {
-              absent = among-behind numberOf (λ j. refl) n (d .queue) _ (g .absent) (λ e. omega arith);
-              wasGiven = omega arith;
-            };
-            unnamed = refl;
-          }
-  gone-call d (turn l trace) g =
-      cond-both StaysGone (turnShort l trace) d _ (refused _ _) (headOutcome (d .queue))
-      (record { gone = g; unnamed = refl })
-      (record {
-        gone = record { absent = among-turned numberOf (λ j. refl) n (d .queue) (g .absent); wasGiven = g .wasGiven };
-        unnamed = head-unnamed (d .queue) (g .absent);
-      })
-  gone-call d (cancel m l) g =
-      cond-both StaysGone (wordsShort l) d _ (refused _ _) _
-      (record { gone = g; unnamed = refl })
-      (go (among m (numbersIn (d .queue))) refl)
-    where
-      go : (held : Bool) → among m (numbersIn (d .queue)) ≡ held
-          → StaysGone (cond held (record { queue = without m (d .queue); given = d .given }) d) (cond held (cancelled m) (refused heldRefusal 0))
-      go true e =
-          record {
-            gone = record { absent = among-without numberOf (λ j. refl) n m (d .queue) (g .absent); wasGiven = g .wasGiven };
-            unnamed =
-                ne-eqb m n
-                (λ i.
-                not-both (among m (map numberOf (d .queue))) (rw (numbers-map (d .queue)) at e)
-                (subst⁻¹ (λ (k : ℕ). among k (map numberOf (d .queue)) ≡ false) i (g .absent)));
-          }
-      go false e = record { gone = g; unnamed = refl }

@@ -74,41 +74,30 @@ member-of : (ahead : List Job) (j : Job) (rest : List Job) → Member j (ahead +
 member-of [] j rest = inl refl
 member-of (k ∷ ahead) j rest = inr (member-of ahead j rest)
 
-module _ {M : Type 0} (desk : M → Desk) (Holds : M → List ℕ → Job → Scenario → Type 0) (n p code count : ℕ) where
-  -- the job, with its number, place, code and count of messages: standing in the queue, and gone
-  abbrev pub Held : M → ℕ → ℕ → Type 0
-  Held d t x = Stands n p code count (desk d) t x
-
-  abbrev pub Left : M → Type 0
-  Left d = Gone n p code count (desk d)
-
-  -- the outcome of a call
-  abbrev pub outcome : M → Entry → Outcome
-  outcome d e = outcomeOf (desk d) (e .call)
-
+module _ {M : Type 0} (desk : M → Desk) (Holds : M → List ℕ → Job → Scenario → Type 0) (n : ℕ) where
   -- the entry says what the outcome says
   call-says : (d : M) (e : Entry) (c : Called desk Holds d e) (turning answering cancelling : Bool)
-      → ((a : Numbers) → Says n (toldAs (outcome d e) a) turning answering cancelling) → Says n (e .told) turning answering cancelling
+      → ((a : Numbers) → Says n (toldAs (outcomeOf (desk d) (e .call)) a) turning answering cancelling) → Says n (e .told) turning answering cancelling
   call-says d e c turning answering cancelling h =
       subst⁻¹ (λ (t : Told). Says n t turning answering cancelling) (told-as desk Holds d e c) (h (e .told .answer))
 
   -- a job that is gone is named by no call, and stays gone
   record Silent (es : List Entry) (last : M) : Type 0 where
-    gone : Left last
+    gone : Gone n (desk last)
     turns : counted (isTurnOf n) es ≡ 0
     answers : counted (says answeredWord n) es ≡ 0
     cancels : counted (says cancelledWord n) es ≡ 0
 
-  silent-call : (d : M) (e : Entry) (c : Called desk Holds d e) → Left d → Says n (e .told) false false false × Left (c .result .next)
+  silent-call : (d : M) (e : Entry) (c : Called desk Holds d e) → Gone n (desk d) → Says n (e .told) false false false × Gone n (desk (c .result .next))
   silent-call d e c g =
-      let q = gone-call n p code count (desk d) (e .call) g in (
-        call-says d e c false false false (λ a. unnamed-says n (outcome d e) a (q .unnamed)),
-        subst⁻¹ (Gone n p code count) (c .serves .next) (q .gone),
+      let q = gone-call n (desk d) (e .call) g in (
+        call-says d e c false false false (λ a. unnamed-says n (outcomeOf (desk d) (e .call)) a (q .unnamed)),
+        subst⁻¹ (Gone n) (c .serves .next) (q .gone),
       )
 
-  silent : (es : List Entry) (d last : M) → Ran desk Holds d es last → Left d → Silent es last
+  silent : (es : List Entry) (d last : M) → Ran desk Holds d es last → Gone n (desk d) → Silent es last
   unfolding counted isTurnOf says
-  silent [] d last r g = record { gone = subst Left r g; turns = refl; answers = refl; cancels = refl }
+  silent [] d last r g = record { gone = subst (λ (m : M). Gone n (desk m)) r g; turns = refl; answers = refl; cancels = refl }
   silent (e ∷ es) d last r g =
       let q = silent-call d e (r .0) g in
       let more = silent es (r .0 .result .next) last (r .1) (q .1) in
@@ -119,12 +108,21 @@ module _ {M : Type 0} (desk : M → Desk) (Holds : M → List ℕ → Job → Sc
         cancels = rw (q .0 .cancels) (omega (arith, more .cancels));
       }
 
+-- The job n, in place p, with its code and its count of messages.
+module _ {M : Type 0} (desk : M → Desk) (Holds : M → List ℕ → Job → Scenario → Type 0) (n p code count : ℕ) where
+  abbrev pub job : ℕ → Job
+  job t = jobAt n p code count t
+
+  -- it stands in the queue
+  abbrev pub Held : M → ℕ → ℕ → Type 0
+  Held d t x = Stands n p code count (desk d) t x
+
   -- What a call does to the job, as its entry says.
   pub data Met (d : M) (t x : ℕ) (e : Entry) (next : M) : Type 0 where
     waits : {y : ℕ} → Held next t y → y ≤ x → (isUnrefusedTurn e ≡ true → y < x) → Says n (e .told) false false false → Met d t x e next
     hasTurn : {y : ℕ} → Held next (suc t) y → t < 2 * count → isUnrefusedTurn e ≡ true → Says n (e .told) true false false → Met d t x e next
-    hasAnswer : Left next → x ≡ 0 → 2 * count ≤ t → outcome d e ≡ answered n → Says n (e .told) true true false → Met d t x e next
-    calledOff : Left next → Says n (e .told) false false true → Met d t x e next
+    hasAnswer : Gone n (desk next) → x ≡ 0 → 2 * count ≤ t → outcomeOf (desk d) (e .call) ≡ answered n → Says n (e .told) true true false → Met d t x e next
+    calledOff : Gone n (desk next) → Says n (e .told) false false true → Met d t x e next
 
   met : (d : M) (t x : ℕ) (e : Entry) (c : Called desk Holds d e) → OneEach (desk d) → Held d t x → Met d t x e (c .result .next)
   unfolding isUnrefusedTurn
@@ -136,27 +134,24 @@ module _ {M : Type 0} (desk : M → Desk) (Holds : M → List ℕ → Job → Sc
       held : (u y : ℕ) → Stands n p code count (behind (desk d) (e .call)) u y → Held next u y
       held u y h = subst⁻¹ (λ (k : Desk). Stands n p code count k u y) (c .serves .next) h
 
-      left : Gone n p code count (behind (desk d) (e .call)) → Left next
-      left h = subst⁻¹ (Gone n p code count) (c .serves .next) h
+      left : Gone n (behind (desk d) (e .call)) → Gone n (desk next)
+      left h = subst⁻¹ (Gone n) (c .serves .next) h
 
-      unrefused : isUnrefusedTurn e ≡ isUnrefused (outcome d e)
+      unrefused : isUnrefusedTurn e ≡ isUnrefused (outcomeOf (desk d) (e .call))
       unrefused =
           ap (λ (k : Told). eqb (k .word) idleWord || eqb (k .word) takenWord || eqb (k .word) answeredWord) (told-as desk Holds d e c)
-          ∙ unrefused-says (outcome d e) (e .told .answer)
+          ∙ unrefused-says (outcomeOf (desk d) (e .call)) (e .told .answer)
 
-      go : Moved n p code count t x (behind (desk d) (e .call)) (outcome d e) → Met d t x e next
+      go : Moved n p code count t x (behind (desk d) (e .call)) (outcomeOf (desk d) (e .call)) → Met d t x e next
       go (stays {y = y} h most fewer other) =
-          waits (held t y h) most (λ u. fewer (sym unrefused ∙ u)) (call-says d e c _ _ _ (λ a. unnamed-says n (outcome d e) a other))
+          waits (held t y h) most (λ u. fewer (sym unrefused ∙ u)) (call-says desk Holds n d e c _ _ _ (λ a. unnamed-says n (outcomeOf (desk d) (e .call)) a other))
       go (goesOn {y = y} h more i) =
-          hasTurn (held (suc t) y h) more (unrefused ∙ ap isUnrefused i) (call-says d e c _ _ _ (λ a. taken-says n (outcome d e) a i))
+          hasTurn (held (suc t) y h) more (unrefused ∙ ap isUnrefused i) (call-says desk Holds n d e c _ _ _ (λ a. taken-says n (outcomeOf (desk d) (e .call)) a i))
       go (isAnswered g first last i) =
-          hasAnswer (left g) first last i (call-says d e c _ _ _ (λ a. answered-says n (outcome d e) a i))
-      go (isCancelled g i) = calledOff (left g) (call-says d e c _ _ _ (λ a. cancelled-says n (outcome d e) a i))
+          hasAnswer (left g) first last i (call-says desk Holds n d e c _ _ _ (λ a. answered-says n (outcomeOf (desk d) (e .call)) a i))
+      go (isCancelled g i) = calledOff (left g) (call-says desk Holds n d e c _ _ _ (λ a. cancelled-says n (outcomeOf (desk d) (e .call)) a i))
 
   -- a job held before and behind a call that is lent its words as they were left: they still hold its scenario
-  abbrev pub job : ℕ → Job
-  job t = jobAt n p code count t
-
   is-member : (d : M) (t x : ℕ) → Held d t x → Member (job t) (desk d .queue)
   is-member d t x s = subst⁻¹ (Member (job t)) (s .queue) (member-of (s .ahead) (job t) (s .rest))
 
@@ -180,7 +175,7 @@ module _ {M : Type 0} (desk : M → Desk) (Holds : M → List ℕ → Job → Sc
   -- one call ahead of them
   followed-more : (d : M) (left : List ℕ) (t x u y : ℕ) (e : Entry) (c : Called desk Holds d e) (mid : List Entry) (last : M)
       → OneEach (desk d) → Held d t x → Held (c .result .next) u y → u ≡ t + cond (isTurnOf n e) 1 0
-      → Followed (c .result .next) (e .words) u mid last ⊎ Left last → Followed d left t (e ∷ mid) last ⊎ Left last
+      → Followed (c .result .next) (e .words) u mid last ⊎ Gone n (desk last) → Followed d left t (e ∷ mid) last ⊎ Gone n (desk last)
   unfolding counted
   followed-more d left t x u y e c mid last o s s′ turned (inr g) = inr g
   followed-more d left t x u y e c mid last o s s′ turned (inl f) =
@@ -196,10 +191,10 @@ module _ {M : Type 0} (desk : M → Desk) (Holds : M → List ℕ → Job → Sc
 
   -- behind the calls it is held, or gone
   follow : (mid : List Entry) (d last : M) (left : List ℕ) (t x : ℕ) → Ran desk Holds d mid last → OneEach (desk d) → Held d t x → t ≤ 2 * count
-      → Followed d left t mid last ⊎ Left last
+      → Followed d left t mid last ⊎ Gone n (desk last)
   unfolding counted isTurnOf says
   follow [] d last left t x r o s le =
-      subst (λ (m : M). Followed d left t [] m ⊎ Left m) r
+      subst (λ (m : M). Followed d left t [] m ⊎ Gone n (desk m)) r
       (inl (record { turns = t; position = x; areCounted = omega arith; notPast = le; stands = s; holds = λ S h k. h }))
   follow (e ∷ mid) d last left t x r o s le =
       go (met d t x e c o s) (λ u y s′ b. follow mid next last (e .words) u y (r .1) (called-one-each desk Holds d e c o) s′ b)
@@ -210,14 +205,14 @@ module _ {M : Type 0} (desk : M → Desk) (Holds : M → List ℕ → Job → Sc
       next : M
       next = c .result .next
 
-      go : Met d t x e next → ((u y : ℕ) → Held next u y → u ≤ 2 * count → Followed next (e .words) u mid last ⊎ Left last)
-          → Followed d left t (e ∷ mid) last ⊎ Left last
+      go : Met d t x e next → ((u y : ℕ) → Held next u y → u ≤ 2 * count → Followed next (e .words) u mid last ⊎ Gone n (desk last))
+          → Followed d left t (e ∷ mid) last ⊎ Gone n (desk last)
       go (waits {y = y} s′ most fewer says′) more =
           followed-more d left t x t y e c mid last o s s′ (rw (says′ .turns) (omega arith)) (more t y s′ le)
       go (hasTurn {y = y} s′ b unrefused says′) more =
           followed-more d left t x (suc t) y e c mid last o s s′ (rw (says′ .turns) (omega arith)) (more (suc t) y s′ b)
-      go (hasAnswer g first b i says′) more = inr (silent mid next last (r .1) g .gone)
-      go (calledOff g says′) more = inr (silent mid next last (r .1) g .gone)
+      go (hasAnswer g first b i says′) more = inr (silent desk Holds n mid next last (r .1) g .gone)
+      go (calledOff g says′) more = inr (silent desk Holds n mid next last (r .1) g .gone)
 
   -- ---- within so many unrefused turns
 
@@ -271,7 +266,7 @@ module _ {M : Type 0} (desk : M → Desk) (Holds : M → List ℕ → Job → Sc
       go (hasTurn {y = y} s′ b u says′) ih =
           let w = own left refl b u y s′ in
           rw (says′ .answers) (omega (arith, ih (suc t) y (w .0) s′ (w .1) (w .2)))
-      go (hasAnswer g first b i says′) ih = rw (says′ .answers) (omega (arith, silent es next last (r .1) g .answers))
+      go (hasAnswer g first b i says′) ih = rw (says′ .answers) (omega (arith, silent desk Holds n es next last (r .1) g .answers))
       go (calledOff g says′) ih =
           let one : 1 + counted (says cancelledWord n) es ≡ 0 = rw (says′ .cancels) at quiet in
           absurd (omega arith)
@@ -313,7 +308,7 @@ module _ {M : Type 0} (desk : M → Desk) (Holds : M → List ℕ → Job → Sc
         fate =
             ⊎-elim
             (λ (f : Followed d left 0 mid m). stillHeld f (met m (f .turns) (f .position) e c o′ (f .stands)))
-            (λ (g : Left m). longGone (silent-call m e c g .0))
+            (λ (g : Gone n (desk m)). longGone (silent-call desk Holds n m e c g .0))
             (follow mid d m left 0 x (parts .1) o s (omega arith));
       }
 
@@ -346,8 +341,8 @@ module _ {M : Type 0} (desk : M → Desk) (Holds : M → List ℕ → Job → Sc
         never : (turning : Bool) → Says n (e .told) turning false false → counted (isTurnOf n) rest + counted (says cancelledWord n) rest ≡ 0
         never turning s = not-both (says answeredWord n e || says cancelledWord n e) over (rw (s .answers, s .cancels))
 
-        gone : Left next → counted (isTurnOf n) rest + counted (says cancelledWord n) rest ≡ 0
-        gone g = let s = silent rest next last (r .ranOn) g in omega (arith, s .turns, s .cancels)
+        gone : Gone n (desk next) → counted (isTurnOf n) rest + counted (says cancelledWord n) rest ≡ 0
+        gone g = let s = silent desk Holds n rest next last (r .ranOn) g in omega (arith, s .turns, s .cancels)
 
         go : Fate d left mid (r .before) e next → counted (isTurnOf n) rest + counted (says cancelledWord n) rest ≡ 0
         go (stillHeld f (waits s most fewer s′)) = never false s′

@@ -3,128 +3,55 @@
 use Prim.Native.Nat.{ℕ, suc, _+_, _<_, _≤_}
 use native.Mathlib.Omega.{arith}
 use mathlib.Core.Path.{_≡_, refl, sym, _∙_, ap, subst, subst⁻¹}
-use mathlib.Core.Bool.{Bool, true, false, cond}
+use mathlib.Core.Bool.{true, false}
 use mathlib.Core.List.{List, [], _∷_, _++_}
-use mathlib.Core.Option.{Option, none, some}
-use lib.Dec.{eqb, ltb}
+use lib.Dec.{eqb}
 use lib.ListN.{length}
-use borrow.Author.Tests.{ltb-true, ltb-false}
-use Rattle.model.specs.Limits.{textMost, channels, traceLeast, jobNumbers, jobWordsLeast}
-use Rattle.model.specs.Refusal.{Out, ok, refusal, benchRefusal, heldRefusal}
+use Rattle.model.specs.Limits.{traceLeast, jobNumbers}
 use Rattle.model.specs.Order.{Scenario}
 use Rattle.model.specs.Closure.{cells}
-use Rattle.model.specs.Answer.{sheetOf, Numbers}
-use Rattle.model.specs.Dispatcher.{Lent, lengthAt, codeAt, sheetAt, Job, Desk, numbersIn, freePlace, admissible, admitting, isLast, Call, admit, turn, cancel, lentTo, traceTo, Outcome, admitted, idle, taken, answered, cancelled, refused, wordsShort, turnShort, headOutcome, admission, outcomeOf, admittedTo, behind, admittedWord, idleWord, takenWord, answeredWord, cancelledWord, refusedWord, Told, noAnswer, toldAs, Served, Serves, Entry, Session, opened, served, callsOf, deskFrom, ToldFrom, givenOut}
-use Rattle.model.specs.Bounded.{among}
-use Rattle.model.proofs.Bounded.{not-both}
-use Rattle.model.proofs.Refusal.{cond-ok, cond-refused}
+use Rattle.model.specs.Answer.{Numbers}
+use Rattle.model.specs.Dispatcher.{codeAt, Job, Desk, admitting, Call, admit, lentTo, traceTo, Outcome, admitted, idle, taken, answered, cancelled, refused, outcomeOf, behind, admittedWord, idleWord, takenWord, answeredWord, cancelledWord, refusedWord, Told, noAnswer, toldAs, Served, Serves, Entry, Session, opened, served, callsOf, deskFrom, ToldFrom, givenOut}
 use Rattle.model.proofs.Closure.{cells-same}
-use Rattle.model.proofs.Accepted.{or-false}
-use Rattle.model.proofs.Queue.{cond-either, cond-both, OneEach, one-each-behind}
+use Rattle.model.proofs.CallCases.{Admissible, Does, refuses, idles, admits, takes, answers, cancels, call-does}
+use Rattle.model.proofs.Queue.{OneEach, one-each-behind}
 
 -- ---- what the outcome of a call says of the call
-
--- an admission that is not refused: the lowest free place, its code and its sheet, and a number left
-pub record Admissible (d : Desk) (l : Lent) (p : ℕ) (S : Scenario) : Type 0 where
-  pub place : freePlace d ≡ some p
-  pub codeKnown : codeAt l p < channels
-  pub numberLeft : d .given < jobNumbers
-  pub sheet : sheetOf (sheetAt l p) ≡ ok S
-
-pub admissible-parts : (d : Desk) (l : Lent) (p : ℕ) (S : Scenario) → freePlace d ≡ some p → admissible d l ≡ ok S → Admissible d l p S
-unfolding admissible
-admissible-parts d l p S place e =
-    let a = cond-ok (ltb (codeAt l p) channels) _ _ _ S (rw (place, admissible) at e) in
-    let b = cond-refused (ltb (length (l .words)) jobWordsLeast) _ _ _ S (a .1) in
-    let c = cond-ok (ltb (d .given) jobNumbers) _ _ _ S (b .1) in
-    let f = cond-refused (ltb textMost (lengthAt l p)) _ _ _ S (c .1) in
-    record { place = place; codeKnown = ltb-true _ _ (a .0); numberLeft = ltb-true _ _ (c .0); sheet = f .1 }
 
 -- a call that admits, into place p and with number n
 pub record Admission (d : Desk) (c : Call) (n p : ℕ) : Type 0 where
   pub scenario : Scenario
   pub isAdmit : c ≡ admit (lentTo c)
   pub isNext : n ≡ d .given
-  pub isOk : admissible d (lentTo c) ≡ ok scenario
   pub parts : Admissible d (lentTo c) p scenario
-
--- the outcomes that each call has
-abbrev has : Call → Outcome → Bool
-has (admit l) (admitted n p) = true
-has (admit l) idle = false
-has (admit l) (taken n) = false
-has (admit l) (answered n) = false
-has (admit l) (cancelled n) = false
-has (admit l) (refused number line) = true
-has (turn l trace) (admitted n p) = false
-has (turn l trace) idle = true
-has (turn l trace) (taken n) = true
-has (turn l trace) (answered n) = true
-has (turn l trace) (cancelled n) = false
-has (turn l trace) (refused number line) = true
-has (cancel m l) (admitted n p) = false
-has (cancel m l) idle = false
-has (cancel m l) (taken n) = false
-has (cancel m l) (answered n) = false
-has (cancel m l) (cancelled n) = true
-has (cancel m l) (refused number line) = true
-
-has-outcome : (d : Desk) (c : Call) → has c (outcomeOf d c) ≡ true
-unfolding outcomeOf admission headOutcome
-has-outcome d (admit l) = go (freePlace d) (admissible d l)
-  where
-    go : (place : Option ℕ) (sheet : Out Scenario) → has (admit l) (admission d place sheet) ≡ true
-    go place (refusal number line) = refl
-    go none (ok S) = refl
-    go (some q) (ok S) = refl
-has-outcome d (turn l trace) =
-    cond-either (λ o. has (turn l trace) o ≡ true) (turnShort l trace) (refused benchRefusal 0) (headOutcome (d .queue)) refl (go (d .queue))
-  where
-    go : (js : List Job) → has (turn l trace) (headOutcome js) ≡ true
-    go [] = refl
-    go (j ∷ js) = cond-either (λ o. has (turn l trace) o ≡ true) (isLast j) (answered (j .number)) (taken (j .number)) refl refl
-has-outcome d (cancel m l) =
-    cond-either (λ o. has (cancel m l) o ≡ true) (wordsShort l) (refused benchRefusal 0) _ refl
-    (cond-either (λ o. has (cancel m l) o ≡ true) (among m (numbersIn (d .queue))) (cancelled m) (refused heldRefusal 0) refl refl)
-
--- an outcome that the call does not have
-never : {C : Type 0} (d : Desk) (c : Call) (o : Outcome) → outcomeOf d c ≡ o → has c o ≡ false → C
-never d c o e f = not-both (has c o) (subst (λ (u : Outcome). has c u ≡ true) e (has-outcome d c)) f
+  -- the new job stands behind the last
+  pub next : behind d c ≡ admitting d p (codeAt (lentTo c) p) (scenario .count)
 
 pub admission-of : (d : Desk) (c : Call) (n p : ℕ) → outcomeOf d c ≡ admitted n p → Admission d c n p
-unfolding outcomeOf admission
-admission-of d (turn l trace) n p e = never d (turn l trace) (admitted n p) e refl
-admission-of d (cancel m l) n p e = never d (cancel m l) (admitted n p) e refl
-admission-of d (admit l) n p e = go (freePlace d) (admissible d l) refl refl e
+admission-of d c n p e = go c (behind d c) (outcomeOf d c) (call-does d c) refl e
   where
-    go : (place : Option ℕ) (sheet : Out Scenario) → freePlace d ≡ place → admissible d l ≡ sheet → admission d place sheet ≡ admitted n p
-        → Admission d (admit l) n p
-    go place (refusal number line) f g i = let z : _≡_ {A = ℕ} 0 1 = cc in absurd (omega arith)
-    go none (ok S) f g i = let z : _≡_ {A = ℕ} 0 1 = cc in absurd (omega arith)
-    go (some q) (ok S) f g i =
+    go : (b : Call) (next : Desk) (o : Outcome) → Does d b next o → behind d b ≡ next → o ≡ admitted n p → Admission d b n p
+    go b next o refuses f i = let z : _≡_ {A = ℕ} 0 1 = cc in absurd (omega arith)
+    go b next o (idles h) f i = let z : _≡_ {A = ℕ} 0 1 = cc in absurd (omega arith)
+    go b next o (admits {l = l} {p = q} {S = S} a) f i =
         let number : n ≡ d .given = cc in
         let place : q ≡ p = cc in
-        record { scenario = S; isAdmit = refl; isNext = number; isOk = g; parts = admissible-parts d l p S (f ∙ ap some place) g }
-
--- the new job stands behind the last
-pub admission-behind : (d : Desk) (c : Call) (n p : ℕ) (a : Admission d c n p)
-    → behind d c ≡ admitting d p (codeAt (lentTo c) p) (a .scenario .count)
-unfolding behind admittedTo
-admission-behind d c n p a =
-    ap (behind d) (a .isAdmit) ∙ ap (λ o. admittedTo d (lentTo c) o (admissible d (lentTo c))) (a .parts .place)
-    ∙ ap (admittedTo d (lentTo c) (some p)) (a .isOk)
+        subst (λ (k : ℕ). Admission d (admit l) n k) place (record { scenario = S; isAdmit = refl; isNext = number; parts = a; next = f })
+    go b next o (takes h early) f i = let z : _≡_ {A = ℕ} 0 1 = cc in absurd (omega arith)
+    go b next o (answers h due long) f i = let z : _≡_ {A = ℕ} 0 1 = cc in absurd (omega arith)
+    go b next o (cancels h) f i = let z : _≡_ {A = ℕ} 0 1 = cc in absurd (omega arith)
 
 -- a job is answered only where the trace lent is long enough
 pub trace-enough : (d : Desk) (c : Call) (n : ℕ) → outcomeOf d c ≡ answered n → traceLeast ≤ length (traceTo c)
-unfolding outcomeOf turnShort
-trace-enough d (admit l) n e = never d (admit l) (answered n) e refl
-trace-enough d (cancel m l) n e = never d (cancel m l) (answered n) e refl
-trace-enough d (turn l trace) n e = go (turnShort l trace) refl e
+trace-enough d c n e = go c (behind d c) (outcomeOf d c) (call-does d c) e
   where
-    go : (short : Bool) → turnShort l trace ≡ short → cond short (refused benchRefusal 0) (headOutcome (d .queue)) ≡ answered n
-        → traceLeast ≤ length trace
-    go true f i = let z : _≡_ {A = ℕ} 0 1 = cc in absurd (omega arith)
-    go false f i = ltb-false (length trace) traceLeast (or-false (wordsShort l) (ltb (length trace) traceLeast) f .1)
+    go : (b : Call) (next : Desk) (o : Outcome) → Does d b next o → o ≡ answered n → traceLeast ≤ length (traceTo b)
+    go b next o refuses i = let z : _≡_ {A = ℕ} 0 1 = cc in absurd (omega arith)
+    go b next o (idles h) i = let z : _≡_ {A = ℕ} 0 1 = cc in absurd (omega arith)
+    go b next o (admits a) i = let z : _≡_ {A = ℕ} 0 1 = cc in absurd (omega arith)
+    go b next o (takes h early) i = let z : _≡_ {A = ℕ} 0 1 = cc in absurd (omega arith)
+    go b next o (answers h due long) i = long
+    go b next o (cancels h) i = let z : _≡_ {A = ℕ} 0 1 = cc in absurd (omega arith)
 
 -- the answer tells that a call admitted
 pub told-admitted : (o : Outcome) (a : Numbers) (n p : ℕ) → toldAs o a ≡ toldAs (admitted n p) noAnswer → o ≡ admitted n p
@@ -145,27 +72,14 @@ data Gives (d next : Desk) (o : Outcome) : Type 0 where
   gives : {p : ℕ} → o ≡ admitted (d .given) p → next .given ≡ suc (d .given) → d .given < jobNumbers → Gives d next o
   givesNone : ((a : Numbers) → eqb (toldAs o a .word) admittedWord ≡ false) → next .given ≡ d .given → Gives d next o
 
-call-gives : (d : Desk) (c : Call) → Gives d (behind d c) (outcomeOf d c)
-unfolding behind outcomeOf admission admittedTo admitting headOutcome
-call-gives d (admit l) = go (freePlace d) (admissible d l) refl refl
-  where
-    go : (place : Option ℕ) (sheet : Out Scenario) → freePlace d ≡ place → admissible d l ≡ sheet
-        → Gives d (admittedTo d l place sheet) (admission d place sheet)
-    go place (refusal number line) f g = givesNone (λ a. refl) refl
-    go none (ok S) f g = givesNone (λ a. refl) refl
-    go (some q) (ok S) f g = gives refl refl (admissible-parts d l q S f g .numberLeft)
-call-gives d (turn l trace) =
-    cond-both (Gives d) (turnShort l trace) d _ (refused benchRefusal 0) (headOutcome (d .queue))
-    (givesNone (λ a. refl) refl) (givesNone (go (d .queue)) refl)
-  where
-    go : (js : List Job) (a : Numbers) → eqb (toldAs (headOutcome js) a .word) admittedWord ≡ false
-    go [] a = refl
-    go (j ∷ js) a =
-        cond-either (λ o. eqb (toldAs o a .word) admittedWord ≡ false) (isLast j) (answered (j .number)) (taken (j .number)) refl refl
-call-gives d (cancel m l) =
-    cond-both (Gives d) (wordsShort l) d _ (refused benchRefusal 0) _ (givesNone (λ a. refl) refl)
-    (cond-both (Gives d) (among m (numbersIn (d .queue))) _ d (cancelled m) (refused heldRefusal 0)
-    (givesNone (λ a. refl) refl) (givesNone (λ a. refl) refl))
+call-gives : (d : Desk) (c : Call) (next : Desk) (o : Outcome) → Does d c next o → Gives d next o
+unfolding admitting
+call-gives d c next o refuses = givesNone (λ a. refl) refl
+call-gives d c next o (idles e) = givesNone (λ a. refl) refl
+call-gives d c next o (admits m) = gives refl refl (m .numberLeft)
+call-gives d c next o (takes e early) = givesNone (λ a. refl) refl
+call-gives d c next o (answers e due long) = givesNone (λ a. refl) refl
+call-gives d c next o (cancels held) = givesNone (λ a. refl) refl
 
 -- numbers given out behind the first so many: one after the other from there, and none past the last
 pub record Numbered (given : ℕ) (numbers : List ℕ) : Type 0 where
@@ -187,7 +101,7 @@ pub numbered : (d : Desk) (es : List Entry) → d .given ≤ jobNumbers → Told
 unfolding givenOut cells
 numbered d [] le told = record { inOrder = refl; most = omega arith }
 numbered d (e ∷ es) le told =
-    go (call-gives d (e .call)) (λ h. numbered (behind d (e .call)) es h (told .1))
+    go (call-gives d (e .call) (behind d (e .call)) (outcomeOf d (e .call)) (call-does d (e .call))) (λ h. numbered (behind d (e .call)) es h (told .1))
   where
     go : Gives d (behind d (e .call)) (outcomeOf d (e .call))
         → (behind d (e .call) .given ≤ jobNumbers → Numbered (behind d (e .call) .given) (givenOut es))

@@ -16,7 +16,7 @@ use Rattle.model.proofs.PointThree.{point-three}
 use Rattle.model.proofs.Queue.{OneEach, orderly-of, one-each-empty}
 use Rattle.model.proofs.Jobs.{jobAt, Stands}
 use Rattle.model.proofs.Turns.{position-below, answered-within, Reached, reached, last-turn, leaves, answered-as}
-use Rattle.model.proofs.Calls.{Admission, admission-of, admission-behind, told-admitted, numbered, Called, Ran, ran-split, session-ran, told-as, ran-state, ran-told, called-one-each, ran-one-each}
+use Rattle.model.proofs.Calls.{Admission, admission-of, told-admitted, numbered, Called, Ran, ran-split, session-ran, told-as, ran-state, ran-told, called-one-each, ran-one-each}
 
 -- the answer for a scenario is that of the check for the sheet's text, with buffers long enough; and point 3 holds of it
 check-answer : (text : List ℕ) (code scratchLength : ℕ) (trace traceExit : List ℕ) (answer : Numbers) (S : Scenario)
@@ -48,7 +48,7 @@ module _ {M : Type 0} (desk : M → Desk) (Holds : M → List ℕ → Job → Sc
       record {
         ahead = desk d .queue;
         rest = [];
-        queue = ap (λ (k : Desk). k .queue) (c .serves .next ∙ admission-behind (desk d) (a .call) (desk d .given) p m);
+        queue = ap (λ (k : Desk). k .queue) (c .serves .next ∙ m .next);
         position = refl;
       }
 
@@ -87,7 +87,7 @@ module _ {M : Type 0} (desk : M → Desk) (Holds : M → List ℕ → Job → Sc
       stands = admitted-stands d a c p m
 
       admits : Holds next (placeWords p (a .words)) (jobAt n p code (S .count) 0) S
-      admits = c .serves .admits (lentTo (a .call)) p S (m .isAdmit) (m .parts .place) (m .isOk)
+      admits = c .serves .admits (lentTo (a .call)) p S (m .isAdmit) (m .parts .place) (m .parts .isOk)
 
       at : (mid : List Entry) (e : Entry) (rest : List Entry) → after ≡ mid ++ (e ∷ rest)
           → Reached desk Holds n p code (S .count) next (a .words) mid e rest last

@@ -4,21 +4,19 @@
 use Prim.Native.Nat.{ℕ, suc, _*_, _<_, _≤_}
 use native.Mathlib.Omega.{arith}
 use mathlib.Core.Path.{_≡_, refl, sym, _∙_, ap, subst, subst⁻¹}
-use mathlib.Core.Bool.{Bool, true, false, cond}
-use mathlib.Core.List.{List, [], _∷_, _++_, map, append-assoc}
-use mathlib.Core.Option.{Option, none, some}
-use lib.Dec.{eqb, leb}
+use mathlib.Core.Bool.{Bool, true, false}
+use mathlib.Core.List.{List, [], _∷_, _++_, map, append-assoc, append-nil}
+use lib.Dec.{eqb}
 use lib.ListN.{length}
-use borrow.Author.Tests.{eqb-true, eqb-false, ne-eqb, leb-true, leb-false}
+use borrow.Author.Tests.{eqb-true, eqb-false, ne-eqb}
 use Rattle.model.specs.Bounded.{among}
-use Rattle.model.specs.Refusal.{Out, ok, refusal, heldRefusal}
-use Rattle.model.specs.Order.{Scenario}
 use Rattle.model.specs.Taps.{eachOnce as onceBelow}
-use Rattle.model.specs.Dispatcher.{codeAt, Job, Desk, numbersIn, freePlace, admissible, newJob, admitting, isLast, turned, without, Call, admit, turn, cancel, Outcome, admitted, idle, taken, answered, cancelled, refused, wordsShort, turnShort, headOutcome, admission, outcomeOf, admittedTo, behind}
+use Rattle.model.specs.Dispatcher.{codeAt, Job, Desk, newJob, admitting, without, Call, Outcome, admitted, idle, taken, answered, cancelled, refused, outcomeOf, behind}
 use Rattle.model.proofs.Bounded.{not-both}
 use Rattle.model.proofs.Accepted.{or-false}
 use Rattle.model.proofs.Ahead.{once-parts, once-below}
-use Rattle.model.proofs.Queue.{cond-either, cond-both, again, numberOf, numbers-map, among-behind, among-turned, among-without, among-held, number-leaves, without-kept, OneEach}
+use Rattle.model.proofs.CallCases.{again, Does, refuses, idles, admits, takes, answers, cancels, call-does}
+use Rattle.model.proofs.Queue.{numberOf, numbers-map, among-behind, among-without, among-held, number-leaves, without-kept, OneEach, one-each-of}
 
 -- the outcome is a turn of job n, or its cancellation
 abbrev pub names : ℕ → Outcome → Bool
@@ -50,53 +48,46 @@ module _ (n : ℕ) where
     pub gone : Gone d
     pub unnamed : names n o ≡ false
 
-  head-unnamed : (js : List Job) → among n (map numberOf js) ≡ false → names n (headOutcome js) ≡ false
-  unfolding headOutcome among
-  head-unnamed [] h = refl
-  head-unnamed (j ∷ js) h =
-      let apart : eqb (j .number) n ≡ false = ne-eqb (j .number) n (λ e. eqb-false n (j .number) (or-false _ _ h .0) (sym e)) in
-      cond-either (λ o. names n o ≡ false) (isLast j) (answered (j .number)) (taken (j .number)) apart apart
+  -- the head is another job, and it is not behind it either
+  head-apart : (d : Desk) (j : Job) (js : List Job) → d .queue ≡ j ∷ js → Gone d
+      → (eqb n (j .number) ≡ false) × (among n (map numberOf js) ≡ false)
+  unfolding among
+  head-apart d j js e g = or-false _ _ (subst (λ (q : List Job). among n (map numberOf q) ≡ false) e (g .absent))
+
+  gone-next : (d : Desk) (c : Call) (next : Desk) (o : Outcome) → Does d c next o → Gone d → StaysGone next o
+  unfolding admitting
+  gone-next d c next o refuses g = record { gone = g; unnamed = refl }
+  gone-next d c next o (idles e) g = record { gone = g; unnamed = refl }
+  gone-next d c next o (admits a) g =
+      let given : n < d .given = g .wasGiven in
+      record {
+        gone = record { absent = among-behind numberOf n (d .queue) _ (g .absent) (λ e. omega arith); wasGiven = omega arith };
+        unnamed = refl;
+      }
+  gone-next d c next o (takes {j = j} {js = js} e early) g =
+      let h = head-apart d j js e g in
+      record {
+        gone = record { absent = among-behind numberOf n js (again j) (h .1) (eqb-false n (j .number) (h .0)); wasGiven = g .wasGiven };
+        unnamed = ne-eqb (j .number) n (λ i. eqb-false n (j .number) (h .0) (sym i));
+      }
+  gone-next d c next o (answers {j = j} {js = js} e due long) g =
+      let h = head-apart d j js e g in
+      record {
+        gone = record { absent = h .1; wasGiven = g .wasGiven };
+        unnamed = ne-eqb (j .number) n (λ i. eqb-false n (j .number) (h .0) (sym i));
+      }
+  gone-next d c next o (cancels {n = m} held) g =
+      record {
+        gone = record { absent = among-without numberOf n m (d .queue) (g .absent); wasGiven = g .wasGiven };
+        unnamed =
+            ne-eqb m n
+            (λ i.
+            not-both (among m (map numberOf (d .queue))) (rw (numbers-map (d .queue)) at held)
+            (subst⁻¹ (λ (k : ℕ). among k (map numberOf (d .queue)) ≡ false) i (g .absent)));
+      }
 
   pub gone-call : (d : Desk) (c : Call) → Gone d → StaysGone (behind d c) (outcomeOf d c)
-  unfolding behind outcomeOf admission admittedTo admitting
-  gone-call d (admit l) g = go (freePlace d) (admissible d l)
-    where
-      go : (place : Option ℕ) (sheet : Out Scenario) → StaysGone (admittedTo d l place sheet) (admission d place sheet)
-      go place (refusal number line) = record { gone = g; unnamed = refl }
-      go none (ok S) = record { gone = g; unnamed = refl }
-      go (some q) (ok S) =
-          let given : n < d .given = g .wasGiven in
-          record {
-            gone = record {
-              absent = among-behind numberOf (λ j. refl) n (d .queue) _ (g .absent) (λ e. omega arith);
-              wasGiven = omega arith;
-            };
-            unnamed = refl;
-          }
-  gone-call d (turn l trace) g =
-      cond-both StaysGone (turnShort l trace) d _ (refused _ _) (headOutcome (d .queue))
-      (record { gone = g; unnamed = refl })
-      (record {
-        gone = record { absent = among-turned numberOf (λ j. refl) n (d .queue) (g .absent); wasGiven = g .wasGiven };
-        unnamed = head-unnamed (d .queue) (g .absent);
-      })
-  gone-call d (cancel m l) g =
-      cond-both StaysGone (wordsShort l) d _ (refused _ _) _
-      (record { gone = g; unnamed = refl })
-      (go (among m (numbersIn (d .queue))) refl)
-    where
-      go : (held : Bool) → among m (numbersIn (d .queue)) ≡ held
-          → StaysGone (cond held (record { queue = without m (d .queue); given = d .given }) d) (cond held (cancelled m) (refused heldRefusal 0))
-      go true e =
-          record {
-            gone = record { absent = among-without numberOf (λ j. refl) n m (d .queue) (g .absent); wasGiven = g .wasGiven };
-            unnamed =
-                ne-eqb m n
-                (λ i.
-                not-both (among m (map numberOf (d .queue))) (rw (numbers-map (d .queue)) at e)
-                (subst⁻¹ (λ (k : ℕ). among k (map numberOf (d .queue)) ≡ false) i (g .absent)));
-          }
-      go false e = record { gone = g; unnamed = refl }
+  gone-call d c g = gone-next d c (behind d c) (outcomeOf d c) (call-does d c) g
 
 -- The job n, in place p, with its code and its count of messages.
 module _ (n p code count : ℕ) where
@@ -118,44 +109,62 @@ module _ (n p code count : ℕ) where
     isAnswered : Gone n d → x ≡ 0 → 2 * count ≤ t → o ≡ answered n → Moved t x d o
     isCancelled : Gone n d → o ≡ cancelled n → Moved t x d o
 
-  -- a turn: the head is this job, or another one
-  turn-moves : (given : ℕ) (ahead : List Job) (t : ℕ) (rest : List Job)
-      → onceBelow given (map numberOf (ahead ++ (jobAt t ∷ rest))) ≡ true
-      → Moved t (length ahead) (record { queue = turned (ahead ++ (jobAt t ∷ rest)); given = given }) (headOutcome (ahead ++ (jobAt t ∷ rest)))
-  unfolding turned headOutcome isLast
-  turn-moves given [] t rest h =
-      let o = once-parts given n (map numberOf rest) h in
-      go (leb (2 * count) t) refl (record { absent = o .fresh; wasGiven = o .below })
-    where
-      go : (last : Bool) → leb (2 * count) t ≡ last → Gone n (record { queue = rest; given = given })
-          → Moved t 0 (record { queue = cond last rest (rest ++ (jobAt (suc t) ∷ [])); given = given }) (cond last (answered n) (taken n))
-      go true e gone = isAnswered gone refl (leb-true (2 * count) t e) refl
-      go false e gone = goesOn (record { ahead = rest; rest = []; queue = refl; position = refl }) (leb-false (2 * count) t e) refl
-  turn-moves given (k ∷ ahead) t rest h =
-      let o = once-parts given (k .number) (map numberOf (ahead ++ (jobAt t ∷ rest))) h in
-      go (isLast k) (other (o .fresh))
-    where
-      other : among (k .number) (map numberOf (ahead ++ (jobAt t ∷ rest))) ≡ false → eqb (k .number) n ≡ false
-      other fresh =
-          ne-eqb (k .number) n
-          (λ e.
-          not-both (among n (map numberOf (ahead ++ (jobAt t ∷ rest)))) (among-held numberOf ahead (jobAt t) rest)
-          (subst (λ (i : ℕ). among i (map numberOf (ahead ++ (jobAt t ∷ rest))) ≡ false) e fresh))
+  -- the head of the queue is this job, or another one with it behind
+  data Head (t x : ℕ) (j : Job) (js : List Job) : Type 0 where
+    isThis : j ≡ jobAt t → x ≡ 0 → Head t x j js
+    isOther : (ahead rest : List Job) → js ≡ ahead ++ (jobAt t ∷ rest) → x ≡ suc (length ahead) → eqb (j .number) n ≡ false → Head t x j js
 
-      go : (last : Bool) → eqb (k .number) n ≡ false
-          → Moved t (suc (length ahead))
-          (record { queue = cond last (ahead ++ (jobAt t ∷ rest)) (ahead ++ (jobAt t ∷ rest) ++ (again k ∷ [])); given = given })
-          (cond last (answered (k .number)) (taken (k .number)))
-      go true e = stays (record { ahead = ahead; rest = rest; queue = refl; position = refl }) (omega arith) (λ u. omega arith) e
-      go false e =
-          stays
-          (record {
-            ahead = ahead;
-            rest = rest ++ (again k ∷ []);
-            queue = append-assoc ahead (jobAt t ∷ rest) (again k ∷ []);
-            position = refl;
-          })
-          (omega arith) (λ u. omega arith) e
+  head : (d : Desk) (t x : ℕ) (j : Job) (js : List Job) → d .queue ≡ j ∷ js → OneEach d → Stands d t x → Head t x j js
+  head d t x j js e o s = go (s .ahead) (s .rest) (sym e ∙ s .queue) (sym (s .position))
+    where
+      fresh : among (j .number) (map numberOf js) ≡ false
+      fresh = once-parts (d .given) (j .number) (map numberOf js) (one-each-of d (j ∷ js) e o .numbers) .fresh
+
+      go : (ahead rest : List Job) → j ∷ js ≡ ahead ++ (jobAt t ∷ rest) → x ≡ length ahead → Head t x j js
+      go [] rest i l = let same : j ≡ jobAt t = cc in isThis same l
+      go (k ∷ ahead) rest i l =
+          let tail : js ≡ ahead ++ (jobAt t ∷ rest) = cc in
+          let here : among n (map numberOf js) ≡ true =
+          subst⁻¹ (λ (q : List Job). among n (map numberOf q) ≡ true) tail (among-held numberOf ahead (jobAt t) rest) in
+          isOther ahead rest tail l
+          (ne-eqb (j .number) n
+          (λ h. not-both (among n (map numberOf js)) here (subst (λ (m : ℕ). among m (map numberOf js) ≡ false) h fresh)))
+
+  -- a turn of another job: one fewer is ahead of this one, with the tail, and what is put behind it
+  other-turn : (t x given : ℕ) (ahead rest behind : List Job) (js : List Job) (o : Outcome) → js ≡ ahead ++ (jobAt t ∷ rest)
+      → x ≡ suc (length ahead) → names n o ≡ false → Moved t x (record { queue = js ++ behind; given = given }) o
+  other-turn t x given ahead rest behind js o e l unnamed =
+      stays
+      (record {
+        ahead = ahead;
+        rest = rest ++ behind;
+        queue = ap (λ q. q ++ behind) e ∙ append-assoc ahead (jobAt t ∷ rest) behind;
+        position = refl;
+      })
+      (omega arith) (λ u. omega arith) unnamed
+
+  take-moves : (d : Desk) (t x : ℕ) (j : Job) (js : List Job) → j .turns < 2 * j .count → Head t x j js
+      → Moved t x (record { queue = js ++ (again j ∷ []); given = d .given }) (taken (j .number))
+  take-moves d t x j js early (isThis e first) =
+      goesOn
+      (record { ahead = js; rest = []; queue = ap (λ k. js ++ (again k ∷ [])) e; position = refl })
+      (subst (λ (k : Job). k .turns < 2 * k .count) e early) (ap (λ k. taken (k .number)) e)
+  take-moves d t x j js early (isOther ahead rest e l other) = other-turn t x (d .given) ahead rest (again j ∷ []) js (taken (j .number)) e l other
+
+  answer-moves : (d : Desk) (t x : ℕ) (j : Job) (js : List Job) → 2 * j .count ≤ j .turns → OneEach (record { queue = j ∷ js; given = d .given })
+      → Head t x j js → Moved t x (record { queue = js; given = d .given }) (answered (j .number))
+  answer-moves d t x j js due o (isThis e first) =
+      let parts = once-parts (d .given) (j .number) (map numberOf js) (o .numbers) in
+      let number : j .number ≡ n = ap numberOf e in
+      isAnswered
+      (record {
+        absent = subst (λ (m : ℕ). among m (map numberOf js) ≡ false) number (parts .fresh);
+        wasGiven = subst (λ (m : ℕ). m < d .given) number (parts .below);
+      })
+      first (subst (λ (k : Job). 2 * k .count ≤ k .turns) e due) (ap answered number)
+  answer-moves d t x j js due o (isOther ahead rest e l other) =
+      subst (λ (q : List Job). Moved t x (record { queue = q; given = d .given }) (answered (j .number))) (append-nil js)
+      (other-turn t x (d .given) ahead rest [] js (answered (j .number)) e l other)
 
   -- a cancellation: of this job, or of another one
   cancel-moves : (m given : ℕ) (ahead : List Job) (t : ℕ) (rest : List Job)
@@ -180,44 +189,41 @@ module _ (n p code count : ℕ) where
           (record { ahead = k .ahead; rest = k .rest; queue = k .queue; position = refl })
           (k .notMore) (λ u. not-both false u refl) (ne-eqb m n (λ i. eqb-false n m e (sym i)))
 
-  -- nothing is done to it
-  untouched : (d : Desk) (o : Outcome) (t x : ℕ) → Stands d t x → isUnrefused o ≡ false → names n o ≡ false → Moved t x d o
-  untouched d o t x s quiet other = stays s (omega arith) (λ u. not-both (isUnrefused o) u quiet) other
-
   -- what is so of the queue by its parts is so of the queue
   as-standing : (d : Desk) (t x : ℕ) (s : Stands d t x) (P : ℕ → List Job → Type 0)
       → P (length (s .ahead)) (s .ahead ++ (jobAt t ∷ s .rest)) → P x (d .queue)
   as-standing d t x s P h =
       subst⁻¹ (λ (q : List Job). P x q) (s .queue) (subst (λ (y : ℕ). P y (s .ahead ++ (jobAt t ∷ s .rest))) (s .position) h)
 
+  -- the queue is not empty
+  not-empty : {C : Type 0} (d : Desk) (t x : ℕ) → Stands d t x → d .queue ≡ [] → C
+  not-empty {C} d t x s e = go (s .ahead) (sym e ∙ s .queue)
+    where
+      go : (ahead : List Job) → [] ≡ ahead ++ (jobAt t ∷ s .rest) → C
+      go [] i = let z : _≡_ {A = ℕ} 0 1 = cc in absurd (omega arith)
+      go (k ∷ ahead) i = let z : _≡_ {A = ℕ} 0 1 = cc in absurd (omega arith)
+
+  moves : (d : Desk) (c : Call) (next : Desk) (o : Outcome) (t x : ℕ) → Does d c next o → OneEach d → Stands d t x → Moved t x next o
+  unfolding admitting
+  moves d c next o t x refuses each s = stays s (omega arith) (λ u. not-both false u refl) refl
+  moves d c next o t x (idles e) each s = not-empty d t x s e
+  moves d c next o t x (admits {l = l} {p = q} {S = S} a) each s =
+      stays
+      (record {
+        ahead = s .ahead;
+        rest = s .rest ++ (newJob d q (codeAt l q) (S .count) ∷ []);
+        queue = ap (λ js. js ++ (newJob d q (codeAt l q) (S .count) ∷ [])) (s .queue) ∙ append-assoc (s .ahead) (jobAt t ∷ s .rest) _;
+        position = s .position;
+      })
+      (omega arith) (λ u. not-both false u refl) refl
+  moves d c next o t x (takes {j = j} {js = js} e early) each s = take-moves d t x j js early (head d t x j js e each s)
+  moves d c next o t x (answers {j = j} {js = js} e due long) each s =
+      answer-moves d t x j js due (one-each-of d (j ∷ js) e each) (head d t x j js e each s)
+  moves d c next o t x (cancels {n = m} held) each s =
+      as-standing d t x s (λ y q. Moved t y (record { queue = without m q; given = d .given }) (cancelled m))
+      (cancel-moves m (d .given) (s .ahead) t (s .rest)
+      (subst (λ (q : List Job). onceBelow (d .given) (map numberOf q) ≡ true) (s .queue) (each .numbers)))
+
   -- every call
   pub one-call : (d : Desk) (c : Call) (t x : ℕ) → OneEach d → Stands d t x → Moved t x (behind d c) (outcomeOf d c)
-  unfolding behind outcomeOf admission admittedTo admitting
-  one-call d (admit l) t x o s = go (freePlace d) (admissible d l)
-    where
-      go : (place : Option ℕ) (sheet : Out Scenario) → Moved t x (admittedTo d l place sheet) (admission d place sheet)
-      go place (refusal number line) = untouched d _ t x s refl refl
-      go none (ok S) = untouched d _ t x s refl refl
-      go (some q) (ok S) =
-          untouched (admitting d q (codeAt l q) (S .count)) _ t x
-          (record {
-            ahead = s .ahead;
-            rest = s .rest ++ (newJob d q (codeAt l q) (S .count) ∷ []);
-            queue = ap (λ js. js ++ (newJob d q (codeAt l q) (S .count) ∷ [])) (s .queue) ∙ append-assoc (s .ahead) (jobAt t ∷ s .rest) _;
-            position = s .position;
-          })
-          refl refl
-  one-call d (turn l trace) t x o s =
-      let h = subst (λ (q : List Job). onceBelow (d .given) (map numberOf q) ≡ true) (s .queue) (o .numbers) in
-      cond-both (Moved t x) (turnShort l trace) d _ (refused _ _) (headOutcome (d .queue))
-      (untouched d _ t x s refl refl)
-      (as-standing d t x s (λ y q. Moved t y (record { queue = turned q; given = d .given }) (headOutcome q))
-      (turn-moves (d .given) (s .ahead) t (s .rest) h))
-  one-call d (cancel m l) t x o s =
-      let h = subst (λ (q : List Job). onceBelow (d .given) (map numberOf q) ≡ true) (s .queue) (o .numbers) in
-      cond-both (Moved t x) (wordsShort l) d _ (refused _ _) _
-      (untouched d _ t x s refl refl)
-      (cond-both (Moved t x) (among m (numbersIn (d .queue))) _ d (cancelled m) (refused _ _)
-      (as-standing d t x s (λ y q. Moved t y (record { queue = without m q; given = d .given }) (cancelled m))
-      (cancel-moves m (d .given) (s .ahead) t (s .rest) h))
-      (untouched d _ t x s refl refl))
+  one-call d c t x o s = moves d c (behind d c) (outcomeOf d c) t x (call-does d c) o s

@@ -47,6 +47,7 @@ pub mod Taps
 pub mod MessageLines
 pub mod Senders
 pub mod Permitted
+pub mod CallCases
 pub mod Queue
 pub mod Jobs
 pub mod Calls

@@ -5,30 +5,20 @@ use native.Mathlib.Nat.{not-suc-le-zero, le-of-suc-le-suc, eq-or-lt-of-le, le-st
 use native.Mathlib.Omega.{arith}
 use mathlib.Core.Path.{_≡_, refl, sym, _∙_, ap, subst, subst⁻¹}
 use mathlib.Core.Logic.{⊎-elim}
-use mathlib.Core.Bool.{Bool, true, false, cond, _||_}
+use mathlib.Core.Bool.{Bool, true, false, _||_}
 use mathlib.Core.List.{List, [], _∷_, _++_, map, map-append}
-use mathlib.Core.Option.{Option, none, some}
+use mathlib.Core.Option.{some}
 use lib.Dec.{eqb}
 use lib.ListN.{length, length-map}
 use borrow.Author.Tests.{eqb-true, eqb-false, eq-eqb, ne-eqb, lt-ltb, not-true}
 use Rattle.model.specs.Limits.{jobsMost}
 use Rattle.model.specs.Bounded.{howMany, among}
-use Rattle.model.specs.Refusal.{Out, ok, refusal}
-use Rattle.model.specs.Order.{Scenario}
 use Rattle.model.specs.Taps.{eachOnce as onceBelow}
-use Rattle.model.specs.Dispatcher.{codeAt, Job, Desk, emptyDesk, placesOf, numbersIn, isFree, freePlace, admissible, newJob, admitting, isLast, turned, without, Call, admit, turn, cancel, wordsShort, turnShort, admittedTo, behind, eachOnce, allBelow, Orderly}
+use Rattle.model.specs.Dispatcher.{codeAt, Job, Desk, emptyDesk, placesOf, numbersIn, isFree, freePlace, newJob, admitting, without, Call, Outcome, outcomeOf, behind, eachOnce, allBelow, Orderly}
 use Rattle.model.proofs.Bounded.{which, many-same, many-most, lowest-some}
 use Rattle.model.proofs.Accepted.{or-false}
+use Rattle.model.proofs.CallCases.{again, Does, refuses, idles, admits, takes, answers, cancels, call-does}
 use Rattle.model.proofs.Ahead.{among-snoc, among-here, among-there, among-not, once-parts, once-make, once-below, once-snoc}
-
--- what is so of both is so of the one that a test picks
-pub cond-either : {A : Type 0} (P : A → Type 0) (t : Bool) (a b : A) → P a → P b → P (cond t a b)
-cond-either P true a b p q = p
-cond-either P false a b p q = q
-
-pub cond-both : {A B : Type 0} (P : A → B → Type 0) (t : Bool) (a b : A) (c d : B) → P a c → P b d → P (cond t a b) (cond t c d)
-cond-both P true a b c d p q = p
-cond-both P false a b c d p q = q
 
 -- ---- lists of numbers
 
@@ -86,10 +76,6 @@ once-most n ns h = omega (arith, once-many n ns h, many-most n (λ k. among k ns
 
 -- ---- lists of jobs
 
--- the job that had a turn more
-abbrev pub again : Job → Job
-again j = record { number = j .number; place = j .place; code = j .code; count = j .count; turns = suc (j .turns) }
-
 -- what is read of a job
 abbrev pub placeOf : Job → ℕ
 placeOf j = j .place
@@ -107,8 +93,25 @@ unfolding numbersIn
 numbers-map [] = refl
 numbers-map (j ∷ js) = ap (λ ns. j .number ∷ ns) (numbers-map js)
 
--- What is read of each job, and stays so over a turn.
-module _ (f : Job → ℕ) (same : (j : Job) → f (again j) ≡ f j) where
+-- a job cancelled leaves, and the others stay in their order
+cancelled-leaves : (n : ℕ) (j : Job) (js : List Job) → eqb (j .number) n ≡ true → without n (j ∷ js) ≡ js
+unfolding without
+cancelled-leaves n j js e = rw e
+
+others-stay : (n : ℕ) (j : Job) (js : List Job) → eqb (j .number) n ≡ false → without n (j ∷ js) ≡ j ∷ without n js
+unfolding without
+others-stay n j js e = rw e
+
+without-either : (P : List Job → Type 0) (n : ℕ) (j : Job) (js : List Job) → (eqb (j .number) n ≡ true → P js)
+    → (eqb (j .number) n ≡ false → P (j ∷ without n js)) → P (without n (j ∷ js))
+without-either P n j js leaves stays = go (eqb (j .number) n) refl
+  where
+    go : (this : Bool) → eqb (j .number) n ≡ this → P (without n (j ∷ js))
+    go true e = subst⁻¹ P (cancelled-leaves n j js e) (leaves e)
+    go false e = subst⁻¹ P (others-stay n j js e) (stays e)
+
+-- Whatever is read of each job.
+module _ (f : Job → ℕ) where
   -- one more behind the last
   pub among-behind : (x : ℕ) (js : List Job) (j : Job) → among x (map f js) ≡ false → (x ≡ f j → ⊥) → among x (map f (js ++ (j ∷ []))) ≡ false
   among-behind x js j h n = rw (map-append f js (j ∷ []), among-snoc x (map f js) (f j), h) (ne-eqb x (f j) n)
@@ -117,41 +120,32 @@ module _ (f : Job → ℕ) (same : (j : Job) → f (again j) ≡ f j) where
       → onceBelow n (map f (js ++ (j ∷ []))) ≡ true
   once-behind n js j h b new = rw (map-append f js (j ∷ [])) (once-snoc n (map f js) (f j) h b new)
 
-  -- the head goes behind the last, or leaves
-  pub among-turned : (x : ℕ) (js : List Job) → among x (map f js) ≡ false → among x (map f (turned js)) ≡ false
-  unfolding among turned
-  among-turned x [] h = h
-  among-turned x (j ∷ js) h =
-      let parts = or-false (eqb x (f j)) (among x (map f js)) h in
-      cond-either (λ ks. among x (map f ks) ≡ false) (isLast j) js (js ++ (again j ∷ []))
-      (parts .1) (among-behind x js (again j) (parts .1) (λ e. eqb-false x (f j) (parts .0) (e ∙ same j)))
-
-  once-turned : (n : ℕ) (js : List Job) → onceBelow n (map f js) ≡ true → onceBelow n (map f (turned js)) ≡ true
-  unfolding turned
-  once-turned n [] h = h
-  once-turned n (j ∷ js) h =
-      let o = once-parts n (f j) (map f js) h in
-      cond-either (λ ks. onceBelow n (map f ks) ≡ true) (isLast j) js (js ++ (again j ∷ [])) (o .rest)
-      (once-behind n js (again j) (o .rest)
-      (subst⁻¹ (λ (k : ℕ). k < n) (same j) (o .below)) (subst⁻¹ (λ (k : ℕ). among k (map f js) ≡ false) (same j) (o .fresh)))
-
   -- one leaves, wherever it stands
   pub among-without : (x n : ℕ) (js : List Job) → among x (map f js) ≡ false → among x (map f (without n js)) ≡ false
   unfolding among without
   among-without x n [] h = h
   among-without x n (j ∷ js) h =
       let parts = or-false (eqb x (f j)) (among x (map f js)) h in
-      cond-either (λ ks. among x (map f ks) ≡ false) (eqb (j .number) n) js (j ∷ without n js)
-      (parts .1) (rw (parts .0) (among-without x n js (parts .1)))
+      without-either (λ ks. among x (map f ks) ≡ false) n j js (λ e. parts .1) (λ e. rw (parts .0) (among-without x n js (parts .1)))
 
   once-without : (b n : ℕ) (js : List Job) → onceBelow b (map f js) ≡ true → onceBelow b (map f (without n js)) ≡ true
   unfolding without
   once-without b n [] h = h
   once-without b n (j ∷ js) h =
       let o = once-parts b (f j) (map f js) h in
-      cond-either (λ ks. onceBelow b (map f ks) ≡ true) (eqb (j .number) n) js (j ∷ without n js) (o .rest)
-      (once-make b (f j) (map f (without n js))
+      without-either (λ ks. onceBelow b (map f ks) ≡ true) n j js
+      (λ e. o .rest)
+      (λ e.
+      once-make b (f j) (map f (without n js))
       (record { below = o .below; fresh = among-without (f j) n js (o .fresh); rest = once-without b n js (o .rest) }))
+
+  -- the head, whose f a turn does not change, goes behind the last
+  once-again : (b : ℕ) (j : Job) (js : List Job) → f (again j) ≡ f j → onceBelow b (map f (j ∷ js)) ≡ true
+      → onceBelow b (map f (js ++ (again j ∷ []))) ≡ true
+  once-again b j js same h =
+      let o = once-parts b (f j) (map f js) h in
+      once-behind b js (again j) (o .rest)
+      (subst⁻¹ (λ (k : ℕ). k < b) same (o .below)) (subst⁻¹ (λ (k : ℕ). among k (map f js) ≡ false) same (o .fresh))
 
 -- a job in the queue is found there
 pub among-held : (f : Job → ℕ) (ahead : List Job) (j : Job) (rest : List Job) → among (f j) (map f (ahead ++ (j ∷ rest))) ≡ true
@@ -159,19 +153,15 @@ among-held f [] j rest = among-here (f j) (map f rest)
 among-held f (h ∷ ahead) j rest = among-there (f j) (f h) (map f (ahead ++ (j ∷ rest))) (among-held f ahead j rest)
 
 -- a number cancelled is no longer there
-pub number-leaves : (b n : ℕ) (js : List Job) → onceBelow b (map numberOf js) ≡ true
-    → among n (map numberOf (without n js)) ≡ false
-unfolding without among
+pub number-leaves : (b n : ℕ) (js : List Job) → onceBelow b (map numberOf js) ≡ true → among n (map numberOf (without n js)) ≡ false
+unfolding among without
 number-leaves b n [] h = refl
 number-leaves b n (j ∷ js) h =
     let o = once-parts b (j .number) (map numberOf js) h in
-    go (eqb (j .number) n) refl (o .fresh) (number-leaves b n js (o .rest))
-  where
-    go : (found : Bool) → eqb (j .number) n ≡ found → among (j .number) (map numberOf js) ≡ false
-        → among n (map numberOf (without n js)) ≡ false
-        → among n (map numberOf (cond found js (j ∷ without n js))) ≡ false
-    go true e fresh later = subst (λ (k : ℕ). among k (map numberOf js) ≡ false) (eqb-true (j .number) n e) fresh
-    go false e fresh later = among-not n (j .number) (map numberOf (without n js)) (λ i. eqb-false (j .number) n e (sym i)) later
+    let later = number-leaves b n js (o .rest) in
+    without-either (λ ks. among n (map numberOf ks) ≡ false) n j js
+    (λ e. subst (λ (k : ℕ). among k (map numberOf js) ≡ false) (eqb-true (j .number) n e) (o .fresh))
+    (λ e. among-not n (j .number) (map numberOf (without n js)) (λ i. eqb-false (j .number) n e (sym i)) later)
 
 -- another job cancelled: the job stays, with no more of them ahead of it
 pub record Kept (j : Job) (x : ℕ) (js : List Job) : Type 0 where
@@ -182,13 +172,13 @@ pub record Kept (j : Job) (x : ℕ) (js : List Job) : Type 0 where
 
 pub without-kept : (n : ℕ) (ahead : List Job) (j : Job) (rest : List Job) → eqb (j .number) n ≡ false
     → Kept j (length ahead) (without n (ahead ++ (j ∷ rest)))
-unfolding without
-without-kept n [] j rest e = record { ahead = []; rest = without n rest; queue = rw e; notMore = omega arith }
+without-kept n [] j rest e = record { ahead = []; rest = without n rest; queue = others-stay n j rest e; notMore = omega arith }
 without-kept n (h ∷ ahead) j rest e =
     let k = without-kept n ahead j rest e in
-    cond-either (Kept j (suc (length ahead))) (eqb (h .number) n) (ahead ++ (j ∷ rest)) (h ∷ without n (ahead ++ (j ∷ rest)))
-    (record { ahead = ahead; rest = rest; queue = refl; notMore = omega arith })
-    (record {
+    without-either (Kept j (suc (length ahead))) n h (ahead ++ (j ∷ rest))
+    (λ i. record { ahead = ahead; rest = rest; queue = refl; notMore = omega arith })
+    (λ i.
+    record {
       ahead = h ∷ k .ahead;
       rest = k .rest;
       queue = ap (λ js. h ∷ js) (k .queue);
@@ -219,36 +209,42 @@ one-each-admitting d p code count o e =
     let L = lowest-some jobsMost (isFree d) p e in
     record {
       places =
-          once-behind placeOf (λ j. refl) jobsMost (d .queue) (newJob d p code count) (o .places) (L .below)
+          once-behind placeOf jobsMost (d .queue) (newJob d p code count) (o .places) (L .below)
           (rw (places-map (d .queue)) at (not-true (among p (placesOf (d .queue))) (L .passes)));
       numbers =
-          once-behind numberOf (λ j. refl) (suc (d .given)) (d .queue) (newJob d p code count)
+          once-behind numberOf (suc (d .given)) (d .queue) (newJob d p code count)
           (once-wider (d .given) _ (o .numbers)) (omega arith) (once-bound (d .given) _ (o .numbers));
     }
 
+-- the same of the queue as it comes apart
+pub one-each-of : (d : Desk) (js : List Job) → d .queue ≡ js → OneEach d → OneEach (record { queue = js; given = d .given })
+one-each-of d js e o = subst (λ (q : List Job). OneEach (record { queue = q; given = d .given })) e o
+
 -- every call keeps it
+one-each-next : (d : Desk) (c : Call) (next : Desk) (u : Outcome) → Does d c next u → OneEach d → OneEach next
+one-each-next d c next u refuses o = o
+one-each-next d c next u (idles e) o = o
+one-each-next d c next u (admits {l = l} {p = p} {S = S} a) o = one-each-admitting d p (codeAt l p) (S .count) o (a .place)
+one-each-next d c next u (takes {j = j} {js = js} e early) o =
+    let h = one-each-of d (j ∷ js) e o in
+    record {
+      places = once-again placeOf jobsMost j js refl (h .places);
+      numbers = once-again numberOf (d .given) j js refl (h .numbers);
+    }
+one-each-next d c next u (answers {j = j} {js = js} e due long) o =
+    let h = one-each-of d (j ∷ js) e o in
+    record {
+      places = once-parts jobsMost (j .place) (map placeOf js) (h .places) .rest;
+      numbers = once-parts (d .given) (j .number) (map numberOf js) (h .numbers) .rest;
+    }
+one-each-next d c next u (cancels {n = n} m) o =
+    record {
+      places = once-without placeOf jobsMost n (d .queue) (o .places);
+      numbers = once-without numberOf (d .given) n (d .queue) (o .numbers);
+    }
+
 pub one-each-behind : (d : Desk) (c : Call) → OneEach d → OneEach (behind d c)
-unfolding behind admittedTo
-one-each-behind d (admit l) o = go (freePlace d) (admissible d l) refl
-  where
-    go : (place : Option ℕ) (sheet : Out Scenario) → freePlace d ≡ place → OneEach (admittedTo d l place sheet)
-    go place (refusal number line) e = o
-    go none (ok S) e = o
-    go (some p) (ok S) e = one-each-admitting d p (codeAt l p) (S .count) o e
-one-each-behind d (turn l trace) o =
-    cond-either OneEach (turnShort l trace) d _ o
-    (record {
-      places = once-turned placeOf (λ j. refl) jobsMost (d .queue) (o .places);
-      numbers = once-turned numberOf (λ j. refl) (d .given) (d .queue) (o .numbers);
-    })
-one-each-behind d (cancel n l) o =
-    cond-either OneEach (wordsShort l) d _ o
-    (cond-either OneEach (among n (numbersIn (d .queue))) _ d
-    (record {
-      places = once-without placeOf (λ j. refl) jobsMost n (d .queue) (o .places);
-      numbers = once-without numberOf (λ j. refl) (d .given) n (d .queue) (o .numbers);
-    })
-    o)
+one-each-behind d c o = one-each-next d c (behind d c) (outcomeOf d c) (call-does d c) o
 
 -- at most so many jobs are held as there are places
 pub jobs-most : (d : Desk) → OneEach d → length (d .queue) ≤ jobsMost

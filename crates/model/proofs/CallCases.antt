@@ -2,7 +2,7 @@
 use Prim.Native.Nat.{ℕ, suc, _*_, _<_, _≤_}
 use native.Mathlib.Omega.{arith}
 use mathlib.Core.Path.{_≡_, refl, subst}
-use mathlib.Core.Bool.{Bool, true, false, cond}
+use mathlib.Core.Bool.{Bool, true, false}
 use mathlib.Core.List.{List, [], _∷_, _++_}
 use mathlib.Core.Option.{Option, none, some}
 use lib.Dec.{ltb}
@@ -10,7 +10,7 @@ use lib.ListN.{length}
 use borrow.Author.Tests.{leb-true, leb-false, ltb-true, ltb-false}
 use Rattle.model.specs.Limits.{textMost, channels, traceLeast, jobNumbers, jobWordsLeast}
 use Rattle.model.specs.Bounded.{among}
-use Rattle.model.specs.Refusal.{Out, ok, refusal, benchRefusal, heldRefusal}
+use Rattle.model.specs.Refusal.{Out, ok, refusal}
 use Rattle.model.specs.Order.{Scenario}
 use Rattle.model.specs.Answer.{sheetOf}
 use Rattle.model.specs.Dispatcher.{Lent, lengthAt, codeAt, sheetAt, Job, Desk, numbersIn, freePlace, admissible, admitting, isLast, turned, without, Call, admit, turn, cancel, Outcome, admitted, idle, taken, answered, cancelled, refused, wordsShort, turnShort, headOutcome, admission, outcomeOf, admittedTo, behind}
@@ -93,24 +93,21 @@ unfolding behind outcomeOf admission admittedTo turnShort
 call-does d (admit l) = go (freePlace d) (admissible d l) refl refl
   where
     go : (place : Option ℕ) (sheet : Out Scenario) → freePlace d ≡ place → admissible d l ≡ sheet
-        → Does d (admit l) (admittedTo d l place sheet) (admission d place sheet)
-    go place (refusal number line) e f = refuses
-    go none (ok S) e f = refuses
-    go (some p) (ok S) e f = admits (admissible-parts d l p S e f)
+        → Does d (admit l) (behind d (admit l)) (outcomeOf d (admit l))
+    go place (refusal number line) e f = rw f refuses
+    go none (ok S) e f = rw (e, f) refuses
+    go (some p) (ok S) e f = let a = admissible-parts d l p S e f in rw (e, f) (admits a)
 call-does d (turn l trace) = go (turnShort l trace) refl
   where
-    go : (short : Bool) → turnShort l trace ≡ short
-        → Does d (turn l trace) (cond short d (record { queue = turned (d .queue); given = d .given })) (cond short (refused benchRefusal 0) (headOutcome (d .queue)))
-    go true e = refuses
+    go : (short : Bool) → turnShort l trace ≡ short → Does d (turn l trace) (behind d (turn l trace)) (outcomeOf d (turn l trace))
+    go true e = rw e refuses
     go false e =
-        turn-does d l trace (d .queue) refl
-        (ltb-false (length trace) traceLeast (or-false (wordsShort l) (ltb (length trace) traceLeast) e .1))
-call-does d (cancel n l) = go (wordsShort l) (among n (numbersIn (d .queue))) refl
+        let short = or-false (wordsShort l) (ltb (length trace) traceLeast) e in
+        rw e (turn-does d l trace (d .queue) refl (ltb-false (length trace) traceLeast (short .1)))
+call-does d (cancel n l) = go (wordsShort l) refl (among n (numbersIn (d .queue))) refl
   where
-    go : (short held : Bool) → among n (numbersIn (d .queue)) ≡ held
-        → Does d (cancel n l)
-        (cond short d (cond held (record { queue = without n (d .queue); given = d .given }) d))
-        (cond short (refused benchRefusal 0) (cond held (cancelled n) (refused heldRefusal 0)))
-    go true held e = refuses
-    go false true e = cancels e
-    go false false e = refuses
+    go : (short : Bool) → wordsShort l ≡ short → (held : Bool) → among n (numbersIn (d .queue)) ≡ held
+        → Does d (cancel n l) (behind d (cancel n l)) (outcomeOf d (cancel n l))
+    go true e held f = rw e refuses
+    go false e true f = rw (e, f) (cancels f)
+    go false e false f = rw (e, f) refuses

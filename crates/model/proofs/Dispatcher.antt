@@ -61,7 +61,9 @@ module _ {M : Type 0} (desk : M → Desk) (Holds : M → List ℕ → Job → Sc
         isChannel = m .parts .codeKnown;
         lastTurn = λ mid e rest i. last-turn desk Holds n p code (S .count) next (a .words) mid e rest last (at mid e rest i);
         leaves = λ mid e rest i. leaves desk Holds n p code (S .count) next (a .words) mid e rest last (at mid e rest i);
-        within = λ quiet enough. answered-within desk Holds n p code (S .count) after next last 0 (length (desk d .queue)) (2 * S .count) r o′ stands (omega arith) quiet (soon enough);
+        within = λ quiet enough.
+            answered-within desk Holds n p code (S .count) after next last 0 (length (desk d .queue)) (2 * S .count) r o′ stands (omega arith) quiet
+            (omega (arith, most, enough));
         answer = λ mid e rest i answers kept scratch enough.
             let t = answered-as desk Holds n p code (S .count) next (a .words) mid e rest last (at mid e rest i) answers kept S admits in
             check-answer (sheetAt (lentTo (a .call)) p) code (length scratch) (traceTo (e .call)) (e .trace) (e .told .answer) S
@@ -95,12 +97,12 @@ module _ {M : Type 0} (desk : M → Desk) (Holds : M → List ℕ → Job → Sc
           reached desk Holds n p code (S .count) next (a .words) (length (desk d .queue)) mid e rest last
           (subst (λ (es : List Entry). Ran desk Holds next es last) i r) o′ stands
 
-      -- as many turns as it may have, each a round of as many jobs as may be held
-      soon : turnsMost ≤ counted isUnrefusedTurn after → jobsMost * (2 * S .count) + length (desk d .queue) < counted isUnrefusedTurn after
-      soon enough =
+      -- its own turns, each a round of as many jobs as may be held
+      most : jobsMost * (2 * S .count) + length (desk d .queue) < turnsMost
+      most =
           let ahead = position-below desk Holds n p code (S .count) next 0 (length (desk d .queue)) o′ stands in
-          let most : S .count ≤ messagesMost = sheet-count (sheetAt (lentTo (a .call)) p) S (m .parts .sheet) in
-          omega (arith, ahead, most, enough)
+          let count : S .count ≤ messagesMost = sheet-count (sheetAt (lentTo (a .call)) p) S (m .parts .sheet) in
+          omega (arith, ahead, count)
 
   -- every job that a list of calls admits
   jobs-served : (empty : M) → OneEach (desk empty) → (es : List Entry) (last : M) → Ran desk Holds empty es last

@@ -1,21 +1,21 @@
 -- Request (k), the queue: each job of an orderly dispatcher has a place and a number of its own, at most so many are held, and every call
 -- keeps this. Said once for whatever is read of a job, its place or its number. Assumes nothing.
-use Prim.Native.Nat.{ℕ, zero, suc, _<_, _≤_}
+use Prim.Native.Nat.{ℕ, zero, suc, _+_, _<_, _≤_}
 use native.Mathlib.Nat.{not-suc-le-zero, le-of-suc-le-suc, eq-or-lt-of-le, le-step}
 use native.Mathlib.Omega.{arith}
 use mathlib.Core.Path.{_≡_, refl, sym, _∙_, ap, subst, subst⁻¹}
-use mathlib.Core.Logic.{⊎-elim}
-use mathlib.Core.Bool.{Bool, true, false, _||_}
+use mathlib.Core.Logic.{_↔_, _⊎_, inl, inr, ⊎-elim}
+use mathlib.Core.Bool.{Bool, true, false, not, _||_}
 use mathlib.Core.List.{List, [], _∷_, _++_, map, map-append}
-use mathlib.Core.Option.{some}
+use mathlib.Core.Option.{none, some}
 use lib.Dec.{eqb}
 use lib.ListN.{length, length-map}
-use borrow.Author.Tests.{eqb-true, eqb-false, eq-eqb, ne-eqb, lt-ltb, not-true}
+use borrow.Author.Tests.{eqb-true, eqb-false, eq-eqb, ne-eqb, lt-ltb, not-true, not-false}
 use Rattle.model.specs.Limits.{jobsMost}
 use Rattle.model.specs.Bounded.{howMany, among}
 use Rattle.model.specs.Taps.{eachOnce as onceBelow}
 use Rattle.model.specs.Dispatcher.{codeAt, Job, Desk, emptyDesk, placesOf, numbersIn, isFree, freePlace, newJob, admitting, without, Call, Outcome, outcomeOf, behind, eachOnce, allBelow, Orderly}
-use Rattle.model.proofs.Bounded.{which, many-same, many-most, lowest-some}
+use Rattle.model.proofs.Bounded.{which, many-same, many-most, lowest-some, lowest-none, lowest-nowhere}
 use Rattle.model.proofs.Accepted.{or-false}
 use Rattle.model.proofs.CallCases.{again, Does, refuses, idles, admits, takes, answers, cancels, call-does}
 use Rattle.model.proofs.Ahead.{among-snoc, among-here, among-there, among-not, once-parts, once-make, once-below, once-snoc}
@@ -58,6 +58,23 @@ many-one (suc n) k p l f =
   where
     other : (j : ℕ) → (j ≡ k → ⊥) → (eqb j k || p j) ≡ p j
     other j i = rw (ne-eqb j k i)
+
+-- all of them pass, or as many as there are
+many-every : (n : ℕ) (p : ℕ → Bool) → ((k : ℕ) → k < n → p k ≡ true) → howMany n p ≡ n
+unfolding howMany
+many-every zero p h = refl
+many-every (suc n) p h = rw (h n (omega arith)) (omega (arith, many-every n p (λ k l. h k (le-step l))))
+
+many-all : (n : ℕ) (p : ℕ → Bool) → howMany n p ≡ n → (k : ℕ) → k < n → p k ≡ true
+unfolding howMany
+many-all zero p h k l = absurd (not-suc-le-zero l)
+many-all (suc n) p h k l =
+    let both = go (p n) refl in
+    ⊎-elim (λ e. ap p e ∙ both .0) (λ b. many-all n p (both .1) k b) (eq-or-lt-of-le (le-of-suc-le-suc l))
+  where
+    go : (b : Bool) → p n ≡ b → (p n ≡ true) × (howMany n p ≡ n)
+    go true e = let one : howMany n p + 1 ≡ suc n = rw e at h in (e, omega arith)
+    go false e = let none′ : howMany n p + 0 ≡ suc n = rw e at h in absurd (omega (arith, many-most n p))
 
 -- as many numbers below n are there as the list is long: none stands there twice
 once-many : (n : ℕ) (ns : List ℕ) → onceBelow n ns ≡ true → howMany n (λ k. among k ns) ≡ length ns
@@ -249,3 +266,26 @@ one-each-behind d c o = one-each-next d c (behind d c) (outcomeOf d c) (call-doe
 -- at most so many jobs are held as there are places
 pub jobs-most : (d : Desk) → OneEach d → length (d .queue) ≤ jobsMost
 jobs-most d o = subst (λ (n : ℕ). n ≤ jobsMost) (length-map (d .queue) placeOf) (once-most jobsMost _ (o .places))
+
+-- and no place is free exactly if so many are held
+places-taken : (d : Desk) → OneEach d → howMany jobsMost (λ k. among k (map placeOf (d .queue))) ≡ length (d .queue)
+places-taken d o = once-many jobsMost (map placeOf (d .queue)) (o .places) ∙ length-map (d .queue) placeOf
+
+pub full-when : (d : Desk) → OneEach d → (freePlace d ≡ none) ↔ (length (d .queue) ≡ jobsMost)
+unfolding freePlace isFree
+full-when d o = (full, filled)
+  where
+    places : ℕ → Bool
+    places k = among k (map placeOf (d .queue))
+
+    same : (k : ℕ) → isFree d k ≡ not (places k)
+    same k = ap (λ ns. not (among k ns)) (places-map (d .queue))
+
+    full : freePlace d ≡ none → length (d .queue) ≡ jobsMost
+    full e =
+        sym (places-taken d o)
+        ∙ many-every jobsMost places (λ k l. not-false (places k) (sym (same k) ∙ lowest-none jobsMost (isFree d) e k l))
+
+    filled : length (d .queue) ≡ jobsMost → freePlace d ≡ none
+    filled e =
+        lowest-nowhere jobsMost (isFree d) (λ k l. same k ∙ ap not (many-all jobsMost places (places-taken d o ∙ e) k l))

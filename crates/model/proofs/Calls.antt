@@ -81,40 +81,50 @@ call-gives d c next o (takes e early) = givesNone (λ a. refl) refl
 call-gives d c next o (answers e due long) = givesNone (λ a. refl) refl
 call-gives d c next o (cancels held) = givesNone (λ a. refl) refl
 
--- numbers given out behind the first so many: one after the other from there, and none past the last
-pub record Numbered (given : ℕ) (numbers : List ℕ) : Type 0 where
-  pub inOrder : numbers ≡ cells (length numbers) (λ k. given + k)
-  pub most : given + length numbers ≤ jobNumbers
+-- numbers given out between a first and a last dispatcher, by how many each has given out: one after the other, and none past the limit
+pub record Numbered (first last : ℕ) (numbers : List ℕ) : Type 0 where
+  pub inOrder : numbers ≡ cells (length numbers) (λ k. first + k)
+  pub total : last ≡ first + length numbers
+  pub most : last ≤ jobNumbers
 
-one-more : (given : ℕ) (numbers : List ℕ) → Numbered (suc given) numbers → Numbered given (given ∷ numbers)
+one-more : (first last : ℕ) (numbers : List ℕ) → Numbered (suc first) last numbers → Numbered first last (first ∷ numbers)
 unfolding cells
-one-more given numbers h =
-    let first : given ≡ given + 0 = omega arith in
-    let rest : numbers ≡ cells (length numbers) (λ k. given + suc k) =
-    h .inOrder ∙ cells-same (length numbers) (λ k. suc given + k) (λ k. given + suc k) (λ k. omega arith) in
+one-more first last numbers h =
+    let head : first ≡ first + 0 = omega arith in
+    let rest : numbers ≡ cells (length numbers) (λ k. first + suc k) =
+    h .inOrder ∙ cells-same (length numbers) (λ k. suc first + k) (λ k. first + suc k) (λ k. omega arith) in
     record {
-      inOrder = ap (λ k. k ∷ numbers) first ∙ ap (λ l. (given + 0) ∷ l) rest;
-      most = let m : suc given + length numbers ≤ jobNumbers = h .most in omega arith;
+      inOrder = ap (λ k. k ∷ numbers) head ∙ ap (λ l. (first + 0) ∷ l) rest;
+      total = omega (arith, h .total);
+      most = h .most;
     }
 
-pub numbered : (d : Desk) (es : List Entry) → d .given ≤ jobNumbers → ToldFrom d es → Numbered (d .given) (givenOut es)
-unfolding givenOut cells
-numbered d [] le told = record { inOrder = refl; most = omega arith }
+pub numbered : (d : Desk) (es : List Entry) → d .given ≤ jobNumbers → ToldFrom d es
+    → Numbered (d .given) (deskFrom d (callsOf es) .given) (givenOut es)
+unfolding givenOut cells deskFrom callsOf
+numbered d [] le told = record { inOrder = refl; total = omega arith; most = le }
 numbered d (e ∷ es) le told =
-    go (call-gives d (e .call) (behind d (e .call)) (outcomeOf d (e .call)) (call-does d (e .call))) (λ h. numbered (behind d (e .call)) es h (told .1))
+    go (call-gives d (e .call) next (outcomeOf d (e .call)) (call-does d (e .call))) (λ h. numbered next es h (told .1))
   where
-    go : Gives d (behind d (e .call)) (outcomeOf d (e .call))
-        → (behind d (e .call) .given ≤ jobNumbers → Numbered (behind d (e .call) .given) (givenOut es))
-        → Numbered (d .given) (givenOut (e ∷ es))
-    go (gives {p = p} o next left) more =
+    next : Desk
+    next = behind d (e .call)
+
+    last : ℕ
+    last = deskFrom next (callsOf es) .given
+
+    go : Gives d next (outcomeOf d (e .call)) → (next .given ≤ jobNumbers → Numbered (next .given) last (givenOut es))
+        → Numbered (d .given) last (givenOut (e ∷ es))
+    go (gives {p = p} o one left) more =
         let t = told .0 ∙ ap (λ u. toldAs u (e .told .answer)) o in
         let isIt : eqb (e .told .word) admittedWord ≡ true = ap (λ (u : Told). eqb (u .word) admittedWord) t in
         let number : e .told .one ≡ d .given = ap (λ (u : Told). u .one) t in
-        rw (isIt, number) (one-more (d .given) (givenOut es) (rw next at (more (omega arith))))
-    go (givesNone other next) more =
+        let rest = subst (λ (k : ℕ). Numbered k last (givenOut es)) one (more (omega arith)) in
+        rw (isIt, number) (one-more (d .given) last (givenOut es) rest)
+    go (givesNone other same) more =
         let isNot : eqb (e .told .word) admittedWord ≡ false =
         ap (λ (u : Told). eqb (u .word) admittedWord) (told .0) ∙ other (e .told .answer) in
-        rw isNot (rw next at (more (omega arith)))
+        let rest = subst (λ (k : ℕ). Numbered k last (givenOut es)) same (more (omega arith)) in
+        rw isNot rest
 
 -- ---- calls one after the other
 

@@ -4,12 +4,12 @@ use native.Mathlib.Omega.{arith}
 use mathlib.Core.Path.{_≡_, refl, sym, _∙_, ap, subst, subst⁻¹}
 use mathlib.Core.List.{List, [], _∷_, _++_}
 use lib.ListN.{length}
-use Rattle.model.specs.Limits.{messagesMost, channels, scratchLeast, traceLeast, jobsMost, jobNumbers, turnsMost}
+use Rattle.model.specs.Limits.{messagesMost, channels, scratchLeast, traceLeast, jobsMost, turnsMost}
 use Rattle.model.specs.Refusal.{ok}
 use Rattle.model.specs.Order.{Scenario}
 use Rattle.model.specs.Answer.{sheetOf, Numbers, answerFor, answerOf, numbersOf, traceAfter}
 use Rattle.model.specs.Verdict.{Verdict}
-use Rattle.model.specs.Dispatcher.{codeAt, sheetAt, placeWords, Job, Desk, emptyDesk, admitting, lentTo, traceTo, admitted, outcomeOf, noAnswer, toldAs, Entry, callsOf, deskFrom, ToldFrom, counted, isUnrefusedTurn, givenOut, AsTheCheck, JobServed, WholeLists}
+use Rattle.model.specs.Dispatcher.{codeAt, sheetAt, placeWords, Job, Desk, emptyDesk, admitting, lentTo, traceTo, admitted, outcomeOf, noAnswer, toldAs, Entry, callsOf, deskFrom, ToldFrom, givenOut, AsTheCheck, JobServed, WholeLists}
 use Rattle.model.proofs.Closure.{cells-same}
 use Rattle.model.proofs.Accepted.{accepted-from, sheet-count}
 use Rattle.model.proofs.PointThree.{point-three}
@@ -131,6 +131,6 @@ whole-lists {M} desk Holds empty isEmpty es d s =
       answers = told;
       orderly = orderly-of (desk d) (ran-one-each desk Holds es empty d r o);
       numbers = numbers .inOrder ∙ cells-same (length (givenOut es)) (λ k. 0 + k) (λ k. k) (λ k. omega arith);
-      numbersMost = let m : 0 + length (givenOut es) ≤ jobNumbers = numbers .most in omega arith;
+      numbersMost = omega (arith, numbers .total, numbers .most);
       jobs = jobs-served desk Holds empty o es d r;
     }

@@ -13,7 +13,7 @@ use Rattle.model.specs.Dispatcher.{codeAt, sheetAt, placeWords, Job, Des
 use Rattle.model.proofs.Closure.{cells-same}
 use Rattle.model.proofs.Accepted.{accepted-from, sheet-count}
 use Rattle.model.proofs.PointThree.{point-three}
-use Rattle.model.proofs.Queue.{OneEach, orderly-of, one-each-empty}
+use Rattle.model.proofs.Queue.{OneEach, orderly-of, one-each-empty, jobs-most, full-when}
 use Rattle.model.proofs.Jobs.{jobAt, Stands}
 use Rattle.model.proofs.Turns.{position-below, answered-within, Reached, reached, last-turn, leaves, answered-as}
 use Rattle.model.proofs.Calls.{Admission, admission-of, told-admitted, numbered, Called, Ran, ran-split, session-ran, told-as, ran-state, ran-told, called-one-each, ran-one-each}
@@ -126,11 +126,16 @@ whole-lists {M} desk Holds empty isEmpty es d s =
     let o : OneEach (desk empty) = subst⁻¹ OneEach isEmpty one-each-empty in
     let told : ToldFrom emptyDesk es = subst (λ (k : Desk). ToldFrom k es) isEmpty (ran-told desk Holds es empty d r) in
     let numbers = numbered emptyDesk es (omega arith) told in
+    let each = ran-one-each desk Holds es empty d r o in
+    let state = ran-state desk Holds es empty d r ∙ ap (λ k. deskFrom k (callsOf es)) isEmpty in
     record {
-      state = ran-state desk Holds es empty d r ∙ ap (λ k. deskFrom k (callsOf es)) isEmpty;
+      state = state;
       answers = told;
-      orderly = orderly-of (desk d) (ran-one-each desk Holds es empty d r o);
+      orderly = orderly-of (desk d) each;
+      heldMost = jobs-most (desk d) each;
+      allHeld = full-when (desk d) each;
       numbers = numbers .inOrder ∙ cells-same (length (givenOut es)) (λ k. 0 + k) (λ k. k) (λ k. omega arith);
       numbersMost = omega (arith, numbers .total, numbers .most);
+      numbersGiven = ap (λ (k : Desk). k .given) state ∙ omega (arith, numbers .total);
       jobs = jobs-served desk Holds empty o es d r;
     }

@@ -121,7 +121,8 @@ module _ {M : Type 0} (desk : M → Desk) (Holds : M → List ℕ → Job → Sc
   pub data Met (d : M) (t x : ℕ) (e : Entry) (next : M) : Type 0 where
     waits : {y : ℕ} → Held next t y → y ≤ x → (isUnrefusedTurn e ≡ true → y < x) → Says n (e .told) false false false → Met d t x e next
     hasTurn : {y : ℕ} → Held next (suc t) y → t < 2 * count → isUnrefusedTurn e ≡ true → Says n (e .told) true false false → Met d t x e next
-    hasAnswer : Gone n (desk next) → x ≡ 0 → 2 * count ≤ t → outcomeOf (desk d) (e .call) ≡ answered n → Says n (e .told) true true false → Met d t x e next
+    hasAnswer : Gone n (desk next) → x ≡ 0 → 2 * count ≤ t → outcomeOf (desk d) (e .call) ≡ answered n → Says n (e .told) true true false
+        → Met d t x e next
     calledOff : Gone n (desk next) → Says n (e .told) false false true → Met d t x e next
 
   met : (d : M) (t x : ℕ) (e : Entry) (c : Called desk Holds d e) → OneEach (desk d) → Held d t x → Met d t x e (c .result .next)
@@ -142,19 +143,22 @@ module _ {M : Type 0} (desk : M → Desk) (Holds : M → List ℕ → Job → Sc
           ap (λ (k : Told). eqb (k .word) idleWord || eqb (k .word) takenWord || eqb (k .word) answeredWord) (told-as desk Holds d e c)
           ∙ unrefused-says (outcomeOf (desk d) (e .call)) (e .told .answer)
 
-      go : Moved n p code count t x (behind (desk d) (e .call)) (outcomeOf (desk d) (e .call)) → Met d t x e next
-      go (stays {y = y} h most fewer other) =
-          waits (held t y h) most (λ u. fewer (sym unrefused ∙ u)) (call-says desk Holds n d e c _ _ _ (λ a. unnamed-says n (outcomeOf (desk d) (e .call)) a other))
-      go (goesOn {y = y} h more i) =
-          hasTurn (held (suc t) y h) more (unrefused ∙ ap isUnrefused i) (call-says desk Holds n d e c _ _ _ (λ a. taken-says n (outcomeOf (desk d) (e .call)) a i))
-      go (isAnswered g first last i) =
-          hasAnswer (left g) first last i (call-says desk Holds n d e c _ _ _ (λ a. answered-says n (outcomeOf (desk d) (e .call)) a i))
-      go (isCancelled g i) = calledOff (left g) (call-says desk Holds n d e c _ _ _ (λ a. cancelled-says n (outcomeOf (desk d) (e .call)) a i))
+      o′ : Outcome
+      o′ = outcomeOf (desk d) (e .call)
 
-  -- a job held before and behind a call that is lent its words as they were left: they still hold its scenario
+      go : Moved n p code count t x (behind (desk d) (e .call)) o′ → Met d t x e next
+      go (stays {y = y} h most fewer other) =
+          waits (held t y h) most (λ u. fewer (sym unrefused ∙ u)) (call-says desk Holds n d e c _ _ _ (λ a. unnamed-says n o′ a other))
+      go (goesOn {y = y} h more i) =
+          hasTurn (held (suc t) y h) more (unrefused ∙ ap isUnrefused i) (call-says desk Holds n d e c _ _ _ (λ a. taken-says n o′ a i))
+      go (isAnswered g first last i) =
+          hasAnswer (left g) first last i (call-says desk Holds n d e c _ _ _ (λ a. answered-says n o′ a i))
+      go (isCancelled g i) = calledOff (left g) (call-says desk Holds n d e c _ _ _ (λ a. cancelled-says n o′ a i))
+
   is-member : (d : M) (t x : ℕ) → Held d t x → Member (job t) (desk d .queue)
   is-member d t x s = subst⁻¹ (Member (job t)) (s .queue) (member-of (s .ahead) (job t) (s .rest))
 
+  -- held before and behind a call that is lent its words as they were left: they still hold its scenario
   call-keeps : (d : M) (t x u y : ℕ) (e : Entry) (c : Called desk Holds d e) → OneEach (desk d) → Held d t x → Held (c .result .next) u y
       → (left : List ℕ) (S : Scenario) → Holds d (placeWords p left) (job t) S → placeWords p (lentTo (e .call) .words) ≡ placeWords p left
       → Holds (c .result .next) (placeWords p (e .words)) (job u) S
@@ -259,7 +263,8 @@ module _ {M : Type 0} (desk : M → Desk) (Holds : M → List ℕ → Job → Sc
           (more, omega arith, omega arith)
 
       go : Met d t x e next
-          → ((u y more : ℕ) → Held next u y → u + more ≡ 2 * count → jobsMost * more + y < counted isUnrefusedTurn es → counted (says answeredWord n) es ≡ 1)
+          → ((u y more : ℕ) → Held next u y → u + more ≡ 2 * count → jobsMost * more + y < counted isUnrefusedTurn es
+          → counted (says answeredWord n) es ≡ 1)
           → counted (says answeredWord n) (e ∷ es) ≡ 1
       go (waits {y = y} s′ most fewer says′) ih =
           rw (says′ .answers) (omega (arith, ih t y left s′ sum (nearer y (isUnrefusedTurn e) refl most fewer)))

@@ -2,7 +2,7 @@
 -- over whole lists of calls. Assumes nothing.
 use Prim.Native.Nat.{ℕ, zero, suc, _+_, _*_, _<_, _≤_}
 use mathlib.Core.Path.{_≡_}
-use mathlib.Core.Logic.{_⊎_}
+use mathlib.Core.Logic.{_↔_, _⊎_}
 use mathlib.Core.Bool.{Bool, true, false, not, cond, _&&_, _||_}
 use mathlib.Core.List.{List, [], _∷_, _++_}
 use mathlib.Core.Option.{Option, none, some}
@@ -376,11 +376,14 @@ pub record WholeList {M : Type 0} (desk : M → Desk) (es : List Entry) (d : M) 
   -- the queue, the places and the numbers are those of the calls, one after the other, and so are the answers
   pub state : desk d ≡ deskFrom emptyDesk (callsOf es)
   pub answers : ToldFrom emptyDesk es
-  -- at most eight jobs, each in a place of its own
+  -- at most eight jobs, each in a place of its own; and no place is free exactly with eight held
   pub orderly : Orderly (desk d)
-  -- numbers: 0 first, then one more each time, and none twice
+  pub heldMost : length (desk d .queue) ≤ jobsMost
+  pub allHeld : (freePlace (desk d) ≡ none) ↔ (length (desk d .queue) ≡ jobsMost)
+  -- numbers: 0 first, then one more each time, and none twice; the dispatcher has how many there were
   pub numbers : givenOut es ≡ cells (length (givenOut es)) (λ k. k)
   pub numbersMost : length (givenOut es) ≤ jobNumbers
+  pub numbersGiven : desk d .given ≡ length (givenOut es)
   -- every job admitted is served
   pub jobs : (before : List Entry) (a : Entry) (after : List Entry) (n p : ℕ) → es ≡ before ++ (a ∷ after)
       → a .told ≡ toldAs (admitted n p) noAnswer → JobServed a n p after

@@ -1,27 +1,68 @@
 -- A job behind the last, a job that leaves, and a turn of the queue. Assumes nothing.
 use mathlib.Core.Path.{_≡_, refl, sym, _∙_, ap}
-use mathlib.Core.Bool.{Bool, true, false}
+use mathlib.Core.Bool.{Bool, true, false, not, _||_}
 use mathlib.Core.List.{List, [], _∷_, _++_}
 use mathlib.Core.Option.{Option, none, some}
 use Prim.Native.Nat.{ℕ, zero, suc, _+_, _-_, _*_, _^_, _<_, _≤_}
 use native.Mathlib.Numerals.{add-one}
 use native.Mathlib.Omega.{arith}
-use borrow.Author.Tests.{leb-false}
-use mir.Val.{Val}
-use denote.Laws.{Is}
-use lib.ListN.{length, getD, take, drop, set, length-take, length-drop}
+use borrow.Author.Tests.{eq-eqb, leb-false, not-true}
+use lib.Dec.{eqb}
+use lib.ListN.{length, getD, take, drop, set, length-append, length-drop}
 use lib.Seq.{take-nil, take-suc-set, take-take, getD-take, getD-drop, drop-cons, paste, paste-zero, paste-suc, take-paste, drop-paste, length-take-le}
 use Rattle.model.specs.Limits.{jobsMost}
+use Rattle.model.specs.Bounded.{among}
+use Rattle.model.specs.Taps.{eachOnce}
 use Rattle.model.specs.Dispatcher as model
-use Rattle.model.specs.Dispatcher.{isLast, turned}
+use Rattle.model.specs.Dispatcher.{placesOf, isLast, turned}
+use Rattle.model.proofs.Bounded.{not-both, or-left}
+use Rattle.model.proofs.Accepted.{or-false}
+use Rattle.model.proofs.Ahead.{among-not, once-parts, once-make, once-snoc}
+use Rattle.model.proofs.Queue.{once-most}
 use Rattle.queue.specs.declared.Job.{Job}
 use Rattle.queue.specs.declared.Queue.{Queue}
 use Rattle.queue.specs.declared.Head.{Head}
 use Rattle.queue.specs.declared.Head.the-variants as head
-use Rattle.queue.specs.Bridge.{jobIn, jobsIn, queueIn, Counted, headIn, headOf}
-use Rattle.queue.proofs.Queue.{the-row}
-use Rattle.queue.proofs.Room.{room}
-use Rattle.queue.proofs.Jobs.{jobs-length, jobs-append, jobs-take, jobs-drop, counted-length}
+use Rattle.queue.specs.Bridge.{jobIn, jobsIn, apartFrom, queueIn, Counted, isFreeIn, headIn, headOf}
+use Rattle.queue.proofs.Apart.{places-snoc, once-whole, apart-once}
+use Rattle.queue.proofs.Jobs.{jobs-append, jobs-take, jobs-drop, counted-length}
+
+-- each job of a queue has a place of its own
+abbrev each : (q : Queue) → eachOnce jobsMost (placesOf (queueIn q)) ≡ true
+each q = apart-once [] (jobsIn (take (q .held) (q .jobs)))
+
+places-length : (js : List model.Job) → length (placesOf js) ≡ length js
+unfolding placesOf
+places-length [] = refl
+places-length (j ∷ js) = ap suc (places-length js)
+
+-- a number not in a list is not its first, nor behind it
+other-key : (n k : ℕ) (l : List ℕ) → among n (k ∷ l) ≡ false → (n ≡ k → ⊥) × (among n l ≡ false)
+unfolding among
+other-key n k l h = (λ e. not-both _ (or-left _ (among n l) (eq-eqb n k e)) h, or-false (eqb n k) (among n l) h .1)
+
+-- without one of them each has a place of its own still
+among-cut : (p : ℕ) (js : List model.Job) (at : ℕ) → among p (placesOf js) ≡ false → among p (placesOf (take at js ++ drop (suc at) js)) ≡ false
+unfolding placesOf
+among-cut p [] at h = cut at h
+  where
+    cut : (at : ℕ) → among p [] ≡ false → among p (placesOf (take at [] ++ drop (suc at) [])) ≡ false
+    cut zero h = h
+    cut (suc at) h = h
+among-cut p (j ∷ js) zero h = other-key p (j .place) (placesOf js) h .1
+among-cut p (j ∷ js) (suc at) h =
+    let o = other-key p (j .place) (placesOf js) h in
+    among-not p (j .place) (placesOf (take at js ++ drop (suc at) js)) (λ e. o .0 e) (among-cut p js at (o .1))
+
+once-cut : (js : List model.Job) (at : ℕ) → eachOnce jobsMost (placesOf js) ≡ true → eachOnce jobsMost (placesOf (take at js ++ drop (suc at) js)) ≡ true
+unfolding placesOf
+once-cut [] zero h = h
+once-cut [] (suc at) h = h
+once-cut (j ∷ js) zero h = once-parts jobsMost (j .place) (placesOf js) h .rest
+once-cut (j ∷ js) (suc at) h =
+    let o = once-parts jobsMost (j .place) (placesOf js) h in
+    once-make jobsMost (j .place) (placesOf (take at js ++ drop (suc at) js))
+    (record { below = o .below; fresh = among-cut (j .place) js at (o .fresh); rest = once-cut js at (o .rest) })
 
 drop-take : {A : Type 0} (a b : ℕ) (l : List A) → drop a (take b l) ≡ take (b - a) (drop a l)
 drop-take zero b l = let e : b - 0 ≡ b = omega arith in rw e
@@ -43,15 +84,32 @@ module _ (q : Queue) (count : ℕ) (C : Counted q count) where
       (ap headOf
       (C .first ∙ ap jobsIn (drop-cons L 0 other (omega arith) ∙ ap (λ (j : Job). j ∷ drop 1 L) (getD-take count (q .jobs) 0 other (omega arith)))))
 
-  pub room-left : length (queueIn q) < jobsMost → count < jobsMost
-  room-left h = omega (arith, counted-length q count C)
+  module _ (job : Job) (free : (job .place < jobsMost) × (isFreeIn (queueIn q) (job .place) ≡ true)) where
+    once-more : eachOnce jobsMost (placesOf (queueIn q ++ (jobIn job ∷ []))) ≡ true
+    once-more =
+        rw (places-snoc (queueIn q) (jobIn job))
+        (once-snoc jobsMost (placesOf (queueIn q)) (job .place) (each q) (free .0) (not-true (among (job .place) (placesOf (queueIn q))) (free .1)))
 
-  pub lasts : (job : Job) → length (queueIn q) < jobsMost → jobsIn (take (count + 1) (set (q .jobs) count job)) ≡ queueIn q ++ (jobIn job ∷ [])
-  unfolding jobsIn
-  lasts job h =
-      rw add-one
-      (ap jobsIn (take-suc-set (q .jobs) count job (omega (arith, C .room, counted-length q count C)))
-      ∙ jobs-append (take count (q .jobs)) (job ∷ []) ∙ ap (λ (l : List model.Job). l ++ (jobIn job ∷ [])) (sym (C .first)))
+    -- there is room where a place is free
+    pub room-left : count < jobsMost
+    room-left =
+        omega (
+          arith,
+          once-most jobsMost (placesOf (queueIn q ++ (jobIn job ∷ []))) once-more,
+          ap length (places-snoc (queueIn q) (jobIn job)),
+          length-append (placesOf (queueIn q)) (job .place ∷ []),
+          places-length (queueIn q),
+          counted-length q count C,
+        )
+
+    pub lasts : queueIn (record { jobs = set (q .jobs) count job; held = count + 1 }) ≡ queueIn q ++ (jobIn job ∷ [])
+    unfolding jobsIn
+    lasts =
+        let more : jobsIn (take (count + 1) (set (q .jobs) count job)) ≡ queueIn q ++ (jobIn job ∷ []) =
+        rw add-one
+        (ap jobsIn (take-suc-set (q .jobs) count job (omega (arith, C .room, room-left)))
+        ∙ jobs-append (take count (q .jobs)) (job ∷ []) ∙ ap (λ (l : List model.Job). l ++ (jobIn job ∷ [])) (sym (C .first))) in
+        ap (apartFrom []) more ∙ once-whole (queueIn q ++ (jobIn job ∷ [])) once-more
 
 -- the jobs behind the one at `at` move up: those as far as i have
 pub record Moved (q₀ q : Queue) (at last i : ℕ) : Type 0 where
@@ -109,8 +167,8 @@ module _ (q₀ : Queue) (count at : ℕ) (C : Counted q₀ count) (h : at < leng
           to = omega arith;
         }
 
-    pub moved-all : count - 1 ≤ i → jobsIn (take (count - 1) (q .jobs)) ≡ take at (queueIn q₀) ++ drop (at + 1) (queueIn q₀)
-    moved-all l =
+    moved-up : count - 1 ≤ i → jobsIn (take (count - 1) (q .jobs)) ≡ take at (queueIn q₀) ++ drop (at + 1) (queueIn q₀)
+    moved-up l =
         let jobs = q₀ .jobs in
         let s = drop (suc at) jobs in
         let few : i - at ≤ length s = omega (arith, inside, C .most, rest-long, m .from, m .to) in
@@ -121,6 +179,9 @@ module _ (q₀ : Queue) (count at : ℕ) (C : Counted q₀ count) (h : at < leng
         ∙ ap jobsIn (take-paste jobs at s (i - at) (omega (arith, inside, C .most, C .room)) few)
         ∙ jobs-append (take at jobs) (take (i - at) s)
         ∙ rw (← take-take at count jobs (omega (arith, inside)), less, ← drop-take (suc at) count jobs, jobs-take at (take count jobs), jobs-drop (suc at) (take count jobs), ← C .first, add-one)
+
+    pub moved-all : count - 1 ≤ i → queueIn (record { jobs = q .jobs; held = count - 1 }) ≡ take at (queueIn q₀) ++ drop (at + 1) (queueIn q₀)
+    moved-all l = ap (apartFrom []) (moved-up l) ∙ once-whole (take at (queueIn q₀) ++ drop (at + 1) (queueIn q₀)) (rw add-one (once-cut (queueIn q₀) at (each q₀)))
 
 -- ---- a turn
 module _ (q : Queue) (v : Head) (found : headIn v ≡ headOf (queueIn q)) where
@@ -162,9 +223,11 @@ pub turn-fits : (job : Job) (r : Bool) → r ≡ isLast (jobIn job) → r ≡ fa
 unfolding isLast
 turn-fits job r e f h = omega (arith, leb-false (2 * job .count) (job .turns) (sym e ∙ f))
 
--- behind a job that left there is room
-pub room-behind : (q rest : Queue) (vs : List Val) → Is the-row q vs → queueIn rest ≡ take 0 (queueIn q) ++ drop (0 + 1) (queueIn q) → 0 < length (queueIn q)
-    → length (queueIn rest) < jobsMost
-room-behind q rest vs good closed held =
-    let most : length (queueIn q) ≤ jobsMost = rw (jobs-length (take (q .held) (q .jobs)), length-take, room q vs good) (omega arith) in
-    rw (closed, length-drop) (omega arith)
+-- behind the head that left, its place is free
+pub head-free : (q rest : Queue) (v : Head) (job : Job) → headIn v ≡ headOf (queueIn q) → v ≡ head.Job job
+    → queueIn rest ≡ take 0 (queueIn q) ++ drop (0 + 1) (queueIn q) → (job .place < jobsMost) × (isFreeIn (queueIn rest) (job .place) ≡ true)
+unfolding placesOf
+head-free q rest v job found i closed =
+    let h : eachOnce jobsMost (placesOf (jobIn job ∷ drop 1 (queueIn q))) ≡ true = ap (λ js. eachOnce jobsMost (placesOf js)) (sym (comes-apart q v found job i)) ∙ each q in
+    let o = once-parts jobsMost (job .place) (placesOf (drop 1 (queueIn q))) h in
+    (o .below, rw closed (ap not (o .fresh)))

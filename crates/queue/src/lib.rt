@@ -7,7 +7,7 @@ ghost use lib.ListN.{length, take, drop};
 ghost use Rattle.model.specs.Limits.{jobsMost};
 ghost use Rattle.model.specs.Bounded.{among};
 ghost use Rattle.model.specs.Dispatcher.{numbersIn, isLast, turned, without};
-ghost use Rattle.queue.specs.Bridge.{jobIn, queueIn, Counted, isFreeIn, placeIn, freePlaceIn, headIn, headOf, positionOf};
+ghost use Rattle.queue.specs.Bridge.{jobIn, queueIn, Counted, MayStand, TakenIn, PlacesOf, isFreeIn, placeIn, freePlaceIn, headIn, headOf, positionOf};
 use model::JOBS_MOST;
 
 // A job held: its number and place, the code that it was admitted with, the messages that its walk meets, and the turns that it had.
@@ -20,11 +20,18 @@ pub struct Job {
     pub code: u8,
 }
 
-// The jobs held, in the order of their turns: the first `held` of the array, and never more than it has.
+// The jobs held, in the order of their turns: the first `held` of the array. Of a value that no call made they are read as far as each has a
+// place of its own, so that there is always room for one more where a place is free.
 #[repr(C)]
 pub struct Queue {
     pub jobs: [Job; JOBS_MOST],
     pub held: u32,
+}
+
+// How many jobs are held, and their places: bit p is place p.
+struct Taken {
+    count: usize,
+    places: u64,
 }
 
 // A place, if one is free.
@@ -37,6 +44,19 @@ pub enum Place {
 pub enum Head {
     Job(Job),
     Nothing,
+}
+
+// A job may be put in the place: it is one of the eight, and none of those taken.
+fn may_stand(taken: u64, place: usize) -> bool
+    ensures { λ r. ⌜ MayStand taken place r ⌝ }
+{
+    if JOBS_MOST <= place {
+        return false;
+    }
+    if (taken >> place) & 1 == 1 {
+        return false;
+    }
+    true
 }
 
 impl Job {
@@ -66,37 +86,50 @@ impl Queue {
         }
     }
 
-    // How many jobs are held.
+    // How many jobs are held, and where.
+    fn taken(self) -> Taken
+        ensures { λ r. ⌜ TakenIn self r ⌝ }
+    {
+        let mut places = 0;
+        for i in 0..JOBS_MOST {
+            if self.held as usize <= i {
+                return Taken { count: i, places };
+            }
+            let job = self.jobs[i];
+            let place = job.place as usize;
+            if !may_stand(places, place) {
+                return Taken { count: i, places };
+            }
+            places = places | (1 << place);
+        }
+        Taken {
+            count: JOBS_MOST,
+            places,
+        }
+    }
+
     fn count(self) -> usize
         ensures { λ r. ⌜ Counted self r ⌝ }
     {
-        let held = self.held as usize;
-        if JOBS_MOST < held {
-            return JOBS_MOST;
-        }
-        held
+        let taken = self.taken();
+        taken.count
     }
 
-    // No job is in the place.
-    pub fn is_free(self, place: usize) -> bool
-        ensures { λ r. ⌜ r ≡ isFreeIn (queueIn self) place ⌝ }
+    // The places of the jobs: bit p is place p.
+    pub fn places(self) -> u64
+        ensures { λ r. ⌜ PlacesOf (queueIn self) r ⌝ }
     {
-        let count = self.count();
-        for i in 0..count {
-            let job = self.jobs[i];
-            if job.place as usize == place {
-                return false;
-            }
-        }
-        true
+        let taken = self.taken();
+        taken.places
     }
 
     // The lowest free place.
     pub fn free_place(self) -> Place
         ensures { λ r. ⌜ placeIn r ≡ freePlaceIn (queueIn self) ⌝ }
     {
+        let taken = self.places();
         for place in 0..JOBS_MOST {
-            if self.is_free(place) {
+            if may_stand(taken, place) {
                 return Place::At(place);
             }
         }
@@ -114,9 +147,9 @@ impl Queue {
         Head::Job(job)
     }
 
-    // A job goes behind the last.
+    // A job goes behind the last, into a free place.
     pub fn behind_last(mut self, job: Job) -> Self
-        requires { ⌜ length (queueIn self) < jobsMost ⌝ }
+        requires { ⌜ (job .place < jobsMost) × (isFreeIn (queueIn self) (job .place) ≡ true) ⌝ }
         ensures { λ r. ⌜ queueIn r ≡ queueIn self ++ (jobIn job ∷ []) ⌝ }
     {
         let count = self.count();

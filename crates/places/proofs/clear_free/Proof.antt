@@ -2,23 +2,25 @@
 use Prim.Native.Nat.{_-_}
 use mathlib.Core.Logic.{⊎-elim}
 use Rattle.model.specs.Limits.{jobsMost}
-use Rattle.queue.specs.Bridge.{queueIn}
 use Rattle.places.proofs.Clearing.{Clearing, clearing-none, clearing-kept, clearing-cleared, clearing-all}
 use borrow.Author.Needs.{needs}
 use Rattle.places.proofs.clear_free.Statement.{statement}
 use Rattle.places.proofs.clear_free.Tie as tie
 
 abbrev Inv-loop : tie.InvT-loop
-Inv-loop words₀ queue place₀ words place = Clearing (queueIn queue) words₀ place words
+Inv-loop words₀ taken place₀ words place = Clearing taken words₀ place words
 
 abbrev μ-loop : tie.MeasureT-loop
-μ-loop words₀ queue place₀ words place = jobsMost - place
+μ-loop words₀ taken place₀ words place = jobsMost - place
+
+places-requires : tie.Need-places-requires Inv-loop μ-loop
+places-requires c κs = search needs
 
 loop-holds : tie.Need-loop-holds Inv-loop μ-loop
 loop-holds c = search clearing-none
 
-is-free-requires : tie.Need-is-free-requires Inv-loop μ-loop
-is-free-requires c κs = search needs
+is-taken-requires : tie.Need-is-taken-requires Inv-loop μ-loop
+is-taken-requires c κs = search needs
 
 mul-from : tie.Need-mul-from Inv-loop μ-loop
 mul-from c = search needs
@@ -62,8 +64,9 @@ clear-free-spec =
     (tie.spec
     Inv-loop
     μ-loop
+    places-requires
     loop-holds
-    is-free-requires
+    is-taken-requires
     mul-from
     add-to
     mul-clear

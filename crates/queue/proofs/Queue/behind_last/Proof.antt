@@ -11,7 +11,7 @@ mul-job : tie.Need-mul-job
 mul-job c = search needs
 
 element-set-from-job : tie.Need-element-set-from-job
-element-set-from-job c = search room-left
+element-set-from-job c = room-left _ _ (c .count .ensures) (c .before .args .job) (c .before .pre)
 
 add-self : tie.Need-add-self
 add-self c = search needs
@@ -20,7 +20,7 @@ cast-self : tie.Need-cast-self
 cast-self c = search needs
 
 returns : tie.Need-returns
-returns c = search lasts
+returns c = lasts _ _ (c .count .ensures) (c .before .args .job) (c .before .pre)
 
 pub behind-last-spec : {M : Type 1} → statement M
 behind-last-spec =

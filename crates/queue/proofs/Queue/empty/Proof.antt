@@ -1,11 +1,11 @@
 -- `Queue::empty` meets its contract. Assumes nothing.
-use Rattle.queue.specs.Bridge.{jobsIn}
+use Rattle.queue.specs.Bridge.{jobsIn, apartFrom}
 use borrow.Author.Needs.{needs}
 use Rattle.queue.proofs.Queue.empty.Statement.{statement}
 use Rattle.queue.proofs.Queue.empty.Tie as tie
 
 returns : tie.Need-returns
-unfolding jobsIn
+unfolding jobsIn apartFrom
 returns c = search needs
 
 pub empty-spec : {M : Type 1} → statement M

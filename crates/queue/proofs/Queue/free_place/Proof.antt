@@ -1,22 +1,25 @@
 -- `Queue::free_place` meets its contract. Assumes nothing.
 use Prim.Native.Nat.{_-_}
 use Rattle.model.specs.Limits.{jobsMost}
-use Rattle.queue.proofs.Jobs.{NoneFree, none-free, free-here, free-not, free-nowhere}
+use Rattle.queue.proofs.Apart.{NoneFree, none-free, free-here, free-not, free-nowhere}
 use borrow.Author.Needs.{needs}
 use Rattle.queue.proofs.Queue.free_place.Statement.{statement}
 use Rattle.queue.proofs.Queue.free_place.Tie as tie
 
 abbrev Inv-loop : tie.InvT-loop
-Inv-loop self place₀ place = NoneFree self place
+Inv-loop taken place₀ place = NoneFree taken place
 
 abbrev μ-loop : tie.MeasureT-loop
-μ-loop self place₀ place = jobsMost - place
+μ-loop taken place₀ place = jobsMost - place
+
+places-requires : tie.Need-places-requires Inv-loop μ-loop
+places-requires c κs = search needs
 
 loop-holds : tie.Need-loop-holds Inv-loop μ-loop
 loop-holds c = search none-free
 
-is-free-requires : tie.Need-is-free-requires Inv-loop μ-loop
-is-free-requires c κs = search needs
+may-stand-requires : tie.Need-may-stand-requires Inv-loop μ-loop
+may-stand-requires c κs = search needs
 
 returns : tie.Need-returns Inv-loop μ-loop
 returns c = search free-here
@@ -39,8 +42,9 @@ free-place-spec =
     (tie.spec
     Inv-loop
     μ-loop
+    places-requires
     loop-holds
-    is-free-requires
+    may-stand-requires
     returns
     add-place
     loop-less

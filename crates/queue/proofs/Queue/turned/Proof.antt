@@ -1,5 +1,5 @@
 -- `Queue::turned` meets its contract. Assumes nothing.
-use Rattle.queue.proofs.Turns.{turned-none, some-held, turned-last, turned-again, turn-fits, room-behind}
+use Rattle.queue.proofs.Turns.{turned-none, some-held, turned-last, turned-again, turn-fits, head-free}
 use borrow.Author.Needs.{needs}
 use Rattle.queue.proofs.Queue.turned.Statement.{statement}
 use Rattle.queue.proofs.Queue.turned.Tie as tie
@@ -31,8 +31,8 @@ add-job c = record { fits = turn-fits _ _ (c .before .before .is-last .ensures) 
 behind-last-requires : tie.Need-behind-last-requires
 behind-last-requires c κs =
     let closed = c .before .before .before in
-    let start = closed .before .before .before .before .before in
-    room-behind (start .args .self) (closed .closed-up .result) _ (start .good .0) (closed .closed-up .ensures) (search some-held)
+    let found = closed .before .before in
+    head-free (found .before .before .before .args .self) (closed .closed-up .result) _ _ (found .before .before .head .ensures) (found .found .given .1) (closed .closed-up .ensures)
 
 returns-3 : tie.Need-returns-3
 returns-3 c = search turned-again

@@ -1,4 +1,5 @@
 -- `lent_sheet::length_at` meets its contract. Assumes nothing.
+use Rattle.lent_sheet.proofs.Parts.{not-there}
 use borrow.Author.Needs.{needs}
 use Rattle.lent_sheet.proofs.length_at.Statement.{statement}
 use Rattle.lent_sheet.proofs.length_at.Tie as tie
@@ -16,7 +17,7 @@ returns : tie.Need-returns
 returns c = search needs
 
 returns-2 : tie.Need-returns-2
-returns-2 c = search needs
+returns-2 c = search not-there
 
 pub length-at-spec : {M : Type 1} → statement M
 length-at-spec =

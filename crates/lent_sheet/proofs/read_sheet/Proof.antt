@@ -1,4 +1,5 @@
 -- `lent_sheet::read_sheet` meets its contract. Assumes nothing.
+use Rattle.lent_sheet.proofs.Parts.{reads}
 use borrow.Author.Needs.{needs}
 use Rattle.lent_sheet.proofs.read_sheet.Statement.{statement}
 use Rattle.lent_sheet.proofs.read_sheet.Tie as tie
@@ -49,7 +50,7 @@ same-length : tie.Need-same-length
 same-length c = search needs
 
 returns : tie.Need-returns
-returns c = search needs
+returns c = search reads
 
 pub read-sheet-spec : {M : Type 1} → statement M
 read-sheet-spec =

@@ -47,12 +47,11 @@ fn are_boards(boards: &[u8], count: usize) -> bool
 pub fn conclude(
     race: Race,
     words: &[u64],
-    boards: &[u8],
+    boards: &[u8; model::EVENTS_MOST],
     count: usize,
     code: usize,
     trace: &mut [u8],
 ) -> Numbers
-    requires { ⌜ length (now boards) ≡ 2 * messagesMost ⌝ }
     requires { ⌜ length (now words) ≡ 2 * messagesMost * width ⌝ }
     requires { ⌜ traceLeast ≤ length (now trace) ⌝ }
     ensures { λ r. ⌜ Concludes count (now (boards .entry)) (now (words .entry)) code race (now (trace .entry)) (now (trace .exit)) (numbersIn r) ⌝ }

@@ -26,7 +26,7 @@ use Rattle.relation.proofs.Bits.{has-zero, has-or, has-power}
 use Rattle.queue.specs.declared.Job.{Job}
 use Rattle.queue.specs.declared.Queue.{Queue}
 use Rattle.queue.specs.declared.Taken.{Taken}
-use Rattle.queue.specs.Bridge.{jobIn, jobsIn, apartFrom, queueIn, Counted, PlacesOf, MayStand, TakenIn, isFreeIn, freePlaceIn}
+use Rattle.queue.specs.Bridge.{jobIn, jobsIn, apartFrom, emptyQueue, queueIn, Counted, PlacesOf, MayStand, TakenIn, isFreeIn, freePlaceIn}
 use Rattle.queue.proofs.Jobs.{jobs-more}
 
 swaps : (a b : Bool) → (a || b) ≡ (b || a)
@@ -235,3 +235,8 @@ module _ (taken place : ℕ) where
 
   pub stands-below : (r : Bool) → MayStand taken place r → not r ≡ false → place < jobsMost
   stands-below r e t = ltb-true place jobsMost (and-left (ltb place jobsMost) (not (has taken place)) (sym (e .is) ∙ not-false r t))
+
+-- the empty queue holds none
+pub empty-none : queueIn emptyQueue ≡ []
+unfolding jobsIn apartFrom
+empty-none = refl

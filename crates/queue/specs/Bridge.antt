@@ -5,7 +5,7 @@ use mathlib.Core.List.{List, [], _∷_}
 use mathlib.Core.Option.{Option, none, some}
 use Prim.Native.Nat.{ℕ, zero, suc, _<_, _≤_}
 use lib.Dec.{eqb, ltb}
-use lib.ListN.{length, take}
+use lib.ListN.{length, take, replicate}
 use Rattle.model.specs.Limits.{jobsMost}
 use Rattle.model.specs.Bounded.{among, lowest}
 use Rattle.model.specs.Dispatcher as model
@@ -35,6 +35,10 @@ apartFrom seen (j ∷ js) = cond (ltb (j .place) jobsMost && not (among (j .plac
 -- made is read as far as that is so.
 abbrev pub queueIn : Queue → List model.Job
 queueIn q = apartFrom [] (jobsIn (take (q .held) (q .jobs)))
+
+-- no job is held
+abbrev pub emptyQueue : Queue
+emptyQueue = record { jobs = replicate jobsMost (record { number = 0; turns = 0; count = 0; place = 0; code = 0 }); held = 0 }
 
 -- so many jobs of the array are held, and it has room for eight
 pub record Counted (q : Queue) (count : ℕ) : Type 0 where

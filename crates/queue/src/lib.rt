@@ -7,7 +7,7 @@ ghost use lib.ListN.{length, take, drop};
 ghost use Rattle.model.specs.Limits.{jobsMost};
 ghost use Rattle.model.specs.Bounded.{among};
 ghost use Rattle.model.specs.Dispatcher.{numbersIn, isLast, turned, without};
-ghost use Rattle.queue.specs.Bridge.{jobIn, queueIn, Counted, MayStand, TakenIn, PlacesOf, isFreeIn, placeIn, freePlaceIn, headIn, headOf, positionOf};
+ghost use Rattle.queue.specs.Bridge.{jobIn, emptyQueue, queueIn, Counted, MayStand, TakenIn, PlacesOf, isFreeIn, placeIn, freePlaceIn, headIn, headOf, positionOf};
 use model::JOBS_MOST;
 
 // A job held: its number and place, the code that it was admitted with, the messages that its walk meets, and the turns that it had.
@@ -71,7 +71,7 @@ impl Job {
 impl Queue {
     // No job is held.
     pub fn empty() -> Self
-        ensures { λ r. ⌜ queueIn r ≡ [] ⌝ }
+        ensures { λ r. ⌜ r ≡ emptyQueue ⌝ }
     {
         let none = Job {
             number: 0,

@@ -124,12 +124,11 @@ fn share(words: &[u64], boards: &[u8], count: usize, rule: Rule, t: usize) -> Fo
 pub fn looked(
     earlier: Race,
     words: &[u64],
-    boards: &[u8],
+    boards: &[u8; model::EVENTS_MOST],
     count: usize,
     code: usize,
     t: usize,
 ) -> Race
-    requires { ⌜ length (now boards) ≡ 2 * messagesMost ⌝ }
     requires { ⌜ length (now words) ≡ 2 * messagesMost * width ⌝ }
     ensures { λ r. ⌜ Looks count (now (boards .entry)) (now (words .entry)) code t earlier r ⌝ }
 {

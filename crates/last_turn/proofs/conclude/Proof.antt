@@ -1,6 +1,6 @@
 -- `last_turn::conclude` meets its contract. Assumes nothing.
-use Rattle.last_turn.proofs.Answers.{nothing-found, too-many, no-channel, no-message, no-board, all-fits, steps-few, locked-by}
 use native.Mathlib.Omega.{arith}
+use Rattle.last_turn.proofs.Answers.{nothing-found, too-many, no-channel, no-message, no-board, all-fits, steps-few, locked-by}
 use borrow.Author.Needs.{needs}
 use Rattle.last_turn.proofs.conclude.Statement.{statement}
 use Rattle.last_turn.proofs.conclude.Tie as tie
@@ -42,10 +42,10 @@ returns-5 : tie.Need-returns-5
 returns-5 c = search no-board
 
 withhold-requires : tie.Need-withhold-requires
-withhold-requires c κs = (all-fits _ _ _ _ (c .before .before .are-boards .ensures) (c .before .if5 .left) (search needs) (search needs) (search needs), (search needs, search needs))
+withhold-requires c κs = (all-fits _ _ _ _ (c .before .before .before .are-boards .ensures) (c .before .before .if5 .left) (search needs) (search needs) (search needs), (search needs, search needs))
 
-cast-t13 : tie.Need-cast-t13
-cast-t13 c = let few = steps-few _ _ _ _ _ _ (c .before .before .withhold .ensures) in record { fits = omega arith }
+cast-t17 : tie.Need-cast-t17
+cast-t17 c = let few = steps-few _ _ _ _ _ _ (c .before .before .withhold .ensures) in record { fits = omega arith }
 
 same-length : tie.Need-same-length
 same-length c = search needs
@@ -70,6 +70,6 @@ conclude-spec =
     zero-requires-5
     returns-5
     withhold-requires
-    cast-t13
+    cast-t17
     same-length
     returns-6)

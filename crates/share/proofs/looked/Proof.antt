@@ -1,6 +1,6 @@
 -- `share::looked` meets its contract. Assumes nothing.
-use Rattle.share.proofs.Turns.{looks-stays, looks-many, looks-unknown, looks-late, looks-nothing, looks-finds, found-below}
 use native.Mathlib.Omega.{arith}
+use Rattle.share.proofs.Turns.{looks-stays, looks-many, looks-unknown, looks-late, looks-nothing, looks-finds, found-below}
 use borrow.Author.Needs.{needs}
 use Rattle.share.proofs.looked.Statement.{statement}
 use Rattle.share.proofs.looked.Tie as tie
@@ -32,11 +32,11 @@ enum-told c = search needs
 enum-known-found : tie.Need-enum-known-found
 enum-known-found c = search needs
 
-cast-t14 : tie.Need-cast-t14
-cast-t14 c = search needs
+cast-t16 : tie.Need-cast-t16
+cast-t16 c = search needs
 
-cast-t15 : tie.Need-cast-t15
-cast-t15 c =
+cast-t17 : tie.Need-cast-t17
+cast-t17 c =
     let s = c .before .before .before in
     let low = found-below _ _ _ _ _ (s .share .ensures) (c .before .found .given .1) in
     record { fits = omega arith }
@@ -60,7 +60,7 @@ looked-spec =
     share-requires
     enum-told
     enum-known-found
-    cast-t14
-    cast-t15
+    cast-t16
+    cast-t17
     returns-5
     returns-6)

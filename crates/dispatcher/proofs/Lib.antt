@@ -1,3 +1,6 @@
 pub mod Members
 pub mod Cases
 pub mod Serving
+pub mod Turning
+pub mod Leaving
+pub mod Admission

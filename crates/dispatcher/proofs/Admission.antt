@@ -35,14 +35,19 @@ use Rattle.dispatcher.proofs.Serving.{words-cleared, holds-same, words-
 pub place-free : (js : List model.Job) (p : ℕ) → freePlaceIn js ≡ some p → (p < jobsMost) × (isFreeIn js p ≡ true)
 place-free js p e = let L = lowest-some jobsMost (isFreeIn js) p e in (L .below, L .passes)
 
+-- the place of a job held is another
+pub not-place : (d : Dispatcher) (place : ℕ) → freePlaceIn (queueIn (d .queue)) ≡ some place → (p : ℕ) → isFree (deskIn d) p ≡ false → p ≡ place → ⊥
+unfolding isFree
+not-place d place free p f e = not-both (isFreeIn (queueIn (d .queue)) place) (place-free (queueIn (d .queue)) place free .1) (ap (isFreeIn (queueIn (d .queue))) (sym e) ∙ f)
+
 abbrev pub unsought : Race
 unsought = record { found = 0; message = 0; event = 0 }
 
 module _ (d : Dispatcher) (place code count : ℕ) (boards written exit : List ℕ) (free : freePlaceIn (queueIn (d .queue)) ≡ some place)
-  (known : code < channels) (left : d .given < jobNumbers) (races : length (d .races) ≡ jobsMost) (long : length (d .boards) ≡ jobsMost)
-  (longer : Queue)
-  (isLonger : queueIn longer ≡ queueIn (d .queue) ++ (record { number = d .given; place = place; code = code; count = count; turns = 0 } ∷ []))
-  (F : FreeCleared (queueIn longer) written exit) where
+    (known : code < channels) (left : d .given < jobNumbers) (races : length (d .races) ≡ jobsMost) (long : length (d .boards) ≡ jobsMost)
+    (longer : Queue)
+    (isLonger : queueIn longer ≡ queueIn (d .queue) ++ (record { number = d .given; place = place; code = code; count = count; turns = 0 } ∷ []))
+    (F : FreeCleared (queueIn longer) written exit) where
   abbrev new : model.Job
   new = record { number = d .given; place = place; code = code; count = count; turns = 0 }
 
@@ -59,8 +64,8 @@ module _ (d : Dispatcher) (place code count : ℕ) (boards written exit : List �
   below = place-free (queueIn (d .queue)) place free .0
 
   module _ (sheets lengths codes words : List ℕ) (enough : jobWordsLeast ≤ length words) (isCode : code ≡ getD codes place channels) (few : getD lengths place 0 ≤ textMost)
-    (isSheet : sheetOf (sheetAt (lent sheets lengths codes words) place) ≡ ok (scenarioIn count boards (placeWords place written)))
-    (fit : Fit count boards (placeWords place written)) (P : Put place (placeWords place written) words written) where
+      (isSheet : sheetOf (sheetAt (lent sheets lengths codes words) place) ≡ ok (scenarioIn count boards (placeWords place written)))
+      (fit : Fit count boards (placeWords place written)) (P : Put place (placeWords place written) words written) where
     abbrev l : Lent
     l = lent sheets lengths codes words
 
@@ -96,16 +101,11 @@ module _ (d : Dispatcher) (place code count : ℕ) (boards written exit : List �
         last [] = inl refl
         last (j ∷ js) = inr (last js)
 
-    -- the words of a job held are not those of the place
-    not-place : (p : ℕ) → isFree (deskIn d) p ≡ false → p ≡ place → ⊥
-    unfolding isFree
-    not-place p f e = not-both (isFreeIn (queueIn (d .queue)) place) (place-free (queueIn (d .queue)) place free .1) (ap (isFreeIn (queueIn (d .queue))) (sym e) ∙ f)
-
     W : WordsLeft (deskIn d) c exit
     unfolding touchesNothing
     W =
         words-cleared (deskIn d) c written exit (ap touchesNothing (C .outcome))
-        (subst (λ (q : Desk). FreeCleared (q .queue) written exit) next-is F) (P .kept) (P .rest) (λ p h f. P .others p h (not-place p f))
+        (subst (λ (q : Desk). FreeCleared (q .queue) written exit) next-is F) (P .kept) (P .rest) (λ p h f. P .others p h (not-place d place free p f))
 
     -- the new job is held
     holds-new : HoldsIn (boardsAt next place) (raceAt next place) (placeWords place exit) new T
@@ -140,7 +140,7 @@ module _ (d : Dispatcher) (place code count : ℕ) (boards written exit : List �
         ⊎-elim
         (λ u.
         let i : j ≡ k = one-job (deskIn d) o j k a u m in
-        let other = not-place (k .place) (place-held (deskIn d) k u) in
+        let other = not-place d place free (k .place) (place-held (deskIn d) k u) in
         holds-same d next (placeWords (k .place) words) (placeWords (k .place) exit) k S
         (ap (λ (b : Boards). b .on) (getD-set-other (d .boards) place (k .place) (record { on = boards }) _ other))
         (getD-set-other (d .races) place (k .place) unsought _ other)
@@ -166,9 +166,9 @@ module _ (d : Dispatcher) (place code count : ℕ) (boards written exit : List �
           admits = admits;
           keeps = keeps;
           answers = λ o j ks S q i H.
-          let clash : admitted (d .given) place ≡ answered (j .number) = sym (C .outcome) ∙ i in
-          let z : _≡_ {A = ℕ} 0 1 = cc in
-          absurd (omega arith);
+              let clash : admitted (d .given) place ≡ answered (j .number) = sym (C .outcome) ∙ i in
+              let z : _≡_ {A = ℕ} 0 1 = cc in
+              absurd (omega arith);
         })
 
   pub holds-new-serves : (r : Served Dispatcher) → r ≡ record { told = record { word = admittedWord; one = d .given; two = place; answer = noAnswer }; next = next }

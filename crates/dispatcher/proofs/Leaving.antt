@@ -21,7 +21,7 @@ use Rattle.dispatcher.proofs.Cases.{Case, cancel-held}
 use Rattle.dispatcher.proofs.Serving.{words-cleared, holds-same, words-same}
 
 module _ (d : Dispatcher) (n : ℕ) (l : Lent) (long : jobWordsLeast ≤ length (l .words)) (held : among n (numbersIn (queueIn (d .queue))) ≡ true)
-  (left : Queue) (isLeft : queueIn left ≡ without n (queueIn (d .queue))) (exit : List ℕ) (F : FreeCleared (queueIn left) (l .words) exit) where
+    (left : Queue) (isLeft : queueIn left ≡ without n (queueIn (d .queue))) (exit : List ℕ) (F : FreeCleared (queueIn left) (l .words) exit) where
   abbrev c : Call
   c = cancel n l
 
@@ -54,13 +54,13 @@ module _ (d : Dispatcher) (n : ℕ) (l : Lent) (long : jobWordsLeast ≤ length 
         traceLocked = λ u. (refl, refl);
         admits = λ m p S i f a. let z : _≡_ {A = ℕ} 0 1 = cc in absurd (omega arith);
         keeps = λ o j k S a b m H.
-        let u : Member k (queueIn (d .queue)) = member-without k n (queueIn (d .queue)) (subst (λ (q : Desk). Member k (q .queue)) (C .leaves) b) in
-        let i : j ≡ k = one-job (deskIn d) o j k a u m in
-        holds-same d rest (placeWords (k .place) (l .words)) (placeWords (k .place) exit) k S refl refl
-        (words-same (deskIn d) c exit k W o u b)
-        (subst (λ (h : model.Job). Holds d (placeWords (h .place) (l .words)) h S) i H);
+            let u : Member k (queueIn (d .queue)) = member-without k n (queueIn (d .queue)) (subst (λ (q : Desk). Member k (q .queue)) (C .leaves) b) in
+            let i : j ≡ k = one-job (deskIn d) o j k a u m in
+            holds-same d rest (placeWords (k .place) (l .words)) (placeWords (k .place) exit) k S refl refl
+            (words-same (deskIn d) c exit k W o u b)
+            (subst (λ (h : model.Job). Holds d (placeWords (h .place) (l .words)) h S) i H);
         answers = λ o j ks S q i H.
-        let clash : cancelled n ≡ answered (j .number) = sym (C .outcome) ∙ i in
-        let z : _≡_ {A = ℕ} 0 1 = cc in
-        absurd (omega arith);
+            let clash : cancelled n ≡ answered (j .number) = sym (C .outcome) ∙ i in
+            let z : _≡_ {A = ℕ} 0 1 = cc in
+            absurd (omega arith);
       })

@@ -4,3 +4,5 @@ pub mod Serving
 pub mod Turning
 pub mod Leaving
 pub mod Admission
+pub mod Room
+pub mod Replies

@@ -56,7 +56,7 @@ pub boards-read : (d : Dispatcher) (p : ℕ) (other : Boards) → length (d .boa
 boards-read d p other long h = ap (λ (b : Boards). b .on) (there (d .boards) p other _ (omega arith))
 
 module _ (d : Dispatcher) (job : Job) (words : List ℕ) (head : headOf (queueIn (d .queue)) ≡ some (jobIn job)) (long : jobWordsLeast ≤ length words)
-  (races : length (d .races) ≡ jobsMost) (boards : length (d .boards) ≡ jobsMost) (raceElse : Race) (boardsElse : Boards) where
+    (races : length (d .races) ≡ jobsMost) (boards : length (d .boards) ≡ jobsMost) (raceElse : Race) (boardsElse : Boards) where
   abbrev J : model.Job
   J = jobIn job
 
@@ -80,13 +80,13 @@ module _ (d : Dispatcher) (job : Job) (words : List ℕ) (head : headOf (queueIn
     place-is = omega (arith, place-below (deskIn d) o J head-in)
 
   -- the words, the boards and the race of the head's place, as the code reads them
-  abbrev part : List ℕ
+  abbrev pub part : List ℕ
   part = midOf (from place) (to place - from place) words
 
-  abbrev race : Race
+  abbrev pub race : Race
   race = getD (d .races) place raceElse
 
-  abbrev on : List ℕ
+  abbrev pub on : List ℕ
   on = getD (d .boards) place boardsElse .on
 
   module _ (o : Orderly (deskIn d)) where
@@ -107,7 +107,7 @@ module _ (d : Dispatcher) (job : Job) (words : List ℕ) (head : headOf (queueIn
 
   -- ---- unanswered
   module _ (early : isLast J ≡ false) (found : Race) (looks : Looks (job .count) on part (job .code) (job .turns) race found)
-    (left : Queue) (isLeft : queueIn left ≡ turned (queueIn (d .queue))) (exit : List ℕ) (F : FreeCleared (queueIn left) words exit) where
+      (left : Queue) (isLeft : queueIn left ≡ turned (queueIn (d .queue))) (exit : List ℕ) (F : FreeCleared (queueIn left) words exit) where
     abbrev next : Dispatcher
     next = record { queue = left; given = d .given; races = set (d .races) place found; boards = d .boards }
 
@@ -186,14 +186,14 @@ module _ (d : Dispatcher) (job : Job) (words : List ℕ) (head : headOf (queueIn
             admits = λ m p S i f a. let z : _≡_ {A = ℕ} 0 1 = cc in absurd (omega arith);
             keeps = keeps;
             answers = λ o j ks S q i H.
-            let clash : taken (job .number) ≡ answered (j .number) = sym (C .outcome) ∙ i in
-            let z : _≡_ {A = ℕ} 0 1 = cc in
-            absurd (omega arith);
+                let clash : taken (job .number) ≡ answered (j .number) = sym (C .outcome) ∙ i in
+                let z : _≡_ {A = ℕ} 0 1 = cc in
+                absurd (omega arith);
           })
 
   -- ---- answered
   module _ (late : isLast J ≡ true) (left : Queue) (isLeft : queueIn left ≡ turned (queueIn (d .queue))) (exit : List ℕ) (F : FreeCleared (queueIn left) words exit)
-    (trace traceExit : List ℕ) (answer : Numbers) (K : Concludes (job .count) on part (job .code) race trace traceExit answer) where
+      (trace traceExit : List ℕ) (answer : Numbers) (K : Concludes (job .count) on part (job .code) race trace traceExit answer) where
     abbrev rest : Dispatcher
     rest = record { queue = left; given = d .given; races = d .races; boards = d .boards }
 
@@ -241,16 +241,16 @@ module _ (d : Dispatcher) (job : Job) (words : List ℕ) (head : headOf (queueIn
             traceLocked = K .locked;
             admits = λ m p S i f a. let z : _≡_ {A = ℕ} 0 1 = cc in absurd (omega arith);
             keeps = λ o j k S a b m H.
-            let u : Member k js = subst (λ (q : Desk). Member k (q .queue)) (D .leaves) b in
-            let i : j ≡ k = one-job (deskIn d) o j k a (in-queue k u) m in
-            holds-same d rest (placeWords (k .place) (l .words)) (placeWords (k .place) exit) k S refl refl
-            (words-same (deskIn d) last exit k lasting o (in-queue k u) b)
-            (subst (λ (h : model.Job). Holds d (placeWords (h .place) (l .words)) h S) i H);
+                let u : Member k js = subst (λ (q : Desk). Member k (q .queue)) (D .leaves) b in
+                let i : j ≡ k = one-job (deskIn d) o j k a (in-queue k u) m in
+                holds-same d rest (placeWords (k .place) (l .words)) (placeWords (k .place) exit) k S refl refl
+                (words-same (deskIn d) last exit k lasting o (in-queue k u) b)
+                (subst (λ (h : model.Job). Holds d (placeWords (h .place) (l .words)) h S) i H);
             answers = λ o j ks S q i H.
-            let two : J ∷ js ≡ j ∷ ks = sym queue-is ∙ q in
-            let one : J ≡ j = cc in
-            subst (λ (h : model.Job). AsTheCheck S (h .code) trace traceExit answer) one
-            (as-check o S
-            (subst (λ (w : List ℕ). Holds d (placeWords (job .place) w) J S) same
-            (subst⁻¹ (λ (h : model.Job). Holds d (placeWords (h .place) (l .words)) h S) one H)));
+                let two : J ∷ js ≡ j ∷ ks = sym queue-is ∙ q in
+                let one : J ≡ j = cc in
+                subst (λ (h : model.Job). AsTheCheck S (h .code) trace traceExit answer) one
+                (as-check o S
+                (subst (λ (w : List ℕ). Holds d (placeWords (job .place) w) J S) same
+                (subst⁻¹ (λ (h : model.Job). Holds d (placeWords (h .place) (l .words)) h S) one H)));
           })

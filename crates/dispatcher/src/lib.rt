@@ -4,7 +4,7 @@ ghost use mathlib.Core.Bool.{true, false};
 ghost use mathlib.Core.Option.{none, some};
 ghost use Prim.Native.Nat.{_^_, _<_, _≤_};
 ghost use lib.ListN.{length};
-ghost use Rattle.model.specs.Limits.{channels, messagesMost, textMost, jobNumbers, jobWordsLeast, traceLeast};
+ghost use Rattle.model.specs.Limits.{channels, messagesMost, textMost, jobsMost, jobNumbers, jobWordsLeast, traceLeast};
 ghost use Rattle.model.specs.Dispatcher.{isLast, refusedWord, WholeLists};
 ghost use Rattle.queue.specs.Bridge.{jobIn, queueIn, freePlaceIn, headOf};
 ghost use Rattle.dispatcher.specs.Bridge.{deskIn, Holds, emptied, toldAs, answerIn, FullOf, HoldsNew, ReadsIn, AdmitOf, TakesTurn, TurnOf, CancelOf};
@@ -117,7 +117,7 @@ impl Dispatcher {
         words: &mut [u64],
     ) -> DispatcherAnswer
         requires { ⌜ freePlaceIn (queueIn (self .queue)) ≡ some place ⌝ }
-        requires { ⌜ (code < channels) × (count ≤ messagesMost) × (self .given < jobNumbers) ⌝ }
+        requires { ⌜ (place < jobsMost) × (code < channels) × (count ≤ messagesMost) × (self .given < jobNumbers) ⌝ }
         requires { ⌜ jobWordsLeast ≤ length (now words) ⌝ }
         ensures { λ r. ⌜ HoldsNew self place code count (boards .on) (now (words .entry)) (now (words .exit)) (answerIn r) ⌝ }
     {
@@ -153,7 +153,7 @@ impl Dispatcher {
         words: &mut [u64],
     ) -> DispatcherAnswer
         requires { ⌜ freePlaceIn (queueIn (self .queue)) ≡ some place ⌝ }
-        requires { ⌜ (code < channels) × (size ≤ textMost) × (self .given < jobNumbers) ⌝ }
+        requires { ⌜ (place < jobsMost) × (code < channels) × (size ≤ textMost) × (self .given < jobNumbers) ⌝ }
         requires { ⌜ jobWordsLeast ≤ length (now words) ⌝ }
         ensures { λ r. ⌜ ReadsIn self (now (sheets .entry)) size place code (now (words .entry)) (now (words .exit)) (answerIn r) ⌝ }
     {

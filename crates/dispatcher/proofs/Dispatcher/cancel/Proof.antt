@@ -1,4 +1,5 @@
 -- `Dispatcher::cancel` meets its contract. Assumes nothing.
+use Rattle.dispatcher.proofs.Replies.{cancel-short, cancel-none, cancel-leaves, is-held, whole}
 use borrow.Author.Needs.{needs}
 use Rattle.dispatcher.proofs.Dispatcher.cancel.Statement.{statement}
 use Rattle.dispatcher.proofs.Dispatcher.cancel.Tie as tie
@@ -7,7 +8,7 @@ refused-requires : tie.Need-refused-requires
 refused-requires c κs = search needs
 
 returns : tie.Need-returns
-returns c = search needs
+returns c = (search cancel-short, whole)
 
 holds-requires : tie.Need-holds-requires
 holds-requires c κs = search needs
@@ -22,10 +23,10 @@ same-length : tie.Need-same-length
 same-length c = search needs
 
 returns-2 : tie.Need-returns-2
-returns-2 c = search needs
+returns-2 c = (search cancel-none, whole)
 
 without-requires : tie.Need-without-requires
-without-requires c κs = search needs
+without-requires c κs = search is-held
 
 clear-free-requires-2 : tie.Need-clear-free-requires-2
 clear-free-requires-2 c κs = search needs
@@ -37,7 +38,7 @@ same-length-2 : tie.Need-same-length-2
 same-length-2 c = search needs
 
 returns-3 : tie.Need-returns-3
-returns-3 c = search needs
+returns-3 c = (search cancel-leaves, whole)
 
 pub cancel-spec : {M : Type 1} → statement M
 cancel-spec =

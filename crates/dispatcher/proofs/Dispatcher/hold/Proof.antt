@@ -1,4 +1,6 @@
 -- `Dispatcher::hold` meets its contract. Assumes nothing.
+use Rattle.dispatcher.proofs.Room.{races-room, boards-room}
+use Rattle.dispatcher.proofs.Admission.{place-free, holds-new-serves}
 use borrow.Author.Needs.{needs}
 use Rattle.dispatcher.proofs.Dispatcher.hold.Statement.{statement}
 use Rattle.dispatcher.proofs.Dispatcher.hold.Tie as tie
@@ -13,7 +15,7 @@ cast-t14 : tie.Need-cast-t14
 cast-t14 c = search needs
 
 behind-last-requires : tie.Need-behind-last-requires
-behind-last-requires c κs = search needs
+behind-last-requires c κs = (search needs, place-free _ _ (c .before .before .pre .0) .1)
 
 add-self : tie.Need-add-self
 add-self c = search needs
@@ -43,7 +45,12 @@ same-length : tie.Need-same-length
 same-length c = search needs
 
 returns : tie.Need-returns
-returns c = search needs
+returns c =
+    let cleared = c .before .before .before in
+    let b = cleared .before .before in
+    let s = b .before .before .before in
+    holds-new-serves (s .args .t1) (s .args .place) (s .args .code) (s .args .count) (s .args .boards .on) _ _ (s .pre .0) (search needs) (search needs)
+    (races-room (s .args .t1) _ (s .good .0)) (boards-room (s .args .t1) _ (s .good .0)) (b .behind-last .result) (b .behind-last .ensures) (cleared .clear-free .ensures) _ (c .told .ensures)
 
 pub hold-spec : {M : Type 1} → statement M
 hold-spec =

@@ -1,4 +1,5 @@
 -- `Dispatcher::turn` meets its contract. Assumes nothing.
+use Rattle.dispatcher.proofs.Replies.{turn-short-words, turn-short-trace, turn-idles, is-head, last-is, turn-takes, whole}
 use borrow.Author.Needs.{needs}
 use Rattle.dispatcher.proofs.Dispatcher.turn.Statement.{statement}
 use Rattle.dispatcher.proofs.Dispatcher.turn.Tie as tie
@@ -7,13 +8,13 @@ refused-requires : tie.Need-refused-requires
 refused-requires c κs = search needs
 
 returns : tie.Need-returns
-returns c = search needs
+returns c = (search turn-short-words, whole)
 
 refused-requires-2 : tie.Need-refused-requires-2
 refused-requires-2 c κs = search needs
 
 returns-2 : tie.Need-returns-2
-returns-2 c = search needs
+returns-2 c = (search turn-short-trace, whole)
 
 head-requires : tie.Need-head-requires
 head-requires c κs = search needs
@@ -34,13 +35,13 @@ same-length : tie.Need-same-length
 same-length c = search needs
 
 returns-3 : tie.Need-returns-3
-returns-3 c = search needs
+returns-3 c = (search turn-idles, whole)
 
 is-last-requires : tie.Need-is-last-requires
 is-last-requires c κs = search needs
 
 answer-requires : tie.Need-answer-requires
-answer-requires c κs = search needs
+answer-requires c κs = ((search is-head, search last-is), search needs)
 
 same-length-2 : tie.Need-same-length-2
 same-length-2 c = search needs
@@ -49,16 +50,16 @@ same-length-3 : tie.Need-same-length-3
 same-length-3 c = search needs
 
 returns-4 : tie.Need-returns-4
-returns-4 c = search needs
+returns-4 c = (search needs, whole)
 
 take-requires : tie.Need-take-requires
-take-requires c κs = search needs
+take-requires c κs = ((search is-head, search last-is), search needs)
 
 same-length-4 : tie.Need-same-length-4
 same-length-4 c = search needs
 
 returns-5 : tie.Need-returns-5
-returns-5 c = search needs
+returns-5 c = (search turn-takes, whole)
 
 pub turn-spec : {M : Type 1} → statement M
 turn-spec =

@@ -1,2 +1,3 @@
 mod Told
 mod Small
+mod Desk

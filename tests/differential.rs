@@ -4,6 +4,8 @@
 
 #[path = "choices.rs"]
 mod choices;
+#[path = "dispatchers.rs"]
+mod dispatchers;
 #[path = "monitors.rs"]
 mod monitors;
 #[path = "reference.rs"]
@@ -179,6 +181,7 @@ struct Seen {
     traces: traces::Seen,
     choices: choices::Seen,
     monitors: monitors::Seen,
+    dispatchers: dispatchers::Seen,
 }
 
 impl Seen {
@@ -194,6 +197,7 @@ impl Seen {
         self.traces.add(&o.traces);
         self.choices.add(&o.choices);
         self.monitors.add(&o.monitors);
+        self.dispatchers.add(&o.dispatchers);
     }
 
     fn limits_of(&mut self, s: &Scenario) {
@@ -209,14 +213,16 @@ impl Seen {
         self.traces.print();
         self.choices.print();
         self.monitors.print();
+        self.dispatchers.print();
         println!("traces replayed {}, free orders taken {}, sheets searched whole {}", self.replayed, self.wandered, self.searched);
     }
 
     fn whole(&self) -> bool {
         let eager = [0, 2, 4, 5].iter().all(|c| self.locked[*c] > 0);
         let some = |all: &[u64]| all.iter().all(|n| *n > 0);
-        let judged = self.replayed * self.wandered * self.searched > 0 && self.traces.whole() && self.choices.whole() && self.monitors.whole();
-        eager && some(&self.free) && some(&self.refused[1..]) && some(&self.limits) && judged
+        let judged = self.replayed * self.wandered * self.searched > 0;
+        let calls = self.traces.whole() && self.choices.whole() && self.monitors.whole() && self.dispatchers.whole();
+        eager && some(&self.free) && some(&self.refused[1..]) && some(&self.limits) && judged && calls
     }
 }
 
@@ -273,6 +279,9 @@ fn try_text(r: &mut Random, seen: &mut Seen) {
     if r.one_in(8) {
         monitors::try_monitors(r, &mut seen.monitors, &text, &sheet);
     }
+    if r.one_in(64) {
+        dispatchers::try_dispatcher(r, &mut seen.dispatchers);
+    }
 }
 
 fn main() {
@@ -295,6 +304,7 @@ fn main() {
         }
     };
     let mut seen = Seen::default();
+    dispatchers::try_limits(&mut seen.dispatchers);
     std::thread::scope(|all| {
         let started: Vec<_> = (0..threads).map(|_| all.spawn(work)).collect();
         started.into_iter().for_each(|t| seen.add(&t.join().expect("a thread of the test failed")));

@@ -365,7 +365,9 @@ fn forge(r: &mut Random, seen: &mut Seen) {
     }
     let state = unsafe { std::ptr::read_unaligned(any.as_ptr() as *const Dispatcher) };
     let mut l = lent(r, seen, &mut c, b"kind one two\nS 0 0\nM 0 1\n");
+    l.words.truncate(WORDS);
     l.words.resize(WORDS + 8, 7);
+    l.trace.truncate(TRACE_LEAST);
     l.trace.resize(TRACE_LEAST + 8, 7);
     let (s, n, k) = (l.sheets.as_ptr(), l.lengths.as_ptr(), l.codes.as_ptr());
     let (a, b, d) = (l.sheets.len(), l.lengths.len(), l.codes.len());

@@ -2,6 +2,7 @@
 use Rattle.queue.specs.Bridge.{queueIn}
 use Rattle.dispatcher.proofs.Admission.{place-free}
 use Rattle.dispatcher.proofs.Replies.{no-place, at-place, admit-full, admit-unknown, admit-short, admit-numbers, admit-long, admit-read, whole}
+use native.Mathlib.Omega.{arith}
 use borrow.Author.Needs.{needs}
 use Rattle.dispatcher.proofs.Dispatcher.admit.Statement.{statement}
 use Rattle.dispatcher.proofs.Dispatcher.admit.Tie as tie
@@ -72,7 +73,7 @@ returns-4 c =
     let fp = k .before .before .before in
     let s = fp .before .before .before .before .before .before in
     let free = at-place (queueIn (s .args .self .queue)) _ _ (fp .free-place .ensures) (k .before .found .given .1) in
-    (admit-numbers (s .args .self) _ free _ _ _ _ _ (code .code-at .ensures) _ (search needs) (search needs) _ (three .if3 .taken) (cleared .clear-free .ensures) (c .refused3 .ensures), whole)
+    (admit-numbers (s .args .self) _ free _ _ _ _ _ (code .code-at .ensures) _ (search needs) (search needs) _ (omega (arith, three .if3 .taken)) (cleared .clear-free .ensures) (c .refused3 .ensures), whole)
 
 length-at-requires : tie.Need-length-at-requires
 length-at-requires c κs = search needs

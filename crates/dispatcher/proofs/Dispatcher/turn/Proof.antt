@@ -1,5 +1,6 @@
 -- `Dispatcher::turn` meets its contract. Assumes nothing.
 use Rattle.dispatcher.proofs.Replies.{turn-short-words, turn-short-trace, turn-idles, is-head, last-is, turn-takes, whole}
+use native.Mathlib.Omega.{arith}
 use borrow.Author.Needs.{needs}
 use Rattle.dispatcher.proofs.Dispatcher.turn.Statement.{statement}
 use Rattle.dispatcher.proofs.Dispatcher.turn.Tie as tie
@@ -14,7 +15,7 @@ refused-requires-2 : tie.Need-refused-requires-2
 refused-requires-2 c κs = search needs
 
 returns-2 : tie.Need-returns-2
-returns-2 c = (search turn-short-trace, whole)
+returns-2 c = (turn-short-trace _ _ _ _ (omega arith) (c .refused2 .ensures), whole)
 
 head-requires : tie.Need-head-requires
 head-requires c κs = search needs

@@ -1,5 +1,6 @@
 /* Runs one implementation on one fixed sheet, on all six channels or one: for callgrind to count.
- * usage: bench proved|careful|text SHEET MESSAGES [CODE]; `text` prints the sheet itself. */
+ * usage: bench proved|careful|text SHEET MESSAGES [CODE]; `text` prints the sheet itself.
+ *        bench proved|careful SHEET MESSAGES counter JOBS; the sheet as so many jobs of a dispatcher, a line a call. */
 #include "check.h"
 #include <stdio.h>
 #include <stdlib.h>
@@ -214,6 +215,30 @@ static void cure(int proved) {
     printf("cured: %u %u %u, output %u\n", a.word, a.one, a.two, sum);
 }
 
+/* The sheet admitted so often, each on the next channel, and turns until idle: a line a call, with a sum of the words and the trace. */
+static void counter(int proved, uint32_t jobs) {
+    static uint8_t sheets[DISPATCHER_PLACES * DISPATCHER_SHEET_BYTES], trace[CHANNEL_CHECK_TRACE_BYTES];
+    static uint64_t words[DISPATCHER_WORDS];
+    uint32_t lengths[DISPATCHER_PLACES], codes[DISPATCHER_PLACES];
+    dispatcher_answer a = {0};
+    a.next = (proved ? dispatcher_empty : careful_dispatcher_empty)();
+    for (uint32_t p = 0; p < DISPATCHER_PLACES; p++) {
+        memcpy(sheets + p * DISPATCHER_SHEET_BYTES, text, len < DISPATCHER_SHEET_BYTES ? len : DISPATCHER_SHEET_BYTES);
+        lengths[p] = (uint32_t)len;
+        codes[p] = p % 6;
+    }
+    for (uint32_t i = 0; i < jobs || a.word != 1; i++) {
+        uint64_t sum = 0;
+        if (i < jobs)
+            a = (proved ? dispatcher_admit : careful_dispatcher_admit)(a.next, sheets, sizeof sheets, lengths, DISPATCHER_PLACES, codes, DISPATCHER_PLACES, words, DISPATCHER_WORDS);
+        else
+            a = (proved ? dispatcher_turn : careful_dispatcher_turn)(a.next, sheets, sizeof sheets, lengths, DISPATCHER_PLACES, codes, DISPATCHER_PLACES, words, DISPATCHER_WORDS, trace, sizeof trace);
+        for (size_t k = 0; k < DISPATCHER_WORDS; k++) sum = 31 * sum + words[k];
+        for (size_t k = 0; k < sizeof trace; k++) sum = 31 * sum + trace[k];
+        printf("%u %u %u, %u %u %u %u, %llu\n", a.word, a.one, a.two, a.answer.word, a.answer.one, a.answer.two, a.answer.three, (unsigned long long)sum);
+    }
+}
+
 int main(int argc, char **argv) {
     if (argc < 4) return 2;
     for (size_t i = 0; i < sizeof sheets / sizeof *sheets; i++)
@@ -221,6 +246,7 @@ int main(int argc, char **argv) {
     if (len == 0) return 2;
     if (strcmp(argv[1], "text") == 0) return fwrite(text, 1, len, stdout) != len;
     int proved = strcmp(argv[1], "proved") == 0;
+    if (argc > 5) return counter(proved, (uint32_t)atoi(argv[5])), 0;
     for (uint32_t code = 0; code < 6; code++)
         if (argc < 5 || (uint32_t)atoi(argv[4]) == code) run(proved, code);
     cure(proved);

@@ -655,3 +655,140 @@ cure_sheet_answer careful_cure_sheet(const uint8_t *text, size_t text_len, uint6
     memset(scratch, 0, 1024 * 8);
     return a;
 }
+
+/* ------------------------------------------------------------------ the dispatcher */
+
+enum { PLACES = 8, SHEET = 8192, WORDS = 1024 };
+
+dispatcher careful_dispatcher_empty(void) { return (dispatcher){0}; }
+
+/* bit p: a job is in place p; the queue is read as far as each job has a place of its own, and is as long */
+static unsigned places_of(dispatcher_queue *q) {
+    unsigned taken = 0;
+    for (uint32_t i = 0; i < PLACES && i < q->held; i++) {
+        if (q->jobs[i].place >= PLACES || taken >> q->jobs[i].place & 1) {
+            q->held = i;
+            break;
+        }
+        taken |= 1u << q->jobs[i].place;
+    }
+    return taken;
+}
+
+/* free places that stand together are cleared at once */
+static void clear_free(unsigned taken, uint64_t *words) {
+    for (size_t p = 0, end; p < PLACES; p = end + 1) {
+        for (end = p; end < PLACES && !(taken >> end & 1);) end++;
+        if (p < end) memset(words + p * WORDS, 0, (end - p) * WORDS * 8);
+    }
+}
+
+static dispatcher_answer *saying(dispatcher_answer *a, uint32_t word, uint32_t one, uint32_t two) {
+    a->word = word;
+    a->one = one;
+    a->two = two;
+    return a;
+}
+
+/* the sheet in place p, read and walked into its words; refused or held */
+static void take_in(dispatcher_answer *a, size_t p, uint32_t code, unsigned taken, const uint8_t *text, size_t len, uint64_t *words) {
+    sheet s;
+    walk w;
+    dispatcher *d = &a->next;
+    refusal r = read(text, len, &s, words + p * WORDS, 0);
+    w.words = words + p * WORDS;
+    if (!r.number) r = expand(&s, &w, 0);
+    if (r.number) {
+        clear_free(taken, words);
+        saying(a, 5, r.number, r.line);
+        return;
+    }
+    d->queue.jobs[d->queue.held++] = (dispatcher_job){d->given, 0, (uint16_t)w.count, (uint8_t)p, (uint8_t)code};
+    memset(&d->races[p], 0, sizeof d->races[p]);
+    memset(&d->boards[p], 0, sizeof d->boards[p]);
+    memcpy(d->boards[p].on, w.boards, 2 * w.count);
+    clear_free(taken | 1u << p, words);
+    saying(a, 0, d->given++, (uint32_t)p);
+}
+
+dispatcher_answer careful_dispatcher_admit(dispatcher state, const uint8_t *sheets, size_t sheets_len, const uint32_t *lengths,
+                                           size_t lengths_len, const uint32_t *codes, size_t codes_len, uint64_t *words, size_t words_len) {
+    dispatcher_answer a = {0, 0, 0, {0, 0, 0, 0}, state};
+    unsigned taken = places_of(&a.next.queue);
+    size_t p = 0;
+    while (p < PLACES && taken >> p & 1) p++;
+    if (p == PLACES) return *saying(&a, 5, words_len < PLACES * WORDS ? 2 : 16, 0);
+    uint32_t code = p < codes_len ? codes[p] : 6, len = p < lengths_len ? lengths[p] : 0;
+    if (code > 5) return *saying(&a, 5, 1, 0);
+    if (words_len < PLACES * WORDS) return *saying(&a, 5, 2, 0);
+    if (state.given > 65535 || len > SHEET) {
+        clear_free(taken, words);
+        return *saying(&a, 5, state.given > 65535 ? 16 : 3, 0);
+    }
+    size_t from = p * SHEET < sheets_len ? p * SHEET : sheets_len, most = sheets_len - from;
+    take_in(&a, p, code, taken, sheets + from, len < most ? len : most, words);
+    return a;
+}
+
+/* the lowest event that races with message t / 2, in the half of its row that turn t looks at */
+static void look(dispatcher_race *race, const uint64_t *words, const uint8_t *boards, size_t count, enum rule rule, size_t t) {
+    size_t e = t / 2, send = 2 * e, receive = send + 1, from = t % 2 ? W / 2 : 0, to = t % 2 ? W : W / 2;
+    if (race->found || rule == NEVER || e >= count) return;
+    for (size_t i = from; i < to; i++) {
+        uint64_t reached = words[send * W + i];
+        if (i == send / 64) reached |= UINT64_C(1) << (send % 64);
+        uint64_t outside = ~reached;
+        if (rule == BY_ORIGIN) {
+            outside &= sends;
+            outside |= outside << 1;
+        }
+        for (uint64_t bits = words[receive * W + i] & outside; bits; bits &= bits - 1) {
+            size_t x = 64 * i + (size_t)__builtin_ctzll(bits);
+            if (x < 2 * count && boards[x] == boards[receive]) {
+                *race = (dispatcher_race){1, (uint32_t)e, (uint32_t)x};
+                return;
+            }
+        }
+    }
+}
+
+/* the check's answer of a job, from the race that its turns found */
+static channel_check_answer conclude(const dispatcher_race *race, uint64_t *words, const uint8_t *boards, const dispatcher_job *j, uint8_t *trace) {
+    walk w;
+    if (!race->found || race->message >= j->count) return (channel_check_answer){0, 0, 0, 0};
+    w.words = words;
+    w.count = j->count;
+    memcpy(w.boards, boards, sizeof w.boards);
+    for (size_t x = 0; x < 2 * w.count; x++)
+        if (boards[x] >= BOARDS) return (channel_check_answer){0, 0, 0, 0};
+    size_t steps = schedule(&w, channels[j->code], race->message, trace);
+    return (channel_check_answer){1, race->message, race->event, (uint32_t)steps};
+}
+
+dispatcher_answer careful_dispatcher_turn(dispatcher state, const uint8_t *sheets, size_t sheets_len, const uint32_t *lengths,
+                                          size_t lengths_len, const uint32_t *codes, size_t codes_len, uint64_t *words, size_t words_len,
+                                          uint8_t *trace, size_t trace_len) {
+    (void)sheets, (void)sheets_len, (void)lengths, (void)lengths_len, (void)codes, (void)codes_len;
+    dispatcher_answer a = {0, 0, 0, {0, 0, 0, 0}, state};
+    dispatcher *d = &a.next;
+    if (words_len < PLACES * WORDS || trace_len < 768) return *saying(&a, 5, 2, 0);
+    unsigned taken = places_of(&d->queue);
+    if (d->queue.held == 0) {
+        clear_free(taken, words);
+        return *saying(&a, 1, 0, 0);
+    }
+    dispatcher_job j = d->queue.jobs[0];
+    uint64_t *own = words + j.place * WORDS;
+    for (size_t i = 1; i < d->queue.held; i++) d->queue.jobs[i - 1] = d->queue.jobs[i];
+    if (j.turns == 2u * j.count) {
+        a.answer = conclude(&d->races[j.place], own, d->boards[j.place].on, &j, trace);
+        d->queue.held--;
+        clear_free(taken & ~(1u << j.place), words);
+        return *saying(&a, 3, j.number, 0);
+    }
+    look(&d->races[j.place], own, d->boards[j.place].on, j.count, rules[j.code % 6], j.turns);
+    j.turns++;
+    d->queue.jobs[d->queue.held - 1] = j;
+    clear_free(taken, words);
+    return *saying(&a, 2, j.number, 0);
+}

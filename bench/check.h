@@ -15,4 +15,10 @@ monitor_answer careful_monitor_switch(monitor state, uint32_t code, const uint8_
                                       size_t scratch_len);
 cure_sheet_answer careful_cure_sheet(const uint8_t *text, size_t text_len, uint64_t *scratch, size_t scratch_len, uint8_t *output,
                                      size_t output_len);
+dispatcher careful_dispatcher_empty(void);
+dispatcher_answer careful_dispatcher_admit(dispatcher state, const uint8_t *sheets, size_t sheets_len, const uint32_t *lengths,
+                                           size_t lengths_len, const uint32_t *codes, size_t codes_len, uint64_t *words, size_t words_len);
+dispatcher_answer careful_dispatcher_turn(dispatcher state, const uint8_t *sheets, size_t sheets_len, const uint32_t *lengths,
+                                          size_t lengths_len, const uint32_t *codes, size_t codes_len, uint64_t *words, size_t words_len,
+                                          uint8_t *trace, size_t trace_len);
 #endif

@@ -160,6 +160,77 @@ typedef struct {
  */
 cure_sheet_answer cure_sheet(const uint8_t *text, size_t text_len, uint64_t *scratch, size_t scratch_len, uint8_t *output, size_t output_len);
 
+/* A dispatcher of up to eight jobs, each an accepted sheet on a channel, which a turn at a time takes to the check's answer. It is a value,
+ * handed in and handed back: the jobs in the order of their turns, the head first; how many numbers were given out; and of each place
+ * what the race search of its job has found, and the board of each of its events. The causal order of a job is in the words of its place. */
+#define DISPATCHER_PLACES 8
+#define DISPATCHER_SHEET_BYTES 8192                                             /* of each place */
+#define DISPATCHER_WORDS (DISPATCHER_PLACES * CHANNEL_CHECK_SCRATCH_WORDS)      /* of all places */
+#define DISPATCHER_EVENTS 256
+typedef struct {
+    uint32_t number, turns;
+    uint16_t count;
+    uint8_t place, code;
+} dispatcher_job;
+typedef struct {
+    dispatcher_job jobs[DISPATCHER_PLACES];
+    uint32_t held;
+} dispatcher_queue;
+typedef struct {
+    uint32_t found, message, event;
+} dispatcher_race;
+typedef struct {
+    uint8_t on[DISPATCHER_EVENTS];
+} dispatcher_boards;
+typedef struct {
+    dispatcher_queue queue;
+    uint32_t given;
+    dispatcher_race races[DISPATCHER_PLACES];
+    dispatcher_boards boards[DISPATCHER_PLACES];
+} dispatcher;
+
+/* word: 0 admitted: one is the job's number, two its place; 1 idle: no job is held; 2 a turn of job one, which is unanswered; 3 job one
+ * answered, and `answer` is what channel_check answers; 4 job one cancelled; 5 refused: one is the refusal's number, two its line.
+ * `answer` is zero but on 3. next is the dispatcher to go on with: an idle turn and a refusal hand back the one that was handed in, bit for bit. */
+typedef struct {
+    uint32_t word, one, two;
+    channel_check_answer answer;
+    dispatcher next;
+} dispatcher_answer;
+
+/* Every call is lent, of all places:
+ *
+ * sheets, sheets_len    8,192 bytes a place, of which the first lengths[p] are the sheet of place p; bytes that are not lent are not there.
+ * lengths, codes        a sheet's length and a channel code a place; one that is not lent counts as 0 bytes, and as code 6.
+ * words, words_len      1,024 words a place. A held job's words are written by its admission alone; those of free places are zero behind
+ *                       every call but refusals 1 and 2, whatever they held, and those behind the 8,192 are unchanged.
+ * trace, trace_len      to a turn: as channel_check's. It changes only where the answer is locked, in the bytes of the steps.
+ *
+ * dispatcher_admit    the sheet and the code lent in the lowest free place are a new job, which goes behind the last. Its number is 0 first, and
+ *                     then one more each time, up to 65,535. Refusals: 1; 2, under 8,192 words; 16, eight jobs held or all numbers given out;
+ *                     3, also a length over 8,192, and so on as channel_check's. With no place free: 2, then 16. A refused admission
+ *                     gives out no number.
+ * dispatcher_turn     takes the head of the queue. A job of n messages is answered on its own turn number 2n + 1 and leaves; ahead of that it
+ *                     goes behind the last. Refusal 2, also with no job held: under 8,192 words, or a trace under 768 bytes.
+ * dispatcher_cancel   the job with the number leaves; the others stay in their order. Refusals: 2, under 8,192 words; 17, the number is not held.
+ *
+ * An admission reads the sheet once. A turn and a cancellation read no sheets, lengths and codes: a job's answer cannot depend on another's text,
+ * nor on its own changed since. A turn that is not a job's last looks at half a row of the causal order of one message. A call needs less
+ * than 20 KiB of stack, with the dispatchers that are handed in and back (18,824 bytes measured).
+ *
+ * Proved over every list of calls from dispatcher_empty, each taking the dispatcher that the last call left: the queue, the places, the numbers
+ * and the answers are as said; a job not cancelled is answered within 2,056 unrefused turns of its admission; and, while every call is lent
+ * its words as the last call left them, its answer is exactly channel_check's for the sheet and the code that it was admitted with: the word,
+ * the three numbers and the bytes of the trace. Of any other dispatcher or words the refusals, what is unchanged and what is zero are proved.
+ */
+dispatcher dispatcher_empty(void);
+dispatcher_answer dispatcher_admit(dispatcher state, const uint8_t *sheets, size_t sheets_len, const uint32_t *lengths, size_t lengths_len,
+                                   const uint32_t *codes, size_t codes_len, uint64_t *words, size_t words_len);
+dispatcher_answer dispatcher_turn(dispatcher state, const uint8_t *sheets, size_t sheets_len, const uint32_t *lengths, size_t lengths_len,
+                                  const uint32_t *codes, size_t codes_len, uint64_t *words, size_t words_len, uint8_t *trace, size_t trace_len);
+dispatcher_answer dispatcher_cancel(dispatcher state, uint32_t number, const uint8_t *sheets, size_t sheets_len, const uint32_t *lengths,
+                                    size_t lengths_len, const uint32_t *codes, size_t codes_len, uint64_t *words, size_t words_len);
+
 #ifdef __cplusplus
 }
 #endif

@@ -6,6 +6,8 @@
 mod choices;
 #[path = "cures.rs"]
 mod cures;
+#[path = "dispatchers.rs"]
+mod dispatchers;
 #[path = "monitors.rs"]
 mod monitors;
 #[path = "reference.rs"]
@@ -185,6 +187,7 @@ struct Seen {
     monitors: monitors::Seen,
     cures: cures::Seen,
     wired: wired::Seen,
+    dispatchers: dispatchers::Seen,
 }
 
 impl Seen {
@@ -202,6 +205,7 @@ impl Seen {
         self.monitors.add(&o.monitors);
         self.cures.add(&o.cures);
         self.wired.add(&o.wired);
+        self.dispatchers.add(&o.dispatchers);
     }
 
     fn limits_of(&mut self, s: &Scenario) {
@@ -219,6 +223,7 @@ impl Seen {
         self.monitors.print();
         self.cures.print();
         self.wired.print();
+        self.dispatchers.print();
         println!("traces replayed {}, free orders taken {}, sheets searched whole {}", self.replayed, self.wandered, self.searched);
     }
 
@@ -226,7 +231,7 @@ impl Seen {
         let eager = [0, 2, 4, 5].iter().all(|c| self.locked[*c] > 0);
         let some = |all: &[u64]| all.iter().all(|n| *n > 0);
         let judged = self.replayed * self.wandered * self.searched > 0;
-        let calls = self.traces.whole() && self.choices.whole() && self.monitors.whole() && self.cures.whole() && self.wired.whole();
+        let calls = self.traces.whole() && self.choices.whole() && self.monitors.whole() && self.cures.whole() && self.wired.whole() && self.dispatchers.whole();
         eager && some(&self.free) && some(&self.refused[1..]) && some(&self.limits) && judged && calls
     }
 }
@@ -290,6 +295,9 @@ fn try_text(r: &mut Random, seen: &mut Seen) {
     if r.one_in(8) {
         wired::try_wired(r, &mut seen.wired, &text, sheet.as_ref().ok());
     }
+    if r.one_in(64) {
+        dispatchers::try_dispatcher(r, &mut seen.dispatchers);
+    }
 }
 
 fn main() {
@@ -312,6 +320,7 @@ fn main() {
         }
     };
     let mut seen = Seen::default();
+    dispatchers::try_limits(&mut seen.dispatchers);
     std::thread::scope(|all| {
         let started: Vec<_> = (0..threads).map(|_| all.spawn(work)).collect();
         started.into_iter().for_each(|t| seen.add(&t.join().expect("a thread of the test failed")));

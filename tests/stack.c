@@ -1,5 +1,6 @@
 /* The deepest stack of a call: a thread's stack is painted, the check is called on sheets that go deepest, and what was
- * painted over is counted. usage: stack MOST; it fails where a call takes more than MOST bytes. */
+ * painted over is counted. usage: stack MOST COUNTER; it fails where a call takes more than MOST bytes, or one of the dispatcher, with its
+ * caller's frame, more than COUNTER. */
 #define _GNU_SOURCE
 #include "../include/channel_check.h"
 #include <pthread.h>
@@ -15,6 +16,9 @@ static uint64_t scratch[CHANNEL_CHECK_SCRATCH_WORDS];
 static uint8_t trace[CHANNEL_CHECK_TRACE_BYTES], output[CURE_SHEET_OUTPUT_BYTES];
 static uint32_t code;
 static channel_check_answer answer;
+static uint8_t sheets[DISPATCHER_PLACES * DISPATCHER_SHEET_BYTES];
+static uint64_t words[DISPATCHER_WORDS];
+static dispatcher_answer told;
 static uint8_t *top; /* where the caller's frame stands */
 
 static void *run(void *unused) {
@@ -29,8 +33,18 @@ static void *run(void *unused) {
     return unused;
 }
 
+/* a job of the text alone, up to its last turn; its answer is the check's */
+static void *serve(void *unused) {
+    const uint32_t size = (uint32_t)len;
+    top = __builtin_frame_address(0);
+    told = dispatcher_admit(dispatcher_empty(), sheets, sizeof sheets, &size, 1, &code, 1, words, DISPATCHER_WORDS);
+    while (told.word == 0 || told.word == 2) told = dispatcher_turn(told.next, sheets, sizeof sheets, &size, 1, &code, 1, words, DISPATCHER_WORDS, trace, CHANNEL_CHECK_TRACE_BYTES);
+    dispatcher_cancel(told.next, 0, sheets, sizeof sheets, &size, 1, &code, 1, words, DISPATCHER_WORDS);
+    return unused;
+}
+
 /* bytes of a painted stack that a call used, with its caller's frame */
-static size_t used(void) {
+static size_t used(void *(*run)(void *)) {
     static uint8_t *stack;
     pthread_attr_t a;
     pthread_t t;
@@ -75,30 +89,36 @@ static void messages(int refused) {
     line("P", 253, 255);
 }
 
-static size_t deepest;
+static size_t deepest, counter; /* of the calls on one sheet, and of the dispatcher's */
 
 /* all six channels; the answers are looked at, so that what was measured is the path that was meant */
 static void measure(void (*make)(int), int refused) {
     len = (size_t)sprintf(text, "kind one two\n");
     make(refused);
+    memcpy(sheets, text, len < DISPATCHER_SHEET_BYTES ? len : DISPATCHER_SHEET_BYTES);
     for (code = 0; code < 6; code++) {
-        size_t n = used();
+        size_t n = used(run), m = used(serve);
         uint32_t word = refused ? 2 : code != 1 && code != 3;
         if (answer.word != word) {
             printf("FAILED: stack, code %u: word %u, expected %u\n", code, answer.word, word);
             exit(1);
         }
+        if (refused ? told.word != 5 : told.word != 3 || memcmp(&told.answer, &answer, sizeof answer)) {
+            printf("FAILED: stack, code %u: the dispatcher said %u\n", code, told.word);
+            exit(1);
+        }
         if (n > deepest) deepest = n;
+        if (m > counter) counter = m;
     }
 }
 
 int main(int argc, char **argv) {
-    size_t most = argc > 1 ? (size_t)atol(argv[1]) : 32768;
+    size_t most = argc > 1 ? (size_t)atol(argv[1]) : 32768, counters = argc > 2 ? (size_t)atol(argv[2]) : 32768;
     for (int refused = 0; refused < 2; refused++) {
         measure(levels, refused);
         measure(messages, refused);
     }
     measure(choosing, 1);
-    printf("stack: %zu bytes at the deepest, %zu allowed\n", deepest, most);
-    return deepest > most;
+    printf("stack: %zu bytes at the deepest, %zu allowed; %zu in the dispatcher, %zu allowed\n", deepest, most, counter, counters);
+    return deepest > most || counter > counters;
 }

@@ -1,11 +1,16 @@
 // The channel check for C: each exported call is a few lines over its crate, and promises the whole of it.
 ghost use mathlib.Core.Path.{_≡_};
+ghost use mathlib.Core.List.{[]};
 ghost use Rattle.model.specs.Verdict.{Checked};
 ghost use Rattle.model.specs.Choice.{ChoiceChecked};
 ghost use Rattle.model.specs.Waits.{TraceChecked};
 ghost use Rattle.model.specs.Monitor.{Opened, Stepped, Switched, WholeLists};
 ghost use Rattle.model.specs.Cure.{CureChecked};
+ghost use Rattle.model.specs.Dispatcher as desks;
+ghost use Rattle.model.specs.Dispatcher.{admit, turn, cancel, Serves};
 ghost use Rattle.choice.specs.Bridge as chosen;
+ghost use Rattle.dispatcher.specs.Bridge as desk;
+ghost use Rattle.dispatcher.specs.Bridge.{deskIn, Holds, emptied, lent};
 ghost use Rattle.monitor.specs.Bridge.{heldIn, zeros, answerIn};
 ghost use Rattle.replay.specs.Bridge as replayed;
 ghost use Rattle.verdict.specs.Parts.{numbersFor};
@@ -13,6 +18,8 @@ ghost use Rattle.channel_check.specs.Numbers.{Small, numbersIn};
 ghost use Rattle.channel_check.specs.Cures as cured;
 pub use crate::cures::CureSheetAnswer;
 use choice::ChoiceCheckAnswer;
+use dispatcher::Dispatcher;
+use dispatcher::DispatcherAnswer;
 use monitor::Monitor;
 use monitor::MonitorAnswer;
 use replay::TraceCheckAnswer;
@@ -140,4 +147,56 @@ pub extern "C" fn cure_sheet(text: &[u8], scratch: &mut [u64], output: &mut [u8]
     ensures { λ r. ⌜ CureChecked (now (text .entry)) (now (scratch .entry)) (now (scratch .exit)) (now (output .entry)) (now (output .exit)) (cured.numbersIn r) ⌝ }
 {
     cures::told(cure::cure(text, scratch, output))
+}
+
+// A dispatcher that holds no job.
+#[no_mangle]
+pub extern "C" fn dispatcher_empty() -> Dispatcher
+    ensures { λ r. ⌜ r ≡ emptied ⌝ }
+{
+    Dispatcher::empty()
+}
+
+// A job is admitted: any dispatcher, any sheets, lengths, codes and words.
+#[no_mangle]
+pub extern "C" fn dispatcher_admit(
+    state: Dispatcher,
+    sheets: &[u8],
+    lengths: &[u32],
+    codes: &[u32],
+    words: &mut [u64],
+) -> DispatcherAnswer
+    ensures { λ r. ⌜ Serves deskIn Holds state (admit (lent (now (sheets .entry)) (now (lengths .entry)) (now (codes .entry)) (now (words .entry)))) (now (words .exit)) [] (desk.answerIn r) × desks.WholeLists deskIn Holds emptied ⌝ }
+{
+    state.admit(sheets, lengths, codes, words)
+}
+
+// A turn of the head of the queue: any dispatcher, any sheets, lengths, codes, words and trace. Sheets, lengths and codes are not read.
+#[no_mangle]
+pub extern "C" fn dispatcher_turn(
+    state: Dispatcher,
+    sheets: &[u8],
+    lengths: &[u32],
+    codes: &[u32],
+    words: &mut [u64],
+    trace: &mut [u8],
+) -> DispatcherAnswer
+    ensures { λ r. ⌜ Serves deskIn Holds state (turn (lent (now (sheets .entry)) (now (lengths .entry)) (now (codes .entry)) (now (words .entry))) (now (trace .entry))) (now (words .exit)) (now (trace .exit)) (desk.answerIn r) × desks.WholeLists deskIn Holds emptied ⌝ }
+{
+    state.turn(words, trace)
+}
+
+// The job with the number leaves: any dispatcher, any number, any sheets, lengths, codes and words. Sheets, lengths and codes are not read.
+#[no_mangle]
+pub extern "C" fn dispatcher_cancel(
+    state: Dispatcher,
+    number: u32,
+    sheets: &[u8],
+    lengths: &[u32],
+    codes: &[u32],
+    words: &mut [u64],
+) -> DispatcherAnswer
+    ensures { λ r. ⌜ Serves deskIn Holds state (cancel number (lent (now (sheets .entry)) (now (lengths .entry)) (now (codes .entry)) (now (words .entry)))) (now (words .exit)) [] (desk.answerIn r) × desks.WholeLists deskIn Holds emptied ⌝ }
+{
+    state.cancel(number, words)
 }

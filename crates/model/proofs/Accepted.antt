@@ -7,7 +7,7 @@ use mathlib.Core.Bool.{Bool, true, false, _||_}
 use mathlib.Core.List.{List, []}
 use lib.Dec.{ltb}
 use lib.ListN.{getD}
-use borrow.Author.Tests.{ltb-true, ltb-false}
+use borrow.Author.Tests.{ltb-true, ltb-false, lt-ltb, le-ltb}
 use Rattle.model.specs.Limits.{boards, messagesMost, channels, scratchLeast, traceLeast}
 use Rattle.model.specs.Refusal.{ok, andThen}
 use Rattle.model.specs.Rows.{Row}
@@ -76,6 +76,14 @@ accepted-parts text code scratchLength traceLength S e =
       traceEnough = ltb-false traceLength traceLeast (lengths .1);
       sheet = b .1;
     }
+
+pub accepted-from : (text : List ℕ) (code scratchLength traceLength : ℕ) (S : Scenario)
+    → Accepted text code scratchLength traceLength S
+    → acceptedOf text code scratchLength traceLength ≡ ok S
+unfolding acceptedOf
+accepted-from text code scratchLength traceLength S a =
+    rw (lt-ltb code channels (a .codeKnown), le-ltb scratchLength scratchLeast (a .scratchEnough), le-ltb traceLength traceLeast (a .traceEnough))
+    (a .sheet)
 
 -- an event's board stands at its number
 pub board-at : (s : Progress Met) (x : Event) → boardIn (exchangeOf s) x ≡ getD (s .kept .events) (number x) 0

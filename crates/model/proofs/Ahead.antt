@@ -31,7 +31,7 @@ pub among-cases : (x k : ℕ) (l : List ℕ) → among x (k ∷ l) ≡ true → 
 unfolding among
 among-cases x k l h = ⊎-elim (λ e. inl (eqb-true x k e)) inr (or-cases (eqb x k) (among x l) h)
 
-among-not : (x k : ℕ) (l : List ℕ) → (x ≡ k → ⊥) → among x l ≡ false → among x (k ∷ l) ≡ false
+pub among-not : (x k : ℕ) (l : List ℕ) → (x ≡ k → ⊥) → among x l ≡ false → among x (k ∷ l) ≡ false
 unfolding among
 among-not x k l n h = rw (ne-eqb x k n) h
 
@@ -39,7 +39,7 @@ pub among-here : (x : ℕ) (l : List ℕ) → among x (x ∷ l) ≡ true
 unfolding among
 among-here x l = rw (eq-eqb x x refl)
 
-among-there : (x k : ℕ) (l : List ℕ) → among x l ≡ true → among x (k ∷ l) ≡ true
+pub among-there : (x k : ℕ) (l : List ℕ) → among x l ≡ true → among x (k ∷ l) ≡ true
 unfolding among
 among-there x k l h = or-right (eqb x k) (among x l) h
 
@@ -118,11 +118,11 @@ once-parts n k l h =
       rest = and-right (ltb k n && not (among k l)) (eachOnce n l) h;
     }
 
-once-make : (n k : ℕ) (l : List ℕ) → Once n k l → eachOnce n (k ∷ l) ≡ true
+pub once-make : (n k : ℕ) (l : List ℕ) → Once n k l → eachOnce n (k ∷ l) ≡ true
 unfolding eachOnce
 once-make n k l o = rw (lt-ltb k n (o .below), o .fresh, o .rest)
 
-once-below : (n : ℕ) (l : List ℕ) (x : ℕ) → eachOnce n l ≡ true → among x l ≡ true → x < n
+pub once-below : (n : ℕ) (l : List ℕ) (x : ℕ) → eachOnce n l ≡ true → among x l ≡ true → x < n
 unfolding among
 once-below n [] x h m = not-both false m refl
 once-below n (k ∷ l) x h m =

@@ -5,7 +5,7 @@ use native.Mathlib.Nat.{not-suc-le-zero, le-of-suc-le-suc, eq-or-lt-of-le}
 use mathlib.Core.Path.{_≡_, refl, sym, _∙_, ap, subst}
 use mathlib.Core.Logic.{_⊎_, inl, inr, ⊎-elim}
 use mathlib.Core.Bool.{Bool, true, false, _&&_, _||_}
-use mathlib.Core.List.{List, []}
+use mathlib.Core.List.{List, [], _∷_}
 use lib.Dec.{ltb}
 use lib.ListN.{length, getD, List·getD-eq-default}
 use borrow.Author.Tests.{ltb-true, ltb-false}
@@ -26,6 +26,11 @@ cells-at (suc n) f (suc k) d h = cells-at n (λ j. f (suc j)) k d (le-of-suc-le-
 
 pub cells-past : {A : Type 0} (n : ℕ) (f : ℕ → A) (k : ℕ) (d : A) → n ≤ k → getD (cells n f) k d ≡ d
 cells-past n f k d h = List·getD-eq-default (cells n f) d (rw cells-length h)
+
+pub cells-same : {A : Type 0} (n : ℕ) (f g : ℕ → A) → ((k : ℕ) → f k ≡ g k) → cells n f ≡ cells n g
+unfolding cells
+cells-same zero f g h = refl
+cells-same (suc n) f g h = rw (h 0) (ap (λ l. g 0 ∷ l) (cells-same n (λ k. f (suc k)) (λ k. g (suc k)) (λ k. h (suc k))))
 
 -- the rows of a table
 abbrev rowIn : ℕ → (ℕ → ℕ → Bool) → ℕ → List Bool

@@ -50,3 +50,9 @@ pub mod Taps
 pub mod MessageLines
 pub mod Senders
 pub mod Permitted
+pub mod CallCases
+pub mod Queue
+pub mod Jobs
+pub mod Calls
+pub mod Turns
+pub mod Dispatcher

@@ -19,6 +19,7 @@ pub mod Waits
 pub mod Monitor
 pub mod Wired
 pub mod Cure
+pub mod Dispatcher
 pub mod Taps
 pub mod Senders
 pub mod Choice

@@ -1,6 +1,6 @@
 -- The limits of the paper, each once ("The sheet file", "Expansion", "Refusal table").
 -- Assumes nothing.
-use Prim.Native.Nat.{ℕ, _*_}
+use Prim.Native.Nat.{ℕ, _+_, _*_}
 
 -- The sheet file: at most 8,192 bytes and 512 rows; numbers 0 to 255; sheets 0 to 31; boards 0 to 15.
 abbrev pub textMost : ℕ
@@ -73,3 +73,18 @@ pairs = boards * boards
 -- a verdict is 1, permitted, or 0
 abbrev pub verdictMost : ℕ
 verdictMost = 1
+
+-- The dispatcher: at most eight jobs, each with a place of its own, and 65,536 numbers for them.
+abbrev pub jobsMost : ℕ
+jobsMost = 8
+
+abbrev pub jobNumbers : ℕ
+jobNumbers = 65536
+
+-- its words: 1,024 a place
+abbrev pub jobWordsLeast : ℕ
+jobWordsLeast = jobsMost * scratchLeast
+
+-- a job of n messages is answered on its turn 2n + 1, so within 2,056 turns of all jobs
+abbrev pub turnsMost : ℕ
+turnsMost = jobsMost * (2 * messagesMost + 1)

@@ -60,6 +60,13 @@ switchRefusal = 14
 abbrev pub curedRowsRefusal : ℕ
 curedRowsRefusal = 15
 
+-- request (k): an admission with eight jobs held or all numbers given out; cancelling a number that is not held
+abbrev pub jobsRefusal : ℕ
+jobsRefusal = 16
+
+abbrev pub heldRefusal : ℕ
+heldRefusal = 17
+
 -- an event that the sheet has not, or twice in one list of a tap
 abbrev pub tapRefusal : ℕ
 tapRefusal = 20

@@ -48,6 +48,13 @@ pub const SET_MOST: usize = 65535;
 
 pub const VERDICT_MOST: usize = 1;
 
+// The dispatcher: jobs, their numbers, and the words of all places.
+pub const JOBS_MOST: usize = 8;
+
+pub const JOB_NUMBERS: usize = 65536;
+
+pub const JOB_WORDS_LEAST: usize = JOBS_MOST * SCRATCH_LEAST;
+
 // What stands for a board that waits for no event (specs/Waits).
 pub const NO_WAIT: u16 = 65535;
 
@@ -81,6 +88,10 @@ pub const CHOICES: u8 = 13;
 pub const SWITCH: u8 = 14;
 
 pub const CURED_ROWS: u8 = 15;
+
+pub const JOBS: u8 = 16;
+
+pub const HELD: u8 = 17;
 
 pub const TAP: u8 = 20;
 

@@ -106,9 +106,8 @@ pub receive-below : {count e b : ℕ} {boards words masks : List ℕ} → Standi
     → b < limits.boards
 receive-below {e = e} s l i = rw i (s .boardsBelow (2 * e + 1) (omega arith))
 
--- the races of e in word w
-module _ (count : ℕ) (boards words masks : List ℕ) (S : Standing count boards words masks) (r : RaceRule) (e : ℕ) (l : e < count) where
-  -- what escapes e's send is what stands outside
+-- what escapes e's send is what stands outside; and so a race is said by words
+module _ (count : ℕ) (boards words : List ℕ) (r : RaceRule) (e : ℕ) (l : e < count) where
   outside-escapes : (x : ℕ) → x < 2 * count → escapes (scenarioIn count boards words) r e (event x) ≡ isOutside words r e x
   unfolding escapes
   outside-escapes x h = go r
@@ -119,6 +118,12 @@ module _ (count : ℕ) (boards words masks : List ℕ) (S : Standing count board
           by-origin count boards words e x ∙ ap not (at-or-before-at count boards words (x - x % 2) (2 * e) (omega arith) (omega arith))
       go never = refl
 
+  pub race-outside : (x : ℕ) → x < 2 * count → isRace (scenarioIn count boards words) r e (event x)
+      ≡ (eqb (getD boards x 0) (getD boards (2 * e + 1) 0) && holds width words (2 * e + 1) x && isOutside words r e x)
+  race-outside x h = race-at count boards words r e x l h ∙ rw (outside-escapes x h)
+
+-- the races of e in word w
+module _ (count : ℕ) (boards words masks : List ℕ) (S : Standing count boards words masks) (r : RaceRule) (e : ℕ) (l : e < count) where
   pub races-in-word : (w board outside : ℕ) → OutsideWord words r e w outside → board ≡ getD boards (2 * e + 1) 0 → w < width
       → RaceWord count boards words r e w (bitAnd (bitAnd (getD words ((2 * e + 1) * width + w) 0) (getD masks (board * width + w) 0)) outside)
   races-in-word w board outside out at hw b h =
@@ -141,7 +146,7 @@ module _ (count : ℕ) (boards words masks : List ℕ) (S : Standing count board
       go (yes k) =
           rw (lt-ltb (eventAt w b) (2 * count) k)
           (turns (holds width words (2 * e + 1) (eventAt w b)) (eqb (getD boards (eventAt w b) 0) (getD boards (2 * e + 1) 0)) (isOutside words r e (eventAt w b))
-          ∙ sym (race-at count boards words r e (eventAt w b) l k ∙ rw (outside-escapes (eventAt w b) k)))
+          ∙ sym (race-outside count boards words r e l (eventAt w b) k))
       go (no g) =
           rw (le-ltb (eventAt w b) (2 * count) (omega arith), and-false (holds width words (2 * e + 1) (eventAt w b)))
 

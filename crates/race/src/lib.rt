@@ -65,7 +65,7 @@ fn reached_word(words: &[u64], e: usize, w: usize) -> u64
 }
 
 // Word w of the events that the rule does not find at or before e's send. By origin a receive is outside with its send.
-fn outside_word(words: &[u64], rule: Rule, e: usize, w: usize) -> u64
+pub fn outside_word(words: &[u64], rule: Rule, e: usize, w: usize) -> u64
     requires { ⌜ 2 * e * width + width ≤ length (now words) ⌝ }
     requires { ⌜ (2 * e < wordBits * width) × (w < width) ⌝ }
     ensures { λ r. ⌜ OutsideWord (now (words .entry)) (ruleIn rule) e w r ⌝ }

@@ -23,6 +23,11 @@ use Rattle.verdict.specs.declared.Answer.{Answer}
 use Rattle.verdict.specs.declared.Answer.the-variants.{Free, Locked, Refused}
 use Rattle.verdict.specs.Parts.{IsRace, Decides}
 
+-- the schedule on the channel of a code
+pub on-channel : (S : Scenario) (code e steps : ℕ) (trace behind : List ℕ) (c : model.Channel) → c ≡ model.channelOf code → Scheduled S c e trace behind steps
+    → Scheduled S (model.channelOf code) e trace behind steps
+on-channel S code e steps trace behind c i s = subst (λ (k : model.Channel). Scheduled S k e trace behind steps) i s
+
 module _ (S : Scenario) (code : ℕ) where
   verdict-locked : (e x : ℕ) → IsRace S code e x → verdictOf S code ≡ locked e x (schedule S (model.channelOf code) e)
   unfolding verdictOf
@@ -41,11 +46,10 @@ module _ (S : Scenario) (code : ℕ) where
 
   module _ (trace : List ℕ) where
     -- the race named, and its schedule written: locked
-    pub locks : (e x steps : ℕ) (behind : List ℕ) (c : model.Channel) → IsRace S code e x → c ≡ model.channelOf code
-        → Scheduled S c e trace behind steps → Decides (ok S) code trace behind (Locked e x steps)
+    pub locks : (e x steps : ℕ) (behind : List ℕ) → IsRace S code e x → Scheduled S (model.channelOf code) e trace behind steps
+        → Decides (ok S) code trace behind (Locked e x steps)
     unfolding answerFor traceAfter
-    locks e x steps behind c h i s =
-        let t = subst (λ (k : model.Channel). Scheduled S k e trace behind steps) i s in
+    locks e x steps behind h t =
         let v = sym (verdict-locked e x h) in
         record {
           answer = ap (λ n. record { word = lockedWord; one = e; two = x; three = n }) (t .count) ∙ ap numbersOf v;

@@ -5,10 +5,12 @@ ghost use lib.ListN.{length};
 ghost use Rattle.model.specs.Limits.{channels, messagesMost, traceLeast};
 ghost use Rattle.model.specs.Answer.{sheetOf};
 ghost use Rattle.model.specs.Refusal.{ok};
+ghost use Rattle.model.specs.Channel.{channelOf};
 ghost use Rattle.model.specs.Verdict.{Checked};
 ghost use Rattle.relation.specs.Width.{width};
 ghost use Rattle.relation.specs.Scenario.{scenarioIn};
 ghost use Rattle.scenario.specs.Contract.{Fit};
+ghost use Rattle.schedule.specs.Schedule.{Scheduled};
 ghost use Rattle.verdict.specs.Parts.{numbersFor, Decides, IsRace};
 use expansion::Expanded;
 use race::Lowest;
@@ -18,6 +20,26 @@ pub enum Answer {
     Free,
     Locked(usize, usize, usize),
     Refused(u8, usize),
+}
+
+// The schedule for message e on a channel goes into the trace: the number of its steps.
+pub fn withhold(
+    words: &[u64],
+    boards: &[u8],
+    count: usize,
+    code: usize,
+    e: usize,
+    trace: &mut [u8],
+) -> usize
+    requires { ⌜ Fit count (now boards) (now words) ⌝ }
+    requires { ⌜ (code < channels) × (traceLeast ≤ length (now trace)) ⌝ }
+    requires { ⌜ e < count ⌝ }
+    ensures { λ r. ⌜ Scheduled (scenarioIn count (now (boards .entry)) (now (words .entry))) (channelOf code) e (now (trace .entry)) (now (trace .exit)) r ⌝ }
+{
+    let mut masks = [0u64; board::MASK_WORDS];
+    board::board_masks(boards, count, &mut masks);
+    let c = channel_table::channel_of(code);
+    schedule::schedule(words, &masks, boards, count, c, e, trace)
 }
 
 // The race (e, x) is named: the schedule for e goes into the trace.
@@ -35,10 +57,7 @@ fn lock(
     requires { ⌜ IsRace (scenarioIn count (now boards) (now words)) code e x ⌝ }
     ensures { λ r. ⌜ Decides (ok (scenarioIn count (now (boards .entry)) (now (words .entry)))) code (now (trace .entry)) (now (trace .exit)) r ⌝ }
 {
-    let mut masks = [0u64; board::MASK_WORDS];
-    board::board_masks(boards, count, &mut masks);
-    let c = channel_table::channel_of(code);
-    let steps = schedule::schedule(words, &masks, boards, count, c, e, trace);
+    let steps = withhold(words, boards, count, code, e, trace);
     Answer::Locked(e, x, steps)
 }
 

@@ -1,0 +1,94 @@
+-- `Dispatcher::answer` meets its contract. Assumes nothing.
+use mathlib.Core.Path.{refl}
+use Rattle.dispatcher.proofs.Room.{races-room, boards-room}
+use Rattle.dispatcher.proofs.Replies.{answer-serves}
+use borrow.Author.Needs.{needs}
+use Rattle.dispatcher.proofs.Dispatcher.answer.Statement.{statement}
+use Rattle.dispatcher.proofs.Dispatcher.answer.Tie as tie
+
+cast-place : tie.Need-cast-place
+cast-place c = search needs
+
+mul-from : tie.Need-mul-from
+mul-from c = search needs
+
+add-to : tie.Need-add-to
+add-to c = search needs
+
+mul-boards : tie.Need-mul-boards
+mul-boards c = search needs
+
+element-copy-out-boards : tie.Need-element-copy-out-boards
+element-copy-out-boards c = search needs
+
+mul-race : tie.Need-mul-race
+mul-race c = search needs
+
+element-copy-out-race : tie.Need-element-copy-out-race
+element-copy-out-race c = search needs
+
+mul-conclude : tie.Need-mul-conclude
+mul-conclude c = search needs
+
+sub-conclude : tie.Need-sub-conclude
+sub-conclude c = search needs
+
+part-conclude-start : tie.Need-part-conclude-start
+part-conclude-start c = search needs
+
+part-conclude-end : tie.Need-part-conclude-end
+part-conclude-end c = search needs
+
+cast-conclude : tie.Need-cast-conclude
+cast-conclude c = search needs
+
+cast-conclude-2 : tie.Need-cast-conclude-2
+cast-conclude-2 c = search needs
+
+conclude-requires : tie.Need-conclude-requires
+conclude-requires c κs = search needs
+
+turned-requires : tie.Need-turned-requires
+turned-requires c κs = search needs
+
+clear-free-requires : tie.Need-clear-free-requires
+clear-free-requires c κs = search needs
+
+same-length : tie.Need-same-length
+same-length c = search needs
+
+same-length-2 : tie.Need-same-length-2
+same-length-2 c = search needs
+
+returns : tie.Need-returns
+returns c =
+    let cleared = c .before .before in
+    let t = cleared .before .before in
+    let k = t .before .before .before .before in
+    let s = k .before .before .before .before .before .before .before .before .before .before .before .before .before in
+    answer-serves (s .args .t1) (s .args .job) _ (s .pre .0 .0) (s .pre .1 .0) (races-room (s .args .t1) _ (s .good .0)) (boards-room (s .args .t1) _ (s .good .0)) _ _
+    (t .turned .result) (t .turned .ensures) _ (cleared .clear-free .ensures) (s .pre .0 .1) _ _ _ (k .conclude .ensures) (s .pre .1 .1) _ refl
+
+pub answer-spec : {M : Type 1} → statement M
+answer-spec =
+    tie.close
+    (tie.spec
+    cast-place
+    mul-from
+    add-to
+    mul-boards
+    element-copy-out-boards
+    mul-race
+    element-copy-out-race
+    mul-conclude
+    sub-conclude
+    part-conclude-start
+    part-conclude-end
+    cast-conclude
+    cast-conclude-2
+    conclude-requires
+    turned-requires
+    clear-free-requires
+    same-length
+    same-length-2
+    returns)

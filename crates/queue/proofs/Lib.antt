@@ -1,0 +1,4 @@
+pub mod Room
+pub mod Jobs
+pub mod Apart
+pub mod Turns

@@ -1,0 +1,71 @@
+-- `Queue::closed_up` meets its contract. Assumes nothing.
+use Prim.Native.Nat.{_-_}
+use Rattle.queue.proofs.Turns.{inside, Moved, moved-none, moved-one, moved-all}
+use borrow.Author.Needs.{needs}
+use Rattle.queue.proofs.Queue.closed_up.Statement.{statement}
+use Rattle.queue.proofs.Queue.closed_up.Tie as tie
+
+abbrev Inv-loop : tie.InvT-loop
+Inv-loop at self₀ last i₀ self i = Moved self₀ self at last i
+
+abbrev μ-loop : tie.MeasureT-loop
+μ-loop at self₀ last i₀ self i = last - i
+
+count-requires : tie.Need-count-requires Inv-loop μ-loop
+count-requires c κs = search needs
+
+sub-last : tie.Need-sub-last Inv-loop μ-loop
+sub-last c = let i = inside _ _ _ (c .count .ensures) (c .before .pre) in search needs
+
+loop-holds : tie.Need-loop-holds Inv-loop μ-loop
+loop-holds c = search moved-none
+
+add-behind : tie.Need-add-behind Inv-loop μ-loop
+add-behind c = search needs
+
+mul-behind : tie.Need-mul-behind Inv-loop μ-loop
+mul-behind c = search needs
+
+element-copy-out-behind : tie.Need-element-copy-out-behind Inv-loop μ-loop
+element-copy-out-behind c = search needs
+
+mul-behind-2 : tie.Need-mul-behind-2 Inv-loop μ-loop
+mul-behind-2 c = search needs
+
+element-set-from-behind : tie.Need-element-set-from-behind Inv-loop μ-loop
+element-set-from-behind c = search needs
+
+add-i : tie.Need-add-i Inv-loop μ-loop
+add-i c = search needs
+
+loop-less : tie.Need-loop-less Inv-loop μ-loop
+loop-less c = search needs
+
+loop-again : tie.Need-loop-again Inv-loop μ-loop
+loop-again c = search moved-one
+
+cast-self : tie.Need-cast-self Inv-loop μ-loop
+cast-self c = search needs
+
+returns : tie.Need-returns Inv-loop μ-loop
+returns c = search moved-all
+
+pub closed-up-spec : {M : Type 1} → statement M
+closed-up-spec =
+    tie.close
+    (tie.spec
+    Inv-loop
+    μ-loop
+    count-requires
+    sub-last
+    loop-holds
+    add-behind
+    mul-behind
+    element-copy-out-behind
+    mul-behind-2
+    element-set-from-behind
+    add-i
+    loop-less
+    loop-again
+    cast-self
+    returns)

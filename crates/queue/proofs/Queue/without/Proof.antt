@@ -1,0 +1,17 @@
+-- `Queue::without` meets its contract. Assumes nothing.
+use Rattle.queue.proofs.Jobs.{position-below, without-as}
+use borrow.Author.Needs.{needs}
+use Rattle.queue.proofs.Queue.without.Statement.{statement}
+use Rattle.queue.proofs.Queue.without.Tie as tie
+
+position-requires : tie.Need-position-requires
+position-requires c κs = search needs
+
+closed-up-requires : tie.Need-closed-up-requires
+closed-up-requires c κs = search position-below
+
+returns : tie.Need-returns
+returns c = search without-as
+
+pub without-spec : {M : Type 1} → statement M
+without-spec = tie.close (tie.spec position-requires closed-up-requires returns)

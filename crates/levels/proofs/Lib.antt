@@ -1,4 +1,4 @@
 pub mod Choosing
-mod Steps
+pub mod Steps
 pub mod Seeking
 pub mod Closing

@@ -1,0 +1,4 @@
+mod Sheet
+mod Table
+pub mod Well
+mod Whole

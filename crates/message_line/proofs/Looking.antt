@@ -121,10 +121,10 @@ module _ (kind one two : List ℕ) (count message : ℕ) where
         pub call-sheet : getD one i 0 < length start
         call-sheet = subst (λ (n : ℕ). n < length start) called (lent-sheets .known i 0 (here no-sheet) calls-it)
 
-        module _ (first : ℕ) (starts : first ≡ getD start (getD one i 0) 0) where
-          pub call-less : rank count (level + 1) first (calls + 1) < rank count level i calls
-          call-less = omega (arith, room .1, j .made, lent-sheets .rows .few)
+        pub call-less : (first : ℕ) → rank count (level + 1) first (calls + 1) < rank count level i calls
+        call-less first = omega (arith, room .1, j .made, lent-sheets .rows .few)
 
+        module _ (first : ℕ) (starts : first ≡ getD start (getD one i 0) 0) where
           begins : first ≡ startOf (getD one i 0) file
           begins =
               starts

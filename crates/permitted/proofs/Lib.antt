@@ -1,4 +1,3 @@
-mod Sheet
 mod Table
 pub mod Well
 mod Whole

@@ -24,8 +24,9 @@ use Rattle.senders.specs.declared.Judgement.the-variants.{Sound, Gap, Clash, Re
 use Rattle.verdict.specs.declared.Answer.{Answer}
 use Rattle.verdict.specs.declared.Answer.the-variants as answer
 use Rattle.verdict.specs.Parts.{Decides}
-use Rattle.permitted.specs.Parts.{sheetBy, sheetWith}
-use Rattle.permitted.proofs.Sheet.{refuses}
+use Rattle.permitted_sheet.specs.Sheet.{sheetBy}
+use Rattle.permitted.specs.Parts.{sheetWith}
+use Rattle.permitted_sheet.proofs.Sheet.{refuses}
 
 -- By the judgement of the rules.
 module _ (text : List ℕ) (rules : List Rule) (j : Judgement) (e : judgementAs j ≡ soundnessOf rules) where

@@ -20,7 +20,8 @@ use Rattle.model.proofs.Bounded.{lowest-some}
 use Rattle.model.proofs.Lines.{Well, sheet-well, Reads, read-well}
 use Rattle.model.proofs.Senders.{table-within, table-judged}
 use Rattle.model.proofs.Permitted.{line-met}
-use Rattle.permitted.specs.Parts.{sheetBy, sheetWith}
+use Rattle.permitted_sheet.specs.Sheet.{sheetBy}
+use Rattle.permitted.specs.Parts.{sheetWith}
 
 pub record Named (number line : ℕ) : Type 0 where
   pub behind : benchRefusal < number

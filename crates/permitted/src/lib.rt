@@ -1,9 +1,7 @@
 // The check of a sheet with a table of permitted senders: a text, a channel code, scratch words, trace bytes and a table in; free, locked or
 // refused out. 18 for the table comes directly behind 3, and 19 for a forbidden message once the walk has ended.
 use coverage::Rule;
-use expansion::Expanded;
 use model::RULES_MOST;
-use receivers::Forbidden;
 use senders::Judgement;
 use verdict::Answer;
 ghost use Prim.Native.Nat.{_*_, _<_, _≤_};
@@ -15,38 +13,8 @@ ghost use Rattle.model.specs.Senders.{soundRules, PermittedCheck};
 ghost use Rattle.relation.specs.Width.{width};
 ghost use Rattle.coverage.specs.Rules.{rulesAs};
 ghost use Rattle.verdict.specs.Parts.{numbersFor, Decides};
-ghost use Rattle.permitted.specs.Parts.{sheetBy, sheetWith};
-
-// A text with the rules of a sound table: the first message that is forbidden is refused, with its line, else the sheet is decided.
-fn judge_sheet(
-    text: &[u8],
-    rules: [Rule; RULES_MOST],
-    count: usize,
-    code: usize,
-    words: &mut [u64],
-    trace: &mut [u8],
-) -> Answer
-    requires { ⌜ length (now words) ≡ 2 * messagesMost * width ⌝ }
-    requires { ⌜ (code < channels) × (traceLeast ≤ length (now trace)) ⌝ }
-    requires { ⌜ count ≤ rulesMost ⌝ }
-    ensures { λ r. ⌜ Decides (sheetBy (now (text .entry)) (rulesAs (take count rules))) code (now (trace .entry)) (now (trace .exit)) r ⌝ }
-{
-    let mut boards = [0u8; model::EVENTS_MOST];
-    let outcome = scenario::scenario_of(text, &mut boards, words);
-    match outcome {
-        Expanded::Refused(number, line) => Answer::Refused(number, line),
-        Expanded::Messages(messages) => {
-            let permitted = receivers::permitted_by(rules, count);
-            let forbidden = receivers::first_forbidden(permitted, &boards, messages);
-            match forbidden {
-                Forbidden::Nothing => verdict::decide(words, &boards, messages, code, trace),
-                Forbidden::Message(m) => {
-                    Answer::Refused(model::FORBIDDEN, message_line::line_of(text, m, words))
-                }
-            }
-        }
-    }
-}
+ghost use Rattle.permitted_sheet.specs.Sheet.{sheetBy};
+ghost use Rattle.permitted.specs.Parts.{sheetWith};
 
 // A text with the rules of a table: one that is not sound is refused, without a line.
 fn judge_rules(
@@ -64,7 +32,7 @@ fn judge_rules(
 {
     let judgement = senders::judge(rules, count);
     match judgement {
-        Judgement::Sound => judge_sheet(text, rules, count, code, words, trace),
+        Judgement::Sound => permitted_sheet::judge_sheet(text, rules, count, code, words, trace),
         Judgement::Gap(_) => Answer::Refused(model::SENDER_TABLE, 0),
         Judgement::Clash(_, _, _) => Answer::Refused(model::SENDER_TABLE, 0),
         Judgement::Refused(_, _) => Answer::Refused(model::SENDER_TABLE, 0),

@@ -1,9 +1,9 @@
--- `permitted::judge_sheet` meets its contract. Assumes nothing.
+-- `permitted_sheet::judge_sheet` meets its contract. Assumes nothing.
 use borrow.Author.Needs.{needs}
 use Rattle.scenario.proofs.Laws.{sheet-fits, boards-long}
-use Rattle.permitted.proofs.Sheet.{messages-few, boards-enough, boards-below, forbidden-met, sheet-not-read, nothing-forbidden, message-refused}
-use Rattle.permitted.proofs.judge_sheet.Statement.{statement}
-use Rattle.permitted.proofs.judge_sheet.Tie as tie
+use Rattle.permitted_sheet.proofs.Sheet.{messages-few, boards-enough, boards-below, forbidden-met, sheet-not-read, nothing-forbidden, message-refused}
+use Rattle.permitted_sheet.proofs.judge_sheet.Statement.{statement}
+use Rattle.permitted_sheet.proofs.judge_sheet.Tie as tie
 
 scenario-of-requires : tie.Need-scenario-of-requires
 scenario-of-requires c κs = search needs

@@ -28,7 +28,7 @@ use Rattle.receivers.specs.declared.Forbidden.the-variants.{Message, Nothing}
 use Rattle.verdict.specs.declared.Answer.{Answer}
 use Rattle.verdict.specs.declared.Answer.the-variants.{Refused}
 use Rattle.verdict.specs.Parts.{Decides}
-use Rattle.permitted.specs.Parts.{sheetBy}
+use Rattle.permitted_sheet.specs.Sheet.{sheetBy}
 
 -- a refusal handed on
 pub refuses : (o : Out Scenario) (number line code : ℕ) (trace : List ℕ) → o ≡ refusal number line → Decides o code trace trace (Refused number line)

@@ -5,13 +5,16 @@ ghost use Rattle.model.specs.Choice.{ChoiceChecked};
 ghost use Rattle.model.specs.Waits.{TraceChecked};
 ghost use Rattle.model.specs.Monitor.{Opened, Stepped, Switched, WholeLists};
 ghost use Rattle.model.specs.Cure.{CureChecked};
+ghost use Rattle.model.specs.Senders.{TableJudged, PermittedCheck};
 ghost use Rattle.choice.specs.Bridge as chosen;
 ghost use Rattle.monitor.specs.Bridge.{heldIn, zeros, answerIn};
 ghost use Rattle.replay.specs.Bridge as replayed;
 ghost use Rattle.verdict.specs.Parts.{numbersFor};
 ghost use Rattle.channel_check.specs.Numbers.{Small, numbersIn};
 ghost use Rattle.channel_check.specs.Cures as cured;
+ghost use Rattle.channel_check.specs.Tables as judged;
 pub use crate::cures::CureSheetAnswer;
+pub use crate::tables::SendersCheckAnswer;
 use choice::ChoiceCheckAnswer;
 use monitor::Monitor;
 use monitor::MonitorAnswer;
@@ -19,6 +22,7 @@ use replay::TraceCheckAnswer;
 use verdict::Answer;
 
 mod cures;
+mod tables;
 
 // The answer as C gets it: word 0 free, 1 locked, 2 refused.
 #[repr(C)]
@@ -140,4 +144,26 @@ pub extern "C" fn cure_sheet(text: &[u8], scratch: &mut [u64], output: &mut [u8]
     ensures { λ r. ⌜ CureChecked (now (text .entry)) (now (scratch .entry)) (now (scratch .exit)) (now (output .entry)) (now (output .exit)) (cured.numbersIn r) ⌝ }
 {
     cures::told(cure::cure(text, scratch, output))
+}
+
+// A table of permitted senders: any bytes.
+#[no_mangle]
+pub extern "C" fn senders_check(table: &[u8]) -> SendersCheckAnswer
+    ensures { λ r. ⌜ TableJudged (now (table .entry)) (judged.numbersIn r) ⌝ }
+{
+    tables::told(senders::check_senders(table))
+}
+
+// The check with a table of permitted senders: any text, any channel code, any table, any lengths.
+#[no_mangle]
+pub extern "C" fn permitted_check(
+    text: &[u8],
+    code: u32,
+    scratch: &mut [u64],
+    trace: &mut [u8],
+    table: &[u8],
+) -> ChannelCheckAnswer
+    ensures { λ r. ⌜ PermittedCheck (now (text .entry)) code (now (scratch .entry)) (now (scratch .exit)) (now (trace .entry)) (now (trace .exit)) (now (table .entry)) (numbersIn r) ⌝ }
+{
+    numbers(permitted::check(text, code, scratch, trace, table))
 }

@@ -10,6 +10,8 @@ mod cures;
 mod monitors;
 #[path = "reference.rs"]
 mod reference;
+#[path = "senders.rs"]
+mod senders;
 #[path = "texts.rs"]
 mod texts;
 #[path = "traces.rs"]
@@ -182,6 +184,7 @@ struct Seen {
     choices: choices::Seen,
     monitors: monitors::Seen,
     cures: cures::Seen,
+    senders: senders::Seen,
 }
 
 impl Seen {
@@ -198,6 +201,7 @@ impl Seen {
         self.choices.add(&o.choices);
         self.monitors.add(&o.monitors);
         self.cures.add(&o.cures);
+        self.senders.add(&o.senders);
     }
 
     fn limits_of(&mut self, s: &Scenario) {
@@ -214,6 +218,7 @@ impl Seen {
         self.choices.print();
         self.monitors.print();
         self.cures.print();
+        self.senders.print();
         println!("traces replayed {}, free orders taken {}, sheets searched whole {}", self.replayed, self.wandered, self.searched);
     }
 
@@ -221,7 +226,7 @@ impl Seen {
         let eager = [0, 2, 4, 5].iter().all(|c| self.locked[*c] > 0);
         let some = |all: &[u64]| all.iter().all(|n| *n > 0);
         let judged = self.replayed * self.wandered * self.searched > 0;
-        let calls = self.traces.whole() && self.choices.whole() && self.monitors.whole() && self.cures.whole();
+        let calls = self.traces.whole() && self.choices.whole() && self.monitors.whole() && self.cures.whole() && self.senders.whole();
         eager && some(&self.free) && some(&self.refused[1..]) && some(&self.limits) && judged && calls
     }
 }
@@ -281,6 +286,9 @@ fn try_text(r: &mut Random, seen: &mut Seen) {
     }
     if r.one_in(8) {
         cures::try_cure(r, &mut seen.cures, &text);
+    }
+    if r.one_in(8) {
+        senders::try_senders(r, &mut seen.senders, &text);
     }
 }
 

@@ -15,4 +15,7 @@ monitor_answer careful_monitor_switch(monitor state, uint32_t code, const uint8_
                                       size_t scratch_len);
 cure_sheet_answer careful_cure_sheet(const uint8_t *text, size_t text_len, uint64_t *scratch, size_t scratch_len, uint8_t *output,
                                      size_t output_len);
+senders_check_answer careful_senders_check(const uint8_t *table, size_t table_len);
+channel_check_answer careful_permitted_check(const uint8_t *text, size_t text_len, uint32_t code, uint64_t *scratch, size_t scratch_len,
+                                             uint8_t *trace, size_t trace_len, const uint8_t *table, size_t table_len);
 #endif

@@ -3,7 +3,7 @@ use Prim.Native.Nat.{ℕ, zero, suc, _+_, _-_, _<_, _≤_}
 use native.Mathlib.Decide.{decLt}
 use native.Mathlib.Numerals.{add-one}
 use native.Mathlib.Omega.{arith}
-use mathlib.Core.Path.{_≡_, refl, sym, _∙_, ap, ap₂, subst}
+use mathlib.Core.Path.{_≡_, refl, sym, _∙_, ap}
 use mathlib.Core.Bool.{Bool, true, false}
 use mathlib.Core.List.{List, [], _∷_}
 use lib.Dec.{eqb, leb, ltb}
@@ -24,7 +24,7 @@ use Rattle.sheet.proofs.Bridge.{row-sheet, row-message, row-order, row-call, ro
 use Rattle.walk.specs.Block.{rowsFrom}
 use Rattle.walk.proofs.Meeting.{rows-next, rows-end, rows-drop}
 use Rattle.levels.specs.Levels.{letterAt}
-use Rattle.levels.proofs.Steps.{row-there, row-letter}
+use Rattle.levels.proofs.Steps.{row-letter}
 use Rattle.message_line.proofs.Growing.{Lined, KeepsOn, keeps-on, keeps-then, keeps-same, rows-keep, calls-keep}
 
 -- three parts, one after another

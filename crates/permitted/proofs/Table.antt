@@ -1,16 +1,16 @@
 -- What the table decides of a sheet, ahead of the sheet's own rows. Assumes nothing.
 use Prim.Native.Nat.{ℕ, _<_, _≤_}
 use native.Mathlib.Omega.{arith}
-use mathlib.Core.Path.{_≡_, refl, sym, _∙_, ap, subst}
+use mathlib.Core.Path.{_≡_, sym, _∙_, ap, subst}
 use mathlib.Core.Bool.{and-false}
 use mathlib.Core.List.{List}
-use lib.Dec.{leb, ltb}
+use lib.Dec.{ltb}
 use lib.ListN.{length, take}
 use borrow.Author.Tests.{lt-ltb, le-leb, lt-leb}
 use Rattle.model.specs.Limits.{rulesMost, textMost}
-use Rattle.model.specs.Refusal.{Out, ok, refusal, andThen, lengthRefusal, senderTableRefusal}
+use Rattle.model.specs.Refusal.{Out, refusal, andThen, lengthRefusal, senderTableRefusal}
 use Rattle.model.specs.Order.{Scenario}
-use Rattle.model.specs.Senders.{Rule, Soundness, soundnessOf, rulesOf, soundRules, soundTable}
+use Rattle.model.specs.Senders.{Rule, soundnessOf, soundRules, soundTable}
 use Rattle.model.proofs.Senders.{Agrees, agrees}
 use Rattle.coverage.specs.Rules.{rulesAs}
 use Rattle.coverage.specs.declared.Rule as coverage

@@ -1,18 +1,18 @@
 -- With a table every refusal behind 1 and 2 is one of those, with a line of the sheet or of the table. Assumes nothing.
-use Prim.Native.Nat.{ℕ, _+_, _<_, _≤_}
+use Prim.Native.Nat.{ℕ, _<_, _≤_}
 use native.Mathlib.Decide.{decLt}
 use native.Mathlib.Omega.{arith}
-use mathlib.Core.Path.{_≡_, refl, sym, _∙_, ap, subst}
+use mathlib.Core.Path.{_≡_, refl, sym, _∙_, subst}
 use mathlib.Core.Bool.{Bool, true, false, not, cond, _&&_}
 use mathlib.Core.List.{List}
 use mathlib.Core.Option.{Option, none, some}
 use lib.Dec.{leb, ltb}
 use lib.ListN.{length, getD, List·getD-eq-default}
-use Rattle.model.specs.Limits.{rowsMost, rulesMost, pairs, textMost}
+use Rattle.model.specs.Limits.{rowsMost, pairs, textMost}
 use Rattle.model.specs.Bounded.{every, lowest}
 use Rattle.model.specs.Refusal.{Out, ok, refusal, andThen, benchRefusal, senderTableRefusal, forbiddenRefusal, lengthRefusal}
-use Rattle.model.specs.Rows.{Row, message, block}
-use Rattle.model.specs.Place.{lineOf, readWith}
+use Rattle.model.specs.Rows.{message, block}
+use Rattle.model.specs.Place.{lineOf}
 use Rattle.model.specs.Order.{Scenario}
 use Rattle.model.specs.Answer.{sheetOf}
 use Rattle.model.specs.Senders.{Rule, rulesOf, isFaulty, judgedTable, tableAnswer, tableNumbers, tableRefusedWord, soundRules, soundTable, isForbidden, linesMet, permitted, MessageRow}

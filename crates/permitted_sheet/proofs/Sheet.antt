@@ -2,9 +2,9 @@
 use Prim.Native.Nat.{ℕ, _+_, _*_, _<_, _≤_}
 use native.Mathlib.Omega.{arith}
 use mathlib.Core.Path.{_≡_, refl, sym, _∙_, ap, subst, subst⁻¹}
-use mathlib.Core.Bool.{Bool, not}
+use mathlib.Core.Bool.{not}
 use mathlib.Core.List.{List, []}
-use mathlib.Core.Option.{Option, none, some}
+use mathlib.Core.Option.{none, some}
 use lib.ListN.{length, getD}
 use Rattle.model.specs.Limits.{messagesMost}
 use Rattle.model.specs.Bounded.{lowest}
@@ -12,7 +12,7 @@ use Rattle.model.specs.Refusal.{Out, ok, refusal, andThen, forbiddenRefusal}
 use Rattle.model.specs.Expansion.{Progress, expand}
 use Rattle.model.specs.Order.{Met, Scenario, exchangeOf, scenarioOf}
 use Rattle.model.specs.Answer.{sheetOf, answerFor, traceAfter}
-use Rattle.model.specs.Senders.{Rule, isForbidden, permits, pairOf, withLines, lineOps, linesMet, permitted}
+use Rattle.model.specs.Senders.{Rule, isForbidden, withLines, lineOps, linesMet, permitted}
 use Rattle.model.proofs.Bounded.{lowest-within, lowest-some}
 use Rattle.model.proofs.Accepted.{SheetParts, sheet-parts}
 use Rattle.model.proofs.MessageLines.{Both, expand-alike}

@@ -1,6 +1,5 @@
 -- One rule decides of its own pairs, and rule by rule, from the last to the first, the sets are those that the model permits. Assumes nothing.
 use Prim.Native.Nat.{ℕ, suc, _+_, _-_, _^_, _<_, _≤_}
-use native.Mathlib.Numerals.{add-one}
 use native.Mathlib.Omega.{arith}
 use mathlib.Core.Path.{_≡_, refl, sym, _∙_, ap, subst}
 use mathlib.Core.Bool.{Bool, true, false, not, cond, _&&_, _||_}
@@ -11,10 +10,10 @@ use lib.Dec.{eqb}
 use lib.ListN.{length, getD, take, drop, set, length-set, length-take, drop-of-length-le}
 use lib.Seq.{drop-cons, getD-take, getD-set-same, getD-set-other}
 use Rattle.model.specs.Limits.{boards}
-use Rattle.model.specs.Senders.{pairOf, inSet, covers, permits}
+use Rattle.model.specs.Senders.{pairOf, inSet, permits}
 use Rattle.relation.specs.Rows.{has}
 use Rattle.relation.proofs.Words.{has-not}
-use Rattle.coverage.specs.Rules.{ruleAs, rulesAs}
+use Rattle.coverage.specs.Rules.{rulesAs}
 use Rattle.coverage.specs.declared.Rule.{Rule}
 use Rattle.coverage.proofs.Covered.{set-or, set-and, empty-set, pair-covers}
 use Rattle.receivers.specs.Permitted.{Decided, PermittedTo, PermittedBy}

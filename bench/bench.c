@@ -205,6 +205,28 @@ static void run(int proved, uint32_t code) {
     watch(proved, code, trace, a.word == 1 ? a.three : 0, scratch);
 }
 
+/* 64 rules that partition the pairs, a sender and four receivers each; all permit. */
+static char table[2048];
+static size_t table_len;
+
+static void partition(void) {
+    table_len = (size_t)sprintf(table, "from to verdict\n");
+    for (int i = 0; i < 64; i++) table_len += (size_t)sprintf(table + table_len, "%d %d 1\n", 1 << i / 4, 15 << 4 * (i % 4));
+}
+
+/* The check of the sheet with that table. */
+static void permit(int proved, uint32_t code) {
+    static uint64_t scratch[CHANNEL_CHECK_SCRATCH_WORDS];
+    static uint8_t trace[CHANNEL_CHECK_TRACE_BYTES];
+    channel_check_answer a = (proved ? permitted_check : careful_permitted_check)((const uint8_t *)text, len, code, scratch, CHANNEL_CHECK_SCRATCH_WORDS, trace, CHANNEL_CHECK_TRACE_BYTES, (const uint8_t *)table, table_len);
+    printf("with a table: %u %u %u %u\n", a.word, a.one, a.two, a.three);
+}
+
+static void judge_table(int proved) {
+    senders_check_answer a = (proved ? senders_check : careful_senders_check)((const uint8_t *)table, table_len);
+    printf("table: %u %u %u %u\n", a.word, a.one, a.two, a.three);
+}
+
 /* The cure, once, since it is given no channel: its answer, and a sum of the whole output. */
 static void cure(int proved) {
     static uint64_t scratch[CHANNEL_CHECK_SCRATCH_WORDS];
@@ -247,8 +269,10 @@ int main(int argc, char **argv) {
     if (strcmp(argv[1], "text") == 0) return fwrite(text, 1, len, stdout) != len;
     int proved = strcmp(argv[1], "proved") == 0;
     if (argc > 5) return counter(proved, (uint32_t)atoi(argv[5])), 0;
+    partition();
     for (uint32_t code = 0; code < 6; code++)
-        if (argc < 5 || (uint32_t)atoi(argv[4]) == code) run(proved, code);
+        if (argc < 5 || (uint32_t)atoi(argv[4]) == code) run(proved, code), permit(proved, code);
     cure(proved);
+    judge_table(proved);
     return 0;
 }

@@ -52,17 +52,19 @@ static size_t cut(const uint8_t *text, size_t len, size_t at, size_t from[3], si
     return 0;
 }
 
-static int number(const uint8_t *text, size_t from, size_t to) {
+static inline int number_up_to(const uint8_t *text, size_t from, size_t to, size_t digits, unsigned most) {
     size_t n = to - from;
     unsigned value = 0;
-    if (n == 0 || n > 3 || (n > 1 && text[from] == '0')) return -1;
+    if (n == 0 || n > digits || (n > 1 && text[from] == '0')) return -1;
     for (size_t i = from; i < to; i++) {
         unsigned digit = text[i] - '0';
         if (digit > 9) return -1;
         value = value * 10 + digit;
     }
-    return value <= 255 ? (int)value : -1;
+    return value <= most ? (int)value : -1;
 }
+
+static int number(const uint8_t *text, size_t from, size_t to) { return number_up_to(text, from, to, 3, 255); }
 
 static int named(const uint8_t *text, size_t from, size_t to, const char *name) {
     size_t n = strlen(name);
@@ -791,4 +793,105 @@ dispatcher_answer careful_dispatcher_turn(dispatcher state, const uint8_t *sheet
     d->queue.jobs[d->queue.held - 1] = j;
     clear_free(taken, words);
     return *saying(&a, 2, j.number, 0);
+}
+
+/* ------------------------------------------------------------------ permitted senders */
+
+enum { RULES = 64 };
+typedef struct { uint16_t from, to; uint8_t verdict; } rule_record;
+typedef struct { rule_record rules[RULES]; size_t count; } sender_table;
+
+static refusal read_table(const uint8_t *table, size_t len, sender_table *t) {
+    size_t from[3], to[3];
+    if (len == 0 || len > 8192) return (refusal){18, 0};
+    size_t at = cut(table, len, 0, from, to);
+    if (at == 0 || !named(table, from[0], to[0], "from") || !named(table, from[1], to[1], "to") || !named(table, from[2], to[2], "verdict"))
+        return (refusal){18, 1};
+    for (t->count = 0; at < len; t->count++) {
+        uint32_t line = (uint32_t)t->count + 2;
+        if (t->count == RULES) return (refusal){18, line};
+        size_t next = cut(table, len, at, from, to);
+        if (next == 0) return (refusal){18, line};
+        int a = number_up_to(table, from[0], to[0], 5, 65535), b = number_up_to(table, from[1], to[1], 5, 65535);
+        int v = number_up_to(table, from[2], to[2], 5, 1);
+        if (a < 0 || b < 0 || v < 0) return (refusal){18, line};
+        t->rules[t->count] = (rule_record){(uint16_t)a, (uint16_t)b, (uint8_t)v};
+        at = next;
+    }
+    return (refusal){0, 0};
+}
+
+/* sender by sender, the receivers in some rule and those in two as sets */
+static senders_check_answer judge_table(const sender_table *t) {
+    for (unsigned a = 0; a < BOARDS; a++) {
+        unsigned once = 0, twice = 0;
+        for (size_t i = 0; i < t->count; i++)
+            if (t->rules[i].from >> a & 1) {
+                twice |= once & t->rules[i].to;
+                once |= t->rules[i].to;
+            }
+        unsigned faulty = (~once | twice) & 0xffff, lines[2], found = 0;
+        if (!faulty) continue;
+        unsigned b = (unsigned)__builtin_ctz(faulty);
+        for (size_t i = 0; i < t->count && found < 2; i++)
+            if ((t->rules[i].from >> a & 1) && (t->rules[i].to >> b & 1)) lines[found++] = (unsigned)i + 2;
+        return found ? (senders_check_answer){2, BOARDS * a + b, lines[0], lines[1]} : (senders_check_answer){1, BOARDS * a + b, 0, 0};
+    }
+    return (senders_check_answer){0, 0, 0, 0};
+}
+
+senders_check_answer careful_senders_check(const uint8_t *table, size_t table_len) {
+    sender_table t;
+    refusal r = read_table(table, table_len, &t);
+    if (r.number) return (senders_check_answer){3, r.number, r.line, 0};
+    return judge_table(&t);
+}
+
+/* the line of message m's M row: the walk again, counting messages alone */
+static uint32_t line_of(const sheet *s, size_t m) {
+    size_t from[LEVELS], level = 0, at = s->start[0];
+    for (;;) {
+        uint8_t kind = at < s->count ? s->kind[at] : 'S';
+        if (kind == 'C') {
+            from[level++] = at;
+            at = s->start[s->one[at]];
+        } else if (kind == 'S') {
+            at = from[--level] + 1;
+        } else {
+            if (kind == 'M' && m-- == 0) return (uint32_t)at + 2;
+            at++;
+        }
+    }
+}
+
+static channel_check_answer judge_permitted(const uint8_t *text, size_t len, uint32_t code, uint64_t *scratch, uint8_t *trace,
+                                            const uint8_t *table, size_t table_len) {
+    sheet s;
+    walk w;
+    size_t e, x;
+    sender_table t;
+    uint16_t permitted[BOARDS] = {0};
+    if (len == 0 || len > 8192) return (channel_check_answer){2, 3, 0, 0};
+    refusal r = read_table(table, table_len, &t);
+    if (!r.number && judge_table(&t).word != 0) r.number = 18, r.line = 0;
+    if (!r.number) r = read(text, len, &s, scratch, 0);
+    w.words = scratch;
+    if (!r.number) r = expand(&s, &w, 0);
+    if (r.number) return (channel_check_answer){2, r.number, r.line, 0};
+    for (unsigned a = 0; a < BOARDS; a++)
+        for (size_t i = 0; i < t.count; i++)
+            if ((t.rules[i].from >> a & 1) && t.rules[i].verdict) permitted[a] |= t.rules[i].to;
+    for (size_t m = 0; m < w.count; m++)
+        if (!(permitted[w.boards[2 * m]] >> w.boards[2 * m + 1] & 1)) return (channel_check_answer){2, 19, line_of(&s, m), 0};
+    if (rules[code] == NEVER || !lowest_race(&w, rules[code], &e, &x)) return (channel_check_answer){0, 0, 0, 0};
+    return (channel_check_answer){1, (uint32_t)e, (uint32_t)x, (uint32_t)schedule(&w, channels[code], e, trace)};
+}
+
+channel_check_answer careful_permitted_check(const uint8_t *text, size_t text_len, uint32_t code, uint64_t *scratch, size_t scratch_len,
+                                             uint8_t *trace, size_t trace_len, const uint8_t *table, size_t table_len) {
+    if (code > 5) return (channel_check_answer){2, 1, 0, 0};
+    if (scratch_len < 1024 || trace_len < 768) return (channel_check_answer){2, 2, 0, 0};
+    channel_check_answer a = judge_permitted(text, text_len, code, scratch, trace, table, table_len);
+    memset(scratch, 0, 1024 * 8);
+    return a;
 }

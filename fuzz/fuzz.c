@@ -2,8 +2,9 @@
  * coverage counters, which guides the search, and on the careful C program of bench/, and all must agree in answer, trace,
  * scratch and text. Input: a byte for the code, one for the buffers' lengths, then the text. Where the second byte is over 127 the call is
  * trace_check: a byte for a third of the trace's length follows, then the trace, then the text; with bit 4 of the first byte the bytes are
- * not a trace but calls of the monitor. Otherwise the call is cure_sheet where the first byte has bit 4, choice_check where it has bit 3,
- * else channel_check. */
+ * not a trace but calls of the monitor. Otherwise the call is permitted_check and senders_check where the first byte has bit 5: a byte for a
+ * quarter of the table's length follows, then the table, then the text; cure_sheet where it has bit 4, choice_check where it has bit 3, else
+ * channel_check. */
 #define _GNU_SOURCE
 #include "../bench/check.h"
 #include <stdio.h>
@@ -18,6 +19,8 @@ monitor_answer guided_monitor_open(const uint8_t *, size_t, uint32_t, uint64_t *
 monitor_answer guided_monitor_step(monitor, uint32_t, uint32_t, const uint8_t *, size_t, uint64_t *, size_t);
 monitor_answer guided_monitor_switch(monitor, uint32_t, const uint8_t *, size_t, uint64_t *, size_t);
 cure_sheet_answer guided_cure_sheet(const uint8_t *, size_t, uint64_t *, size_t, uint8_t *, size_t);
+senders_check_answer guided_senders_check(const uint8_t *, size_t);
+channel_check_answer guided_permitted_check(const uint8_t *, size_t, uint32_t, uint64_t *, size_t, uint8_t *, size_t, const uint8_t *, size_t);
 int LLVMFuzzerTestOneInput(const uint8_t *data, size_t size);
 
 enum { WORDS = CHANNEL_CHECK_SCRATCH_WORDS, BYTES = CHANNEL_CHECK_TRACE_BYTES, PAINT = 0xa5, AHEAD = 64, ROOM = 1 << 16, GUARD = 1 << 16 };
@@ -34,7 +37,7 @@ static void stop(const char *what, const call *a) {
 /* The proved code is not compiled with the address sanitizer: its buffers end at a page that cannot be touched, and the
  * bytes ahead of them are painted. */
 static uint8_t *guarded(int which, size_t size) {
-    static uint8_t *rooms[3];
+    static uint8_t *rooms[4];
     if (!rooms[which]) {
         rooms[which] = mmap(NULL, ROOM + GUARD, PROT_READ | PROT_WRITE, MAP_PRIVATE | MAP_ANONYMOUS, -1, 0);
         if (rooms[which] == MAP_FAILED || mprotect(rooms[which] + ROOM, GUARD, PROT_NONE) != 0) exit(2);
@@ -176,6 +179,32 @@ static void try_cure(const uint8_t *text, size_t len, size_t words, size_t bytes
     free(exact_text), free(exact_output), free(exact);
 }
 
+/* a table, and a sheet with it: all three agree in both answers, trace and scratch; the header's promise of the buffers */
+static void try_table(const uint8_t *text, size_t len, uint32_t code, size_t words, size_t bytes, const uint8_t *table, size_t table_len) {
+    call c = {.text_len = len, .words = words, .bytes = bytes}, a = c;
+    uint8_t *exact_table = memcpy(malloc(table_len), table, table_len), *lent = memcpy(guarded(3, table_len), table, table_len);
+    senders_check_answer j = careful_senders_check(exact_table, table_len);
+    c.text = memcpy(malloc(len), text, len);
+    c.scratch = memset(malloc(words * 8), PAINT, words * 8);
+    c.trace = memset(malloc(bytes), PAINT, bytes);
+    channel_check_answer p = careful_permitted_check(c.text, len, code, (uint64_t *)c.scratch, words, c.trace, bytes, exact_table, table_len);
+    c.answer = (choice_check_answer){p.word, p.one, p.two, p.three, 0, 0};
+    for (int is_guided = 0; is_guided < 2; is_guided++) {
+        senders_check_answer k = (is_guided ? guided_senders_check : senders_check)(lent, table_len);
+        a.text = memcpy(guarded(0, len), text, len);
+        a.scratch = guarded(1, words * 8);
+        a.trace = guarded(2, bytes);
+        p = (is_guided ? guided_permitted_check : permitted_check)(a.text, len, code, (uint64_t *)a.scratch, words, a.trace, bytes, lent, table_len);
+        a.answer = (choice_check_answer){p.word, p.one, p.two, p.three, 0, 0};
+        if (memcmp(&j, &k, sizeof j) != 0) stop("judgement of a table", &a);
+        agree(&a, &c);
+        promised(&a);
+        if (!ahead_painted(a.text) || !ahead_painted(a.scratch) || !ahead_painted(a.trace) || !ahead_painted(lent)) stop("bytes ahead of a buffer", &a);
+        if (memcmp(lent, table, table_len) != 0) stop("the table was written to", &a);
+    }
+    free(exact_table), free(c.text), free(c.scratch), free(c.trace);
+}
+
 int LLVMFuzzerTestOneInput(const uint8_t *data, size_t size) {
     static const uint32_t codes[8] = {0, 1, 2, 3, 4, 5, 6, UINT32_MAX};
     static const size_t words[8] = {WORDS, WORDS, WORDS, WORDS + 1, 2 * WORDS, WORDS, WORDS - 1, 0};
@@ -190,6 +219,12 @@ int LLVMFuzzerTestOneInput(const uint8_t *data, size_t size) {
         size_t most = 3 * (size_t)data[2] + data[1] / 64 % 2, length = most < size - 3 ? most : size - 3;
         if (data[0] / 16 % 2) try_monitor(data + 3 + length, size - 3 - length, code, data + 3, length);
         else try_trace(data + 3 + length, size - 3 - length, code, c.words, data + 3, length);
+        return 0;
+    }
+    if (data[0] / 32 % 2) {
+        if (size < 3) return -1;
+        size_t most = 4 * (size_t)data[2], length = most < size - 3 ? most : size - 3;
+        try_table(data + 3 + length, size - 3 - length, code, c.words, c.bytes, data + 3, length);
         return 0;
     }
     if (data[0] / 16 % 2) {

@@ -231,6 +231,33 @@ dispatcher_answer dispatcher_turn(dispatcher state, const uint8_t *sheets, size_
 dispatcher_answer dispatcher_cancel(dispatcher state, uint32_t number, const uint8_t *sheets, size_t sheets_len, const uint32_t *lengths,
                                     size_t lengths_len, const uint32_t *codes, size_t codes_len, uint64_t *words, size_t words_len);
 
+/* word: 0 sound, 1 gap, 2 clash, 3 refused.
+ * gap:     one is the lowest pair that is not in exactly one rule, 16 times sender plus receiver; it is in none.
+ * clash:   one is that pair, in two rules or more; two and three are the lines of its first two rules.
+ * refused: one is 18; two is the first bad line, 0 for the table's length.
+ * Numbers that a word does not name are 0. */
+typedef struct {
+    uint32_t word, one, two, three;
+} senders_check_answer;
+
+/* Judges a table of permitted senders: its names line `from to verdict`, then at most 64 rules, a line each: two sets of boards as decimal
+ * numbers 0 to 65,535 (bit k is board k) and 1 for permitted or 0, with the spacing, number and line-end rules of the sheet file; 1 to
+ * 8,192 bytes. All lines are read ahead of the judgement. Sound: each of the 256 ordered pairs of boards is in exactly one rule.
+ *
+ * table, table_len      the table's bytes; only read. Any bytes and any length are taken.
+ */
+senders_check_answer senders_check(const uint8_t *table, size_t table_len);
+
+/* The check of a sheet with a table of permitted senders. All arguments but the table, and the buffers at exit, are as channel_check's.
+ *
+ * refused: 18, for a table that is malformed, with its first bad line (0 for its length), or not sound (0), directly behind 3 and ahead of
+ *          all else that is said of the sheet; 19, for the first message in walk order that the table forbids, with the line of its M row, once
+ *          the walk has ended: behind all others. The trace is untouched, and the scratch as behind any refusal.
+ * With a sound table that forbids no message of the walk, answer, trace and scratch are those of channel_check.
+ */
+channel_check_answer permitted_check(const uint8_t *text, size_t text_len, uint32_t code, uint64_t *scratch, size_t scratch_len,
+                                     uint8_t *trace, size_t trace_len, const uint8_t *table, size_t table_len);
+
 #ifdef __cplusplus
 }
 #endif

@@ -12,6 +12,8 @@ mod dispatchers;
 mod monitors;
 #[path = "reference.rs"]
 mod reference;
+#[path = "senders.rs"]
+mod senders;
 #[path = "texts.rs"]
 mod texts;
 #[path = "traces.rs"]
@@ -188,6 +190,7 @@ struct Seen {
     cures: cures::Seen,
     wired: wired::Seen,
     dispatchers: dispatchers::Seen,
+    senders: senders::Seen,
 }
 
 impl Seen {
@@ -206,6 +209,7 @@ impl Seen {
         self.cures.add(&o.cures);
         self.wired.add(&o.wired);
         self.dispatchers.add(&o.dispatchers);
+        self.senders.add(&o.senders);
     }
 
     fn limits_of(&mut self, s: &Scenario) {
@@ -224,6 +228,7 @@ impl Seen {
         self.cures.print();
         self.wired.print();
         self.dispatchers.print();
+        self.senders.print();
         println!("traces replayed {}, free orders taken {}, sheets searched whole {}", self.replayed, self.wandered, self.searched);
     }
 
@@ -231,7 +236,7 @@ impl Seen {
         let eager = [0, 2, 4, 5].iter().all(|c| self.locked[*c] > 0);
         let some = |all: &[u64]| all.iter().all(|n| *n > 0);
         let judged = self.replayed * self.wandered * self.searched > 0;
-        let calls = self.traces.whole() && self.choices.whole() && self.monitors.whole() && self.cures.whole() && self.wired.whole() && self.dispatchers.whole();
+        let calls = self.traces.whole() && self.choices.whole() && self.monitors.whole() && self.cures.whole() && self.wired.whole() && self.dispatchers.whole() && self.senders.whole();
         eager && some(&self.free) && some(&self.refused[1..]) && some(&self.limits) && judged && calls
     }
 }
@@ -297,6 +302,9 @@ fn try_text(r: &mut Random, seen: &mut Seen) {
     }
     if r.one_in(64) {
         dispatchers::try_dispatcher(r, &mut seen.dispatchers);
+    }
+    if r.one_in(8) {
+        senders::try_senders(r, &mut seen.senders, &text);
     }
 }
 

@@ -1,7 +1,8 @@
 /* The C face, called on every kind of answer with a guard page right behind each buffer: the answer, and the bytes of trace
  * and scratch, on all eleven refusals and both words, with exact and larger buffers, odd codes and empty text; trace_check on
  * every word and on traces of every length up to two beyond the limit; choice_check on every word, with lists of every length; the
- * monitor; cure_sheet on every refusal, with texts of 512 rows and one row more; and the dispatcher's calls. */
+ * monitor; cure_sheet on every refusal, with texts of 512 rows and one row more; the dispatcher's calls; senders_check on every word, and
+ * permitted_check on each refusal, in its order. */
 #define _GNU_SOURCE
 #include "../include/channel_check.h"
 #include <stdio.h>
@@ -639,12 +640,131 @@ static void dispatchers(void) {
         if (!desk_words[w]) printf("FAILED: the dispatcher never said %d\n", w), failures++;
 }
 
+/* ------------------------------------------------------------------ senders_check and permitted_check */
+
+#define T "from to verdict\n"
+#define ALL T "65535 65535 1\n"
+#define MASTER T "1 65535 1\n65534 1 1\n65534 65534 0\n" /* board 0 sends to all, and all send to it */
+
+static int table_words[4], permitted_refused[20];
+
+/* one call, with a guard page behind the table */
+static void judge(const char *name, const char *bytes, size_t len, senders_check_answer e) {
+    sheet s = {name, bytes, len};
+    buffer table = lend(len);
+    memcpy(table.at, bytes, len);
+    senders_check_answer a = senders_check(table.at, len);
+    calls++;
+    if (a.word < 4) table_words[a.word]++;
+    if (memcmp(&a, &e, sizeof a) != 0) printf("  expected %u %u %u %u, got %u %u %u %u\n", e.word, e.one, e.two, e.three, a.word, a.one, a.two, a.three);
+    expect(memcmp(&a, &e, sizeof a) == 0, s, 0, "judgement of a table");
+    expect(memcmp(table.at, bytes, len) == 0 && painted(table.from, table.at), s, 0, "the table was written to");
+    give_back(table);
+}
+
+static void judged(const char *name, const char *table, uint32_t word, uint32_t one, uint32_t two, uint32_t three) {
+    judge(name, table, strlen(table), (senders_check_answer){word, one, two, three});
+}
+
+/* one call, with a guard page behind each of the four buffers */
+static void permit(sheet s, const char *table, uint32_t code, size_t words, size_t bytes, channel_check_answer e, const void *steps) {
+    buffer text = lend(s.len), scratch = lend(words * 8), trace = lend(bytes), rules = lend(strlen(table));
+    memcpy(text.at, s.text, s.len);
+    memcpy(rules.at, table, strlen(table));
+    channel_check_answer a = permitted_check(text.at, s.len, code, (uint64_t *)scratch.at, words, trace.at, bytes, rules.at, strlen(table));
+    calls++;
+    if (a.word == 2 && a.one < 20) permitted_refused[a.one]++;
+    if (memcmp(&a, &e, sizeof a) != 0) printf("  expected %u %u %u %u, got %u %u %u %u\n", e.word, e.one, e.two, e.three, a.word, a.one, a.two, a.three);
+    expect(memcmp(&a, &e, sizeof a) == 0, s, code, "answer with a table");
+    expect(memcmp(rules.at, table, strlen(table)) == 0 && painted(rules.from, rules.at), s, code, "the table was written to");
+    give_back(rules);
+    left(s, code, text, scratch, trace, e.word == 2 && e.one <= 2, steps, e.word == 1 ? 2 * (size_t)e.three : 0);
+}
+
+static void permits(const char *name, const char *text, const char *table, channel_check_answer e, const void *steps) {
+    for (uint32_t code = 0; code < 6; code += 5) {
+        permit(named(name, text), table, code, WORDS, BYTES, e, steps);
+        permit(named(name, text), table, code, WORDS + 3, BYTES + 5, e, steps);
+    }
+}
+
+/* rules that partition the pairs: four senders by four receivers, a rule a pair of sets of one sender and four receivers */
+static void rules_of(int n) {
+    begin(T);
+    for (int i = 0; i < 64 && i < n; i++) sprintf(made + strlen(made), "%d %d 1\n", 1 << i / 4, 15 << 4 * (i % 4));
+    repeat("0 0 1\n", n - 64);
+}
+
+static void tables(void) {
+    judged("all", ALL, 0, 0, 0, 0);
+    judged("one master", MASTER, 0, 0, 0, 0);
+    rules_of(64);
+    judged("64 rules", made, 0, 0, 0, 0);
+    rules_of(63);
+    judged("63 of the 64 rules", made, 1, 252, 0, 0);
+    rules_of(65);
+    judged("65 rules", made, 3, 18, 66, 0);
+    judged("no rule", T, 1, 0, 0, 0);
+    judged("3 to 5 in no rule", T "65527 65535 1\n8 65503 0\n", 1, 53, 0, 0);
+    judged("3 to 5 in two rules, both permit", T "0 0 0\n65535 65535 1\n8 32 1\n8 32 1\n", 2, 53, 3, 4);
+    judged("the last pair", T "32767 65535 1\n32768 32767 1\n", 1, 255, 0, 0);
+    judged("a set over 65,535", T "65536 0 1\n", 3, 18, 2, 0);
+    judged("a leading zero", ALL "01 0 1\n", 3, 18, 3, 0);
+    judged("a verdict of 2", T "65535 65535 2\n", 3, 18, 2, 0);
+    judged("two spaces", T "65535  65535 1\n", 3, 18, 2, 0);
+    judged("four fields", T "65535 65535 1 1\n", 3, 18, 2, 0);
+    judged("no line end", T "65535 65535 1", 3, 18, 2, 0);
+    judged("an empty line", ALL "\n", 3, 18, 3, 0);
+    judged("names in another order", "to from verdict\n65535 65535 1\n", 3, 18, 1, 0);
+    judged("names without their end", "from to verdict", 3, 18, 1, 0);
+    judged("no byte", "", 3, 18, 0, 0);
+    begin("");
+    repeat("\n", 8192);
+    judged("8,192 bytes", made, 3, 18, 1, 0);
+    repeat("\n", 1);
+    judged("8,193 bytes", made, 3, 18, 0, 0);
+    for (int w = 0; w < 4; w++)
+        if (!table_words[w]) printf("FAILED: senders_check never said %d\n", w), failures++;
+}
+
+static void permissions(void) {
+    channel_check_answer is_free = {0, 0, 0, 0};
+    const char *two = H "S 0 0\nM 0 1\nM 2 1\nP 1 3\n", *gap = T "65534 65535 1\n";
+    permits("all permitted, locked", two, ALL, (channel_check_answer){1, 1, 1, 3}, "\0\1\1\1\0\0");
+    permits("all permitted, free", H "S 0 0\nM 3 3\n", ALL, is_free, "");
+    permits("one master, free", H "S 0 0\nM 0 1\nM 1 0\nM 0 0\n", MASTER, is_free, "");
+    permits("19 for 2 to 1", two, MASTER, (channel_check_answer){2, 19, 4, 0}, "");
+    permits("19 for a board to itself", H "S 0 0\nM 0 1\nB 0 0\nM 3 3\n", MASTER, (channel_check_answer){2, 19, 5, 0}, "");
+    permits("19 for the first met, not the lowest line", H "S 1 0\nM 2 1\nS 0 0\nM 3 1\nC 1 0\n", MASTER, (channel_check_answer){2, 19, 5, 0}, "");
+    permits("19 in a sheet that is called", H "S 0 0\nM 0 1\nC 1 0\nM 3 1\nS 1 0\nM 0 2\nM 2 1\n", MASTER, (channel_check_answer){2, 19, 8, 0}, "");
+    permits("a message that no walk meets", H "S 0 0\nM 0 1\nS 1 0\nM 2 1\n", MASTER, is_free, "");
+    permits("18 for a gap", two, gap, (channel_check_answer){2, 18, 0, 0}, "");
+    permits("18 for a clash", two, ALL "1 1 1\n", (channel_check_answer){2, 18, 0, 0}, "");
+    permits("18 for a line", two, ALL "1 1 2\n", (channel_check_answer){2, 18, 3, 0}, "");
+    permits("18 for the length", two, "", (channel_check_answer){2, 18, 0, 0}, "");
+    permits("3 ahead of 18", "", gap, (channel_check_answer){2, 3, 0, 0}, "");
+    permits("18 ahead of 4", "kind one one\n", gap, (channel_check_answer){2, 18, 0, 0}, "");
+    permits("4", "kind one one\n", ALL, (channel_check_answer){2, 4, 1, 0}, "");
+    permits("6 ahead of 19", H "S 0 0\nM 2 1\nM 16 0\n", MASTER, (channel_check_answer){2, 6, 4, 0}, "");
+    permits("11 ahead of 19", H "S 0 0\nM 2 1\nM 0 0\nP 3 2\n", MASTER, (channel_check_answer){2, 11, 5, 0}, "");
+    begin(H "S 0 0\nC 1 0\nC 1 0\nM 0 0\nS 1 0\n");
+    repeat("M 2 1\n", 64);
+    permits("10 ahead of 19", made, MASTER, (channel_check_answer){2, 10, 5, 0}, "");
+    permit(named("1 ahead of 18", two), gap, 6, WORDS, BYTES, (channel_check_answer){2, 1, 0, 0}, "");
+    permit(named("2 for the scratch", two), gap, 0, WORDS - 1, BYTES, (channel_check_answer){2, 2, 0, 0}, "");
+    permit(named("2 for the trace", two), gap, 0, WORDS, BYTES - 1, (channel_check_answer){2, 2, 0, 0}, "");
+    for (int n = 1; n < 20; n++)
+        if (!permitted_refused[n] && (n <= 4 || n == 6 || n == 10 || n == 11 || n >= 18)) printf("FAILED: with a table %d never came\n", n), failures++;
+}
+
 int main(void) {
     traces();
     choices();
     monitors();
     cures();
     dispatchers();
+    tables();
+    permissions();
     words();
     limits();
     refusals();

@@ -594,6 +594,116 @@ pub fn watchable(sheet: &Result<Scenario, Refusal>, code: u32, scratch: usize) -
     sheet.as_ref().map_err(|refusal| *refusal)
 }
 
+// ---------------------------------------------------------------- request (l): who may send to whom
+
+/// Two sets of boards and a verdict.
+pub struct Rule {
+    pub from: usize,
+    pub to: usize,
+    pub permits: bool,
+}
+
+#[derive(Clone, Copy, Debug, PartialEq)]
+pub enum Soundness {
+    Sound,
+    Gap(usize),
+    Clash(usize, usize, usize),
+}
+
+fn up_to(field: &[u8], most: usize) -> Option<usize> {
+    let plain = !field.is_empty() && field.len() <= 5 && field.iter().all(u8::is_ascii_digit) && (field.len() == 1 || field[0] != b'0');
+    let n = field.iter().fold(0, |n, d| 10 * n + usize::from(d.wrapping_sub(b'0')));
+    (plain && n <= most).then_some(n)
+}
+
+/// The rules of a table, or the line that 18 reports.
+pub fn rules(table: &[u8]) -> Result<Vec<Rule>, u32> {
+    if table.is_empty() || table.len() > 8192 {
+        return Err(0);
+    }
+    let mut rules = Vec::new();
+    for (i, (line, ended)) in lines(table).into_iter().enumerate() {
+        let fields: Vec<&[u8]> = line.split(|b| *b == b' ').collect();
+        let number = |k: usize, most: usize| fields.get(k).and_then(|f| up_to(f, most));
+        if !ended || fields.len() != 3 || i > 64 {
+            return Err(i as u32 + 1);
+        }
+        if i == 0 {
+            if line != b"from to verdict" {
+                return Err(1);
+            }
+            continue;
+        }
+        match (number(0, 65535), number(1, 65535), number(2, 1)) {
+            (Some(from), Some(to), Some(verdict)) => rules.push(Rule { from, to, permits: verdict == 1 }),
+            _ => return Err(i as u32 + 1),
+        }
+    }
+    Ok(rules)
+}
+
+/// Each of the 256 pairs is in exactly one rule, else the lowest that is not.
+pub fn soundness(rules: &[Rule]) -> Soundness {
+    for pair in 0..256 {
+        let with: Vec<usize> = (0..rules.len()).filter(|k| covers(&rules[*k], pair / 16, pair % 16)).collect();
+        match with[..] {
+            [] => return Soundness::Gap(pair),
+            [_] => {}
+            [a, b, ..] => return Soundness::Clash(pair, a + 2, b + 2),
+        }
+    }
+    Soundness::Sound
+}
+
+pub fn covers(rule: &Rule, sender: usize, receiver: usize) -> bool {
+    (rule.from >> sender) & 1 == 1 && (rule.to >> receiver) & 1 == 1
+}
+
+/// The check with a table: 1, 2, 3, then 18, then the sheet's refusals, then 19 for the first message met that is forbidden.
+pub fn permit(text: &[u8], code: u32, scratch: usize, trace: usize, table: &[u8]) -> Answer {
+    let plain = answer(&sheet(text), code, scratch, trace);
+    if let Answer::Refused((1..=3, _)) = plain {
+        return plain;
+    }
+    let rules = match rules(table) {
+        Err(line) => return Answer::Refused((18, line)),
+        Ok(rules) if soundness(&rules) != Soundness::Sound => return Answer::Refused((18, 0)),
+        Ok(rules) => rules,
+    };
+    if matches!(plain, Answer::Refused(_)) {
+        return plain;
+    }
+    let rows = read(text, false).expect("a sheet that is accepted");
+    let mut met = Vec::new();
+    walked(&rows, 0, &mut met);
+    let forbidden = |(_, a, b): &&(u32, usize, usize)| rules.iter().any(|r| covers(r, *a, *b) && !r.permits);
+    match met.iter().find(forbidden) {
+        Some((line, _, _)) => Answer::Refused((19, *line)),
+        None => plain,
+    }
+}
+
+/// The lowest line of a message met that is forbidden, which need not be the first met.
+pub fn lowest_forbidden_line(text: &[u8], table: &[u8]) -> Option<u32> {
+    let (rows, rules) = (read(text, false).ok()?, rules(table).ok()?);
+    let mut met = Vec::new();
+    walked(&rows, 0, &mut met);
+    met.iter().filter(|(_, a, b)| rules.iter().any(|r| covers(r, *a, *b) && !r.permits)).map(|m| m.0).min()
+}
+
+/// The messages of an accepted sheet in walk order, each with the line of its M row.
+fn walked(rows: &[Row], sheet: usize, met: &mut Vec<(u32, usize, usize)>) {
+    let start = rows.iter().position(|r| matches!(r, Row::Sheet(n) if *n == sheet)).expect("a sheet that is there");
+    for (i, row) in rows.iter().enumerate().skip(start + 1) {
+        match row {
+            Row::Sheet(_) => return,
+            Row::Message(a, b) => met.push((i as u32 + 2, *a, *b)),
+            Row::Call(n) => walked(rows, *n, met),
+            _ => {}
+        }
+    }
+}
+
 // ---------------------------------------------------------------- request (i): the loosest change that cures a sheet
 
 pub const OUTPUT_LEAST: usize = 8192;

@@ -14,6 +14,7 @@ static char text[16384];
 static size_t len;
 static uint64_t scratch[CHANNEL_CHECK_SCRATCH_WORDS];
 static uint8_t trace[CHANNEL_CHECK_TRACE_BYTES], output[CURE_SHEET_OUTPUT_BYTES];
+static const char table[] = "from to verdict\n65535 32768 1\n65535 32767 0\n"; /* all may send to board 15 alone */
 static uint32_t code;
 static channel_check_answer answer;
 static uint8_t sheets[DISPATCHER_PLACES * DISPATCHER_SHEET_BYTES];
@@ -29,6 +30,8 @@ static void *run(void *unused) {
     monitor m = monitor_open((const uint8_t *)text, len, code, scratch, CHANNEL_CHECK_SCRATCH_WORDS).next;
     m = monitor_step(m, 0, 0, (const uint8_t *)text, len, scratch, CHANNEL_CHECK_SCRATCH_WORDS).next;
     monitor_switch(m, code, (const uint8_t *)text, len, scratch, CHANNEL_CHECK_SCRATCH_WORDS);
+    senders_check((const uint8_t *)table, sizeof table - 1);
+    permitted_check((const uint8_t *)text, len, code, scratch, CHANNEL_CHECK_SCRATCH_WORDS, trace, CHANNEL_CHECK_TRACE_BYTES, (const uint8_t *)table, sizeof table - 1);
     cure_sheet((const uint8_t *)text, len, scratch, CHANNEL_CHECK_SCRATCH_WORDS, output, CURE_SHEET_OUTPUT_BYTES);
     return unused;
 }

@@ -414,3 +414,53 @@ pub fn cure_text(r: &mut Random) -> Vec<u8> {
     };
     write(r, &rows)
 }
+
+/// Rules that partition the 256 pairs: the square of all boards is cut along senders or receivers, again and again.
+fn partition(r: &mut Random) -> Vec<(usize, usize, usize)> {
+    let most = *r.pick(&[1, 2, 4, 8, 16, 40, 64]);
+    let mut parts = vec![(65535, 65535)];
+    for _ in 1..6 * most {
+        if parts.len() == most {
+            break;
+        }
+        let k = r.below(parts.len());
+        let (from, to): (usize, usize) = parts[k];
+        let set = if r.one_in(2) { from } else { to };
+        let cut = set & r.next() as usize;
+        if cut != 0 && cut != set {
+            parts[k] = if set == from { (cut, to) } else { (from, cut) };
+            parts.push(if set == from { (set & !cut, to) } else { (from, set & !cut) });
+        }
+    }
+    let forbids = *r.pick(&[2, 4, 50, 1000]);
+    parts.into_iter().map(|(from, to)| (from, to, usize::from(!r.one_in(forbids)))).collect()
+}
+
+/// A table: mostly a partition, some with one bit changed, a rule too many or one left out, some with bytes changed.
+pub fn table(r: &mut Random) -> Vec<u8> {
+    let mut rules = partition(r);
+    let at = r.below(rules.len());
+    match r.below(10) {
+        0 => rules[at].0 ^= 1 << r.below(16),
+        1 => rules[at].1 ^= 1 << r.below(16),
+        2 => rules.push((r.below(65536), r.below(65536), r.below(2))),
+        3 => {
+            rules.remove(at);
+        }
+        4 => rules[at] = (*r.pick(&[0, 65535, 65536]), rules[at].1, *r.pick(&[0, 1, 2])),
+        5 => (0..r.below(3)).for_each(|_| rules.push((0, r.below(65536), 1))),
+        _ => {}
+    }
+    while r.one_in(30) && rules.len() < 66 || (rules.len() > 60 && rules.len() < 65 && r.one_in(2)) {
+        rules.push((0, 0, 0));
+    }
+    let mut text = b"from to verdict\n".to_vec();
+    rules.iter().for_each(|(a, b, v)| text.extend(format!("{} {} {}\n", a, b, v).bytes()));
+    if r.one_in(4) {
+        damage(r, &mut text);
+    }
+    if r.one_in(60) {
+        text.resize(*r.pick(&[0, 8192, 8193]), 10);
+    }
+    text
+}

@@ -2,3 +2,4 @@ mod Told
 mod Small
 mod Cured
 mod Desk
+mod Judged

@@ -8,6 +8,7 @@ ghost use Rattle.model.specs.Monitor.{Opened, Stepped, Switched, WholeLists};
 ghost use Rattle.model.specs.Cure.{CureChecked};
 ghost use Rattle.model.specs.Dispatcher as desks;
 ghost use Rattle.model.specs.Dispatcher.{admit, turn, cancel, Serves};
+ghost use Rattle.model.specs.Senders.{TableJudged, PermittedCheck};
 ghost use Rattle.choice.specs.Bridge as chosen;
 ghost use Rattle.dispatcher.specs.Bridge as desk;
 ghost use Rattle.dispatcher.specs.Bridge.{deskIn, Holds, emptied, lent};
@@ -16,7 +17,9 @@ ghost use Rattle.replay.specs.Bridge as replayed;
 ghost use Rattle.verdict.specs.Parts.{numbersFor};
 ghost use Rattle.channel_check.specs.Numbers.{Small, numbersIn};
 ghost use Rattle.channel_check.specs.Cures as cured;
+ghost use Rattle.channel_check.specs.Tables as judged;
 pub use crate::cures::CureSheetAnswer;
+pub use crate::tables::SendersCheckAnswer;
 use choice::ChoiceCheckAnswer;
 use dispatcher::Dispatcher;
 use dispatcher::DispatcherAnswer;
@@ -26,6 +29,7 @@ use replay::TraceCheckAnswer;
 use verdict::Answer;
 
 mod cures;
+mod tables;
 
 // The answer as C gets it: word 0 free, 1 locked, 2 refused.
 #[repr(C)]
@@ -199,4 +203,26 @@ pub extern "C" fn dispatcher_cancel(
     ensures { λ r. ⌜ Serves deskIn Holds state (cancel number (lent (now (sheets .entry)) (now (lengths .entry)) (now (codes .entry)) (now (words .entry)))) (now (words .exit)) [] (desk.answerIn r) × desks.WholeLists deskIn Holds emptied ⌝ }
 {
     state.cancel(number, words)
+}
+
+// A table of permitted senders: any bytes.
+#[no_mangle]
+pub extern "C" fn senders_check(table: &[u8]) -> SendersCheckAnswer
+    ensures { λ r. ⌜ TableJudged (now (table .entry)) (judged.numbersIn r) ⌝ }
+{
+    tables::told(senders::check_senders(table))
+}
+
+// The check with a table of permitted senders: any text, any channel code, any table, any lengths.
+#[no_mangle]
+pub extern "C" fn permitted_check(
+    text: &[u8],
+    code: u32,
+    scratch: &mut [u64],
+    trace: &mut [u8],
+    table: &[u8],
+) -> ChannelCheckAnswer
+    ensures { λ r. ⌜ PermittedCheck (now (text .entry)) code (now (scratch .entry)) (now (scratch .exit)) (now (trace .entry)) (now (trace .exit)) (now (table .entry)) (numbersIn r) ⌝ }
+{
+    numbers(permitted::check(text, code, scratch, trace, table))
 }

@@ -6,6 +6,7 @@ mod jams;
 mod lines;
 mod reasons;
 mod steps;
+mod tables;
 mod traces;
 mod watch;
 
@@ -57,6 +58,9 @@ fn answer_on(word: &[u8], code: u32) {
     } else if check::same(word, b"choices") {
         let n = io::read_full(STDIN_FILENO, &mut text);
         choices::print(&text[..n], code);
+    } else if check::same(word, b"permitted") {
+        let n = io::read_full(STDIN_FILENO, &mut text);
+        tables::print(&text[..n], code);
     } else if check::same(word, b"replay") {
         let n = io::read_full(STDIN_FILENO, &mut text);
         traces::print(&text[..n], code);
@@ -79,6 +83,8 @@ fn main() {
         cures::write(&text[..n]);
     } else if check::same(word, b"counter") {
         counter_report::run();
+    } else if check::same(word, b"senders") {
+        tables::judge();
     } else {
         match arguments::code_in(2) {
             Code::Missing => print_usage(),

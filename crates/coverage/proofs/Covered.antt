@@ -22,20 +22,20 @@ use Rattle.coverage.specs.declared.Rule.{Rule}
 use Rattle.coverage.specs.declared.Search.{Search}
 
 -- the bits of two sets together
-set-or : (a b k : ℕ) → inSet (bitOr a b) k ≡ (inSet a k || inSet b k)
+pub set-or : (a b k : ℕ) → inSet (bitOr a b) k ≡ (inSet a k || inSet b k)
 unfolding inSet has
 set-or a b k = has-or a b k
 
-set-and : (a b k : ℕ) → inSet (bitAnd a b) k ≡ (inSet a k && inSet b k)
+pub set-and : (a b k : ℕ) → inSet (bitAnd a b) k ≡ (inSet a k && inSet b k)
 unfolding inSet has
 set-and a b k = has-and a b k
 
-empty-set : (k : ℕ) → inSet 0 k ≡ false
+pub empty-set : (k : ℕ) → inSet 0 k ≡ false
 unfolding inSet has
 empty-set k = has-zero k
 
 -- a rule with a pair, by its two sets
-pair-covers : (r : Rule) (a b : ℕ) → b < boards → covers (ruleAs r) (pairOf a b) ≡ (inSet (r .from) a && inSet (r .to) b)
+pub pair-covers : (r : Rule) (a b : ℕ) → b < boards → covers (ruleAs r) (pairOf a b) ≡ (inSet (r .from) a && inSet (r .to) b)
 unfolding covers
 pair-covers r a b h =
     let d : (boards * a + b) / boards ≡ a = rw (mul-comm boards a) (digits-div a h) in

@@ -1,5 +1,5 @@
 pub mod Choosing
-mod Steps
+pub mod Steps
 pub mod Seeking
 pub mod Closing
 pub mod BlockRows

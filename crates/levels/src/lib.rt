@@ -18,7 +18,7 @@ pub enum Reached {
 }
 
 // The letter of a row. Behind the last it is an S: the file's end ends its last sheet.
-fn letter_at(kind: &[u8], rows: usize, row: usize) -> u8
+pub fn letter_at(kind: &[u8], rows: usize, row: usize) -> u8
     requires { ⌜ rows ≤ length (now kind) ⌝ }
     ensures { λ r. ⌜ r ≡ letterAt (now (kind .entry)) rows row ⌝ }
 {
@@ -77,7 +77,7 @@ fn choices_behind(letter: u8, choices: usize) -> usize
 }
 
 // The row behind the S row of a sheet that is there.
-fn start_of(start: &[u16], sheet: u8) -> usize
+pub fn start_of(start: &[u16], sheet: u8) -> usize
     requires { ⌜ sheet < length (now start) ⌝ }
     ensures { λ r. ⌜ r ≡ getD (now (start .entry)) sheet 0 ⌝ }
 {

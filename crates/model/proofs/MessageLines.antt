@@ -26,7 +26,7 @@ lines-drop zero i rs = rw (add-zero i)
 lines-drop (suc k) i [] = refl
 lines-drop (suc k) i (r ∷ rs) = let e : suc i + k ≡ i + suc k = omega arith in lines-drop k (suc i) rs ∙ rw e
 
-start-lined : (n i : ℕ) (rs : List Row) → startOf n (withLines i rs) ≡ startOf n rs
+pub start-lined : (n i : ℕ) (rs : List Row) → startOf n (withLines i rs) ≡ startOf n rs
 unfolding startOf withLines lined
 start-lined n i [] = refl
 start-lined n i (sheet m ∷ rs) = go (eqb m n) (start-lined n (suc i) rs)
@@ -159,7 +159,7 @@ module _ (file : List Row) where
         (λ t u d. rows-alike rs (suc i) (suc line) (blockOpened metOps t) (blockOpened lineOps u) (behind (choice m n) rs i e) (alike-block t u d)))
 
   -- a sheet's rows with their lines are the file's with their lines, from that row on
-  body-lined : (n : ℕ) → drop (startOf n (withLines 0 file)) (withLines 0 file) ≡ withLines (startOf n file) (drop (startOf n file) file)
+  pub body-lined : (n : ℕ) → drop (startOf n (withLines 0 file)) (withLines 0 file) ≡ withLines (startOf n file) (drop (startOf n file) file)
   body-lined n = rw (start-lined n 0 file) (lines-drop (startOf n file) 0 file ∙ rw (zero-add (startOf n file)))
 
   abbrev bodyMet : ℕ → Bool → ℕ → Progress Met → Out (Progress Met)

@@ -1,0 +1,4 @@
+mod Growing
+mod Left
+mod Looking
+mod Whole

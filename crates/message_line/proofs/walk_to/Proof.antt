@@ -1,0 +1,126 @@
+-- `message_line::walk_to` meets its contract: its loop keeps `Looking`. It ends, since each turn brings it nearer to the end of the walk.
+-- Assumes nothing.
+use native.Mathlib.Omega.{arith}
+use borrow.Author.Needs.{needs}
+use Rattle.levels.specs.Levels.{rank}
+use Rattle.message_line.proofs.Looking.{Looking, start-there, looking-start, call-deep, call-level, call-count, call-one, call-sheet, call-less, looking-called, back-level, back-noted, back-next, back-less, looking-back, row-line, row-next, row-less, message-found, looking-message, looking-on}
+use Rattle.message_line.proofs.walk_to.Statement.{statement}
+use Rattle.message_line.proofs.walk_to.Tie as tie
+
+abbrev Inv-loop : tie.InvT-loop
+Inv-loop kind one two rows start message from₀ level₀ at₀ calls₀ met₀ from level at calls met =
+    Looking kind one two rows message from level at calls met
+
+abbrev μ-loop : tie.MeasureT-loop
+μ-loop kind one two rows start message from₀ level₀ at₀ calls₀ met₀ from level at calls met = rank rows level at calls
+
+start-of-requires : tie.Need-start-of-requires Inv-loop μ-loop
+start-of-requires c κs = search start-there
+
+loop-holds : tie.Need-loop-holds Inv-loop μ-loop
+loop-holds c = search looking-start
+
+letter-at-requires : tie.Need-letter-at-requires Inv-loop μ-loop
+letter-at-requires c κs = search needs
+
+mul-from : tie.Need-mul-from Inv-loop μ-loop
+mul-from c = search (call-deep, needs)
+
+array-write-from : tie.Need-array-write-from Inv-loop μ-loop
+array-write-from c = search call-deep
+
+add-level : tie.Need-add-level Inv-loop μ-loop
+add-level c = search call-level
+
+add-calls : tie.Need-add-calls Inv-loop μ-loop
+add-calls c = search call-count
+
+shared-slice-read-start-of : tie.Need-shared-slice-read-start-of Inv-loop μ-loop
+shared-slice-read-start-of c = search call-one
+
+start-of-requires-2 : tie.Need-start-of-requires-2 Inv-loop μ-loop
+start-of-requires-2 c κs = search call-sheet
+
+loop-less : tie.Need-loop-less Inv-loop μ-loop
+loop-less c = search call-less
+
+loop-again : tie.Need-loop-again Inv-loop μ-loop
+loop-again c = search looking-called
+
+sub-level : tie.Need-sub-level Inv-loop μ-loop
+sub-level c = search back-level
+
+mul-at : tie.Need-mul-at Inv-loop μ-loop
+mul-at c = search (back-noted, needs)
+
+array-read-at : tie.Need-array-read-at Inv-loop μ-loop
+array-read-at c = search back-noted
+
+add-at : tie.Need-add-at Inv-loop μ-loop
+add-at c = search back-next
+
+loop-less-2 : tie.Need-loop-less-2 Inv-loop μ-loop
+loop-less-2 c = search back-less
+
+loop-again-2 : tie.Need-loop-again-2 Inv-loop μ-loop
+loop-again-2 c = search looking-back
+
+add-result : tie.Need-add-result Inv-loop μ-loop
+add-result c = search row-line
+
+returns : tie.Need-returns Inv-loop μ-loop
+returns c = search message-found
+
+add-met : tie.Need-add-met Inv-loop μ-loop
+add-met c = omega (arith, c .before .before .before .before .before .loop .inv .soFar)
+
+add-at-2 : tie.Need-add-at-2 Inv-loop μ-loop
+add-at-2 c = search row-next
+
+loop-less-3 : tie.Need-loop-less-3 Inv-loop μ-loop
+loop-less-3 c = search row-less
+
+loop-again-3 : tie.Need-loop-again-3 Inv-loop μ-loop
+loop-again-3 c = search looking-message
+
+add-at-3 : tie.Need-add-at-3 Inv-loop μ-loop
+add-at-3 c = search row-next
+
+loop-less-4 : tie.Need-loop-less-4 Inv-loop μ-loop
+loop-less-4 c = search row-less
+
+loop-again-4 : tie.Need-loop-again-4 Inv-loop μ-loop
+loop-again-4 c = search looking-on
+
+pub walk-to-spec : {M : Type 1} → statement M
+walk-to-spec =
+    tie.close
+    (tie.spec
+    Inv-loop
+    μ-loop
+    start-of-requires
+    loop-holds
+    letter-at-requires
+    mul-from
+    array-write-from
+    add-level
+    add-calls
+    shared-slice-read-start-of
+    start-of-requires-2
+    loop-less
+    loop-again
+    sub-level
+    mul-at
+    array-read-at
+    add-at
+    loop-less-2
+    loop-again-2
+    add-result
+    returns
+    add-met
+    add-at-2
+    loop-less-3
+    loop-again-3
+    add-at-3
+    loop-less-4
+    loop-again-4)

@@ -15,4 +15,6 @@ monitor_answer careful_monitor_switch(monitor state, uint32_t code, const uint8_
                                       size_t scratch_len);
 cure_sheet_answer careful_cure_sheet(const uint8_t *text, size_t text_len, uint64_t *scratch, size_t scratch_len, uint8_t *output,
                                      size_t output_len);
+taps_check_answer careful_taps_check(const uint8_t *text, size_t text_len, uint64_t *scratch, size_t scratch_len, const uint16_t *first,
+                                     size_t first_len, const uint16_t *second, size_t second_len, uint16_t *output, size_t output_len);
 #endif

@@ -10,6 +10,8 @@ mod cures;
 mod monitors;
 #[path = "reference.rs"]
 mod reference;
+#[path = "taps.rs"]
+mod taps;
 #[path = "texts.rs"]
 mod texts;
 #[path = "traces.rs"]
@@ -182,6 +184,7 @@ struct Seen {
     choices: choices::Seen,
     monitors: monitors::Seen,
     cures: cures::Seen,
+    taps: taps::Seen,
 }
 
 impl Seen {
@@ -198,6 +201,7 @@ impl Seen {
         self.choices.add(&o.choices);
         self.monitors.add(&o.monitors);
         self.cures.add(&o.cures);
+        self.taps.add(&o.taps);
     }
 
     fn limits_of(&mut self, s: &Scenario) {
@@ -214,6 +218,7 @@ impl Seen {
         self.choices.print();
         self.monitors.print();
         self.cures.print();
+        self.taps.print();
         println!("traces replayed {}, free orders taken {}, sheets searched whole {}", self.replayed, self.wandered, self.searched);
     }
 
@@ -222,7 +227,7 @@ impl Seen {
         let some = |all: &[u64]| all.iter().all(|n| *n > 0);
         let judged = self.replayed * self.wandered * self.searched > 0;
         let calls = self.traces.whole() && self.choices.whole() && self.monitors.whole() && self.cures.whole();
-        eager && some(&self.free) && some(&self.refused[1..]) && some(&self.limits) && judged && calls
+        eager && some(&self.free) && some(&self.refused[1..]) && some(&self.limits) && judged && calls && self.taps.whole()
     }
 }
 
@@ -281,6 +286,9 @@ fn try_text(r: &mut Random, seen: &mut Seen) {
     }
     if r.one_in(8) {
         cures::try_cure(r, &mut seen.cures, &text);
+    }
+    if r.one_in(8) {
+        taps::try_taps(r, &mut seen.taps, &text);
     }
 }
 

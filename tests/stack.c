@@ -13,6 +13,7 @@ static char text[16384];
 static size_t len;
 static uint64_t scratch[CHANNEL_CHECK_SCRATCH_WORDS];
 static uint8_t trace[CHANNEL_CHECK_TRACE_BYTES], output[CURE_SHEET_OUTPUT_BYTES];
+static uint16_t down[CHANNEL_CHECK_SCRATCH_WORDS / 4], course[TAPS_CHECK_OUTPUT_NUMBERS]; /* all events, the last first */
 static uint32_t code;
 static channel_check_answer answer;
 static uint8_t *top; /* where the caller's frame stands */
@@ -26,6 +27,8 @@ static void *run(void *unused) {
     m = monitor_step(m, 0, 0, (const uint8_t *)text, len, scratch, CHANNEL_CHECK_SCRATCH_WORDS).next;
     monitor_switch(m, code, (const uint8_t *)text, len, scratch, CHANNEL_CHECK_SCRATCH_WORDS);
     cure_sheet((const uint8_t *)text, len, scratch, CHANNEL_CHECK_SCRATCH_WORDS, output, CURE_SHEET_OUTPUT_BYTES);
+    taps_check((const uint8_t *)text, len, scratch, CHANNEL_CHECK_SCRATCH_WORDS, down, 0, down, 0, course, TAPS_CHECK_OUTPUT_NUMBERS);
+    taps_check((const uint8_t *)text, len, scratch, CHANNEL_CHECK_SCRATCH_WORDS, down, sizeof down / 2, down, sizeof down / 2, course, TAPS_CHECK_OUTPUT_NUMBERS);
     return unused;
 }
 
@@ -94,6 +97,7 @@ static void measure(void (*make)(int), int refused) {
 
 int main(int argc, char **argv) {
     size_t most = argc > 1 ? (size_t)atol(argv[1]) : 32768;
+    for (size_t i = 0; i < sizeof down / 2; i++) down[i] = (uint16_t)(sizeof down / 2 - 1 - i);
     for (int refused = 0; refused < 2; refused++) {
         measure(levels, refused);
         measure(messages, refused);

@@ -1,3 +1,4 @@
 mod Told
 mod Small
 mod Cured
+mod Fitted

@@ -1,2 +1,4 @@
 pub mod Numbers
+pub mod Pair
 pub mod Cures
+pub mod Tapped

@@ -5,13 +5,16 @@ ghost use Rattle.model.specs.Choice.{ChoiceChecked};
 ghost use Rattle.model.specs.Waits.{TraceChecked};
 ghost use Rattle.model.specs.Monitor.{Opened, Stepped, Switched, WholeLists};
 ghost use Rattle.model.specs.Cure.{CureChecked};
+ghost use Rattle.model.specs.Taps.{TapsChecked};
 ghost use Rattle.choice.specs.Bridge as chosen;
 ghost use Rattle.monitor.specs.Bridge.{heldIn, zeros, answerIn};
 ghost use Rattle.replay.specs.Bridge as replayed;
 ghost use Rattle.verdict.specs.Parts.{numbersFor};
 ghost use Rattle.channel_check.specs.Numbers.{Small, numbersIn};
 ghost use Rattle.channel_check.specs.Cures as cured;
+ghost use Rattle.channel_check.specs.Tapped as fitted;
 pub use crate::cures::CureSheetAnswer;
+pub use crate::tapped::TapsCheckAnswer;
 use choice::ChoiceCheckAnswer;
 use monitor::Monitor;
 use monitor::MonitorAnswer;
@@ -19,6 +22,7 @@ use replay::TraceCheckAnswer;
 use verdict::Answer;
 
 mod cures;
+mod tapped;
 
 // The answer as C gets it: word 0 free, 1 locked, 2 refused.
 #[repr(C)]
@@ -140,4 +144,18 @@ pub extern "C" fn cure_sheet(text: &[u8], scratch: &mut [u64], output: &mut [u8]
     ensures { λ r. ⌜ CureChecked (now (text .entry)) (now (scratch .entry)) (now (scratch .exit)) (now (output .entry)) (now (output .exit)) (cured.numbersIn r) ⌝ }
 {
     cures::told(cure::cure(text, scratch, output))
+}
+
+// One course of events for two lists of events, or the event that would have to precede itself: any text, any lists, any lengths.
+#[no_mangle]
+pub extern "C" fn taps_check(
+    text: &[u8],
+    scratch: &mut [u64],
+    first: &[u16],
+    second: &[u16],
+    output: &mut [u16],
+) -> TapsCheckAnswer
+    ensures { λ r. ⌜ TapsChecked (now (text .entry)) (now (scratch .entry)) (now (scratch .exit)) (now (first .entry)) (now (second .entry)) (now (output .entry)) (now (output .exit)) (fitted.numbersIn r) ⌝ }
+{
+    tapped::told(taps::fit(text, scratch, first, second, output))
 }

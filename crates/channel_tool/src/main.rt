@@ -37,6 +37,10 @@ fn print_usage() {
         STDERR_FILENO,
         b"       channel_tool cure < SHEET > NEW.sheet\n",
     );
+    io::write_all(
+        STDERR_FILENO,
+        b"       channel_tool taps LIST LIST < SHEET\n",
+    );
 }
 
 // The words that name a channel code behind them.
@@ -73,6 +77,10 @@ fn main() {
         let mut text = [0u8; MOST];
         let n = io::read_full(STDIN_FILENO, &mut text);
         cures::write(&text[..n]);
+    } else if check::same(word, b"taps") {
+        let mut text = [0u8; MOST];
+        let n = io::read_full(STDIN_FILENO, &mut text);
+        tap_report::print_taps(&text[..n]);
     } else {
         match arguments::code_in(2) {
             Code::Missing => print_usage(),

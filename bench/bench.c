@@ -166,10 +166,42 @@ static void choosing(int n, int race) {
 static void choices(int n) { choosing(n, 0); }
 static void choices_locked(int n) { choosing(n, 1); }
 
+/* The lists of two taps. A sheet that does not fill them has empty ones. */
+static uint16_t first[1024], second[1024];
+static size_t first_len, second_len;
+
+/* Messages that nothing orders, and both lists full: the events as they are numbered. */
+static void taps_up(int n) {
+    begin();
+    for (int m = 0; m < n; m++) line("M", m % 13, (m + 1) % 13);
+    first_len = second_len = (size_t)(2 * n);
+    for (int x = 0; x < 2 * n; x++) first[x] = second[x] = (uint16_t)x;
+}
+
+/* The same with the messages from the last to the first. */
+static void taps_down(int n) {
+    taps_up(n);
+    for (int x = 0; x < 2 * n; x++) first[x] = second[x] = (uint16_t)(2 * (n - 1 - x / 2) + x % 2);
+}
+
+/* One list has the sends from the last to the first, the other the receives from the first to the last. */
+static void taps_crossed(int n) {
+    taps_up(n);
+    first_len = second_len = (size_t)n;
+    for (int m = 0; m < n; m++) first[m] = (uint16_t)(2 * (n - 1 - m)), second[m] = (uint16_t)(2 * m + 1);
+}
+
+/* Both full, one the other way round: every event would have to precede itself. */
+static void taps_clash(int n) {
+    taps_up(n);
+    for (int x = 0; x < 2 * n; x++) second[x] = (uint16_t)(2 * n - 1 - x);
+}
+
 static const struct { const char *name; void (*make)(int); } sheets[] = {
     {"longest-trace", longest_trace}, {"chain", chain}, {"dense", dense}, {"calls", calls}, {"blocks", blocks}, {"refused", refused},
     {"chain-twice", chain_twice}, {"last-race", last_race}, {"most-rows", most_rows}, {"order-rows", order_rows}, {"few", few}, {"case-2", case_2},
     {"early-race", early_race}, {"streams", streams}, {"choices", choices}, {"choices-locked", choices_locked},
+    {"taps-up", taps_up}, {"taps-down", taps_down}, {"taps-crossed", taps_crossed}, {"taps-clash", taps_clash},
 };
 
 /* A run opened, the check's own steps fed to the monitor one at a time, and a switch at its end. */
@@ -261,6 +293,16 @@ static void counter(int proved, uint32_t jobs) {
     }
 }
 
+/* Two taps, once: the answer, and a sum of the whole output. */
+static void tap(int proved) {
+    static uint64_t scratch[CHANNEL_CHECK_SCRATCH_WORDS];
+    static uint16_t output[TAPS_CHECK_OUTPUT_NUMBERS];
+    taps_check_answer a = (proved ? taps_check : careful_taps_check)((const uint8_t *)text, len, scratch, CHANNEL_CHECK_SCRATCH_WORDS, first, first_len, second, second_len, output, TAPS_CHECK_OUTPUT_NUMBERS);
+    unsigned sum = 0;
+    for (size_t i = 0; i < TAPS_CHECK_OUTPUT_NUMBERS; i++) sum = 31 * sum + output[i];
+    printf("tapped: %u %u %u, output %u\n", a.word, a.one, a.two, sum);
+}
+
 int main(int argc, char **argv) {
     if (argc < 4) return 2;
     for (size_t i = 0; i < sizeof sheets / sizeof *sheets; i++)
@@ -274,5 +316,6 @@ int main(int argc, char **argv) {
         if (argc < 5 || (uint32_t)atoi(argv[4]) == code) run(proved, code), permit(proved, code);
     cure(proved);
     judge_table(proved);
+    tap(proved);
     return 0;
 }

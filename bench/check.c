@@ -895,3 +895,69 @@ channel_check_answer careful_permitted_check(const uint8_t *text, size_t text_le
     memset(scratch, 0, 1024 * 8);
     return a;
 }
+
+/* ------------------------------------------------------------------ two taps */
+
+/* the members are events of the sheet, and none is there twice */
+static int each_once(const uint16_t *list, size_t len, size_t events) {
+    uint64_t seen[W] = {0};
+    for (size_t i = 0; i < len; i++) {
+        if (list[i] >= events || has(seen, list[i])) return 0;
+        mark(seen, 0, list[i]);
+    }
+    return 1;
+}
+
+static void link_list(uint64_t *words, const uint16_t *list, size_t len, size_t events) {
+    for (size_t i = 1; i < len; i++) insert(words, list[i - 1], list[i], 0, events);
+}
+
+/* nothing that is left is before event k */
+static int is_next(const uint64_t *words, const uint64_t *left, size_t k) {
+    for (size_t i = 0; i < W; i++)
+        if (words[k * W + i] & left[i]) return 0;
+    return 1;
+}
+
+/* the lowest event that is left and has nothing left before it; without a circle there is one */
+static size_t next_event(const uint64_t *words, const uint64_t *left) {
+    for (size_t i = 0; i < W; i++)
+        for (uint64_t bits = left[i]; bits; bits &= bits - 1) {
+            size_t k = 64 * i + (size_t)__builtin_ctzll(bits);
+            if (is_next(words, left, k)) return k;
+        }
+    return EVENTS;
+}
+
+static taps_check_answer taps(const uint8_t *text, size_t len, uint64_t *scratch, const uint16_t *first, size_t first_len, const uint16_t *second,
+                              size_t second_len, uint16_t *output) {
+    sheet s;
+    walk w;
+    refusal r = read(text, len, &s, scratch, 0);
+    w.words = scratch;
+    if (!r.number) r = expand(&s, &w, 0);
+    if (r.number) return (taps_check_answer){2, r.number, r.line};
+    size_t events = 2 * w.count;
+    if (!each_once(first, first_len, events)) return (taps_check_answer){2, 20, 1};
+    if (!each_once(second, second_len, events)) return (taps_check_answer){2, 20, 2};
+    link_list(scratch, first, first_len, events);
+    link_list(scratch, second, second_len, events);
+    for (size_t x = 0; x < events; x++)
+        if (test(scratch, x, x)) return (taps_check_answer){1, (uint32_t)x, 0};
+    uint64_t left[W] = {0};
+    for (size_t x = 0; x < events; x++) mark(left, 0, x);
+    for (size_t i = 0; i < events; i++) {
+        size_t k = next_event(scratch, left);
+        output[i] = (uint16_t)k;
+        flip(left, k);
+    }
+    return (taps_check_answer){0, (uint32_t)events, 0};
+}
+
+taps_check_answer careful_taps_check(const uint8_t *text, size_t text_len, uint64_t *scratch, size_t scratch_len, const uint16_t *first,
+                                     size_t first_len, const uint16_t *second, size_t second_len, uint16_t *output, size_t output_len) {
+    if (scratch_len < 1024 || output_len < 512) return (taps_check_answer){2, 2, 0};
+    taps_check_answer a = taps(text, text_len, scratch, first, first_len, second, second_len, output);
+    memset(scratch, 0, 1024 * 8);
+    return a;
+}

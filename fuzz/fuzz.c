@@ -4,7 +4,8 @@
  * trace_check: a byte for a third of the trace's length follows, then the trace, then the text; with bit 4 of the first byte the bytes are
  * not a trace but calls of the monitor. Otherwise the call is permitted_check and senders_check where the first byte has bit 5: a byte for a
  * quarter of the table's length follows, then the table, then the text; cure_sheet where it has bit 4, choice_check where it has bit 3, else
- * channel_check. */
+ * channel_check. Where the first byte has bit 6 it is taps_check, whatever the rest: a byte for each list's length follows, then the lists, a byte
+ * an event, 255 being 65,535, then the text. */
 #define _GNU_SOURCE
 #include "../bench/check.h"
 #include <stdio.h>
@@ -21,6 +22,7 @@ monitor_answer guided_monitor_switch(monitor, uint32_t, const uint8_t *, size_t,
 cure_sheet_answer guided_cure_sheet(const uint8_t *, size_t, uint64_t *, size_t, uint8_t *, size_t);
 senders_check_answer guided_senders_check(const uint8_t *, size_t);
 channel_check_answer guided_permitted_check(const uint8_t *, size_t, uint32_t, uint64_t *, size_t, uint8_t *, size_t, const uint8_t *, size_t);
+taps_check_answer guided_taps_check(const uint8_t *, size_t, uint64_t *, size_t, const uint16_t *, size_t, const uint16_t *, size_t, uint16_t *, size_t);
 int LLVMFuzzerTestOneInput(const uint8_t *data, size_t size);
 
 enum { WORDS = CHANNEL_CHECK_SCRATCH_WORDS, BYTES = CHANNEL_CHECK_TRACE_BYTES, PAINT = 0xa5, AHEAD = 64, ROOM = 1 << 16, GUARD = 1 << 16 };
@@ -37,7 +39,7 @@ static void stop(const char *what, const call *a) {
 /* The proved code is not compiled with the address sanitizer: its buffers end at a page that cannot be touched, and the
  * bytes ahead of them are painted. */
 static uint8_t *guarded(int which, size_t size) {
-    static uint8_t *rooms[4];
+    static uint8_t *rooms[5];
     if (!rooms[which]) {
         rooms[which] = mmap(NULL, ROOM + GUARD, PROT_READ | PROT_WRITE, MAP_PRIVATE | MAP_ANONYMOUS, -1, 0);
         if (rooms[which] == MAP_FAILED || mprotect(rooms[which] + ROOM, GUARD, PROT_NONE) != 0) exit(2);
@@ -205,6 +207,60 @@ static void try_table(const uint8_t *text, size_t len, uint32_t code, size_t wor
     free(exact_table), free(c.text), free(c.scratch), free(c.trace);
 }
 
+/* a list in memory of exact size, from bytes */
+static uint16_t *list_of(const uint8_t *bytes, size_t count) {
+    uint16_t *list = malloc(2 * count);
+    for (size_t i = 0; i < count; i++) list[i] = bytes[i] == 255 ? 65535 : bytes[i];
+    return list;
+}
+
+/* a course holds each event once, and none behind one that a list has behind it */
+static void is_course(const uint16_t *course, size_t events, const uint16_t *list, size_t count, const call *a) {
+    size_t at[512];
+    memset(at, 255, sizeof at);
+    for (size_t i = 0; i < events; i++) {
+        if (course[i] >= events || at[course[i]] != SIZE_MAX) stop("a course with an event twice, or of no sheet", a);
+        at[course[i]] = i;
+    }
+    for (size_t i = 1; i < count; i++)
+        if (at[list[i - 1]] >= at[list[i]]) stop("a course against a list", a);
+}
+
+/* two taps: answer, output and scratch of all three; the header's promise of the buffers */
+static void try_taps(const uint8_t *text, size_t len, size_t words, size_t numbers, const uint8_t *lists, size_t first_len, size_t second_len) {
+    uint8_t *exact_text = memcpy(malloc(len), text, len), *exact_output = memset(malloc(2 * numbers), PAINT, 2 * numbers);
+    uint16_t *first = list_of(lists, first_len), *second = list_of(lists + first_len, second_len);
+    uint64_t *exact = memset(malloc(words * 8), PAINT, words * 8);
+    taps_check_answer c = careful_taps_check(exact_text, len, exact, words, first, first_len, second, second_len, (uint16_t *)exact_output, numbers);
+    for (int is_guided = 0; is_guided < 2; is_guided++) {
+        call a = {.text_len = len, .words = words, .bytes = 2 * numbers};
+        a.text = memcpy(guarded(0, len), text, len);
+        a.scratch = guarded(1, words * 8);
+        a.trace = guarded(2, 2 * numbers);
+        uint8_t *one = memcpy(guarded(3, 2 * first_len), first, 2 * first_len), *two = memcpy(guarded(4, 2 * second_len), second, 2 * second_len);
+        taps_check_answer t = (is_guided ? guided_taps_check : taps_check)(a.text, len, (uint64_t *)a.scratch, words, (uint16_t *)one, first_len, (uint16_t *)two,
+                                                                           second_len, (uint16_t *)a.trace, numbers);
+        size_t cleared = t.word == 2 && t.one == 2 ? 0 : 8 * WORDS, written = t.word == 0 ? 2 * (size_t)t.one : 0;
+        a.answer = (choice_check_answer){t.word, t.one, t.two, 0, 0, 0};
+        if (memcmp(&t, &c, sizeof t) != 0) stop("answer on two taps", &a);
+        if (memcmp(a.trace, exact_output, 2 * numbers) != 0) stop("course of two taps", &a);
+        if (memcmp(a.scratch, exact, words * 8) != 0) stop("scratch behind two taps", &a);
+        if (memcmp(a.text, text, len) != 0 || memcmp(one, first, 2 * first_len) != 0 || memcmp(two, second, 2 * second_len) != 0)
+            stop("what was lent to be read was written to", &a);
+        if (!ahead_painted(a.text) || !ahead_painted(a.scratch) || !ahead_painted(a.trace) || !ahead_painted(one) || !ahead_painted(two))
+            stop("bytes ahead of a buffer", &a);
+        for (size_t i = 0; i < 8 * words; i++)
+            if (a.scratch[i] != (i < cleared ? 0 : PAINT)) stop("scratch bytes behind two taps", &a);
+        for (size_t i = written; i < 2 * numbers; i++)
+            if (a.trace[i] != PAINT) stop("output bytes behind the course", &a);
+        if (t.word == 0) {
+            is_course((uint16_t *)a.trace, t.one, first, first_len, &a);
+            is_course((uint16_t *)a.trace, t.one, second, second_len, &a);
+        }
+    }
+    free(exact_text), free(exact_output), free(exact), free(first), free(second);
+}
+
 int LLVMFuzzerTestOneInput(const uint8_t *data, size_t size) {
     static const uint32_t codes[8] = {0, 1, 2, 3, 4, 5, 6, UINT32_MAX};
     static const size_t words[8] = {WORDS, WORDS, WORDS, WORDS + 1, 2 * WORDS, WORDS, WORDS - 1, 0};
@@ -214,6 +270,14 @@ int LLVMFuzzerTestOneInput(const uint8_t *data, size_t size) {
     if (size < 2) return -1;
     call c = {.choices = data[0] / 8 % 2, .text_len = size - 2, .words = words[data[1] % 8], .bytes = bytes[data[1] / 8 % 8]}, a = c;
     uint32_t code = codes[data[0] % 8];
+    if (data[0] / 64 % 2) {
+        enum { LONG = TAPS_CHECK_OUTPUT_NUMBERS };
+        static const size_t numbers[8] = {LONG, LONG, LONG, LONG + 1, LONG + 9, LONG, LONG - 1, 0};
+        if (size < 4) return -1;
+        size_t rest = size - 4, m = data[2] < rest ? data[2] : rest, n = data[3] < rest - m ? data[3] : rest - m;
+        try_taps(data + 4 + m + n, rest - m - n, c.words, numbers[data[1] / 8 % 8], data + 4, m, n);
+        return 0;
+    }
     if (data[1] > 127) {
         if (size < 3) return -1;
         size_t most = 3 * (size_t)data[2] + data[1] / 64 % 2, length = most < size - 3 ? most : size - 3;

@@ -258,6 +258,32 @@ senders_check_answer senders_check(const uint8_t *table, size_t table_len);
 channel_check_answer permitted_check(const uint8_t *text, size_t text_len, uint32_t code, uint64_t *scratch, size_t scratch_len,
                                      uint8_t *trace, size_t trace_len, const uint8_t *table, size_t table_len);
 
+/* The least length, in 16-bit numbers, of the output that taps_check is lent. */
+#define TAPS_CHECK_OUTPUT_NUMBERS 512
+
+/* word: 0 fit, 1 clash, 2 refused.
+ * fit:     one is how many numbers stand in the output: all events of the sheet.
+ * clash:   one is the lowest event that would have to precede itself.
+ * refused: one is the refusal's number, 2 to 11 or 20; two its line, 0 where the table gives none; for 20 it is 1 or 2, the list.
+ * Numbers that a word does not name are 0. */
+typedef struct {
+    uint32_t word, one, two;
+} taps_check_answer;
+
+/* Says whether two lists of events, each in the order that a probe saw them, fit one course of events of a sheet, and writes it.
+ *
+ * text, scratch         as channel_check's, and so is the scratch at exit. No channel is given, so there is no refusal 1.
+ * first, second         the lists: event numbers (message m has the send 2m and the receive 2m + 1); only read. Any length is taken, 0 too.
+ *                       An event that the sheet has not, or one twice in a list, is refusal 20, behind all others, the first list first.
+ * output, output_len    16-bit numbers for the course; fewer than 512 are refusal 2. Only the first `one` of them change, and only on fit.
+ *
+ * fit: some order of all events obeys "before" and both lists; the one written always takes the lowest event that has nothing left before
+ * it by all three. clash: an event would have to precede itself by "before" and the lists' orders, closed transitively; no lower one would.
+ * All of this is proved for every text and every two lists.
+ */
+taps_check_answer taps_check(const uint8_t *text, size_t text_len, uint64_t *scratch, size_t scratch_len, const uint16_t *first,
+                             size_t first_len, const uint16_t *second, size_t second_len, uint16_t *output, size_t output_len);
+
 #ifdef __cplusplus
 }
 #endif

@@ -14,6 +14,8 @@ mod monitors;
 mod reference;
 #[path = "senders.rs"]
 mod senders;
+#[path = "taps.rs"]
+mod taps;
 #[path = "texts.rs"]
 mod texts;
 #[path = "traces.rs"]
@@ -191,6 +193,7 @@ struct Seen {
     wired: wired::Seen,
     dispatchers: dispatchers::Seen,
     senders: senders::Seen,
+    taps: taps::Seen,
 }
 
 impl Seen {
@@ -210,6 +213,7 @@ impl Seen {
         self.wired.add(&o.wired);
         self.dispatchers.add(&o.dispatchers);
         self.senders.add(&o.senders);
+        self.taps.add(&o.taps);
     }
 
     fn limits_of(&mut self, s: &Scenario) {
@@ -229,6 +233,7 @@ impl Seen {
         self.wired.print();
         self.dispatchers.print();
         self.senders.print();
+        self.taps.print();
         println!("traces replayed {}, free orders taken {}, sheets searched whole {}", self.replayed, self.wandered, self.searched);
     }
 
@@ -236,7 +241,7 @@ impl Seen {
         let eager = [0, 2, 4, 5].iter().all(|c| self.locked[*c] > 0);
         let some = |all: &[u64]| all.iter().all(|n| *n > 0);
         let judged = self.replayed * self.wandered * self.searched > 0;
-        let calls = self.traces.whole() && self.choices.whole() && self.monitors.whole() && self.cures.whole() && self.wired.whole() && self.dispatchers.whole() && self.senders.whole();
+        let calls = self.traces.whole() && self.choices.whole() && self.monitors.whole() && self.cures.whole() && self.wired.whole() && self.dispatchers.whole() && self.senders.whole() && self.taps.whole();
         eager && some(&self.free) && some(&self.refused[1..]) && some(&self.limits) && judged && calls
     }
 }
@@ -305,6 +310,9 @@ fn try_text(r: &mut Random, seen: &mut Seen) {
     }
     if r.one_in(8) {
         senders::try_senders(r, &mut seen.senders, &text);
+    }
+    if r.one_in(8) {
+        taps::try_taps(r, &mut seen.taps, &text);
     }
 }
 

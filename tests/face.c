@@ -2,7 +2,7 @@
  * and scratch, on all eleven refusals and both words, with exact and larger buffers, odd codes and empty text; trace_check on
  * every word and on traces of every length up to two beyond the limit; choice_check on every word, with lists of every length; the
  * monitor; cure_sheet on every refusal, with texts of 512 rows and one row more; the dispatcher's calls; senders_check on every word, and
- * permitted_check on each refusal, in its order. */
+ * permitted_check on each refusal, in its order; and taps_check on every word and refusal, with lists of many lengths. */
 #define _GNU_SOURCE
 #include "../include/channel_check.h"
 #include <stdio.h>
@@ -757,6 +757,133 @@ static void permissions(void) {
         if (!permitted_refused[n] && (n <= 4 || n == 6 || n == 10 || n == 11 || n >= 18)) printf("FAILED: with a table %d never came\n", n), failures++;
 }
 
+/* ------------------------------------------------------------------ taps_check */
+
+static int tap_words[3], tap_refused[21];
+
+typedef struct { const uint16_t *events; size_t count; } list;
+
+#define LIST(...) ((list){(const uint16_t[]){__VA_ARGS__}, sizeof((const uint16_t[]){__VA_ARGS__}) / 2})
+static const list none_seen = {(const uint16_t[]){0}, 0};
+
+static buffer lend_list(list l) {
+    buffer b = lend(2 * l.count);
+    memcpy(b.at, l.events, 2 * l.count);
+    return b;
+}
+
+static void take_list(sheet s, list l, buffer b) {
+    expect(memcmp(b.at, l.events, 2 * l.count) == 0 && painted(b.from, b.at), s, 0, "a list was written to");
+    give_back(b);
+}
+
+/* one call, with a guard page behind text, scratch, lists and output; `course` is the course to be written, where one is */
+static void tap(sheet s, list first, list second, size_t words, size_t numbers, taps_check_answer e, const uint16_t *course) {
+    buffer text = lend(s.len), scratch = lend(words * 8), output = lend(2 * numbers), one = lend_list(first), two = lend_list(second);
+    memcpy(text.at, s.text, s.len);
+    taps_check_answer a = taps_check(text.at, s.len, (uint64_t *)scratch.at, words, (const uint16_t *)one.at, first.count, (const uint16_t *)two.at,
+                                     second.count, (uint16_t *)output.at, numbers);
+    calls++;
+    if (a.word < 3) tap_words[a.word]++;
+    if (a.word == 2 && a.one < 21) tap_refused[a.one]++;
+    if (memcmp(&a, &e, sizeof a) != 0) printf("  expected %u %u %u, got %u %u %u\n", e.word, e.one, e.two, a.word, a.one, a.two);
+    expect(memcmp(&a, &e, sizeof a) == 0, s, 0, "answer on two taps");
+    take_list(s, first, one), take_list(s, second, two);
+    left(s, 0, text, scratch, output, e.word == 2 && e.one == 2, course, e.word == 0 ? 2 * (size_t)e.one : 0);
+}
+
+enum { NUMBERS = TAPS_CHECK_OUTPUT_NUMBERS };
+
+/* on exact and larger buffers, and on each that is too short */
+static void taps_say(sheet s, list first, list second, taps_check_answer e, const uint16_t *course) {
+    taps_check_answer bench = {2, 2, 0};
+    tap(s, first, second, WORDS, NUMBERS, e, course);
+    tap(s, first, second, WORDS + 3, NUMBERS + 5, e, course);
+    tap(s, first, second, 2 * WORDS, 2 * NUMBERS, e, course);
+    tap(s, first, second, WORDS - 1, NUMBERS, bench, NULL);
+    tap(s, first, second, WORDS, NUMBERS - 1, bench, NULL);
+    tap(s, first, second, WORDS + 9, 0, bench, NULL);
+    tap(s, first, second, 0, NUMBERS + 9, bench, NULL);
+}
+
+static void taps_fit(sheet s, list first, list second, list course) {
+    taps_say(s, first, second, (taps_check_answer){0, (uint32_t)course.count, 0}, course.events);
+}
+
+static void taps_clash(sheet s, list first, list second, uint32_t event) { taps_say(s, first, second, (taps_check_answer){1, event, 0}, NULL); }
+
+static void taps_refuse(sheet s, list first, list second, uint32_t number, uint32_t line) {
+    taps_say(s, first, second, (taps_check_answer){2, number, line}, NULL);
+}
+
+/* 256 events, both lists full: the messages from the last to the first, and the same with its first two exchanged */
+static void full_lists(void) {
+    static uint16_t down[256], other[256], long_list[70000];
+    begin(H "S 0 0\n");
+    repeat("M 0 1\n", 128);
+    sheet s = named("256 events", made);
+    for (uint16_t i = 0; i < 256; i++) down[i] = other[i] = (uint16_t)((127 - i / 2) * 2 + i % 2);
+    other[0] = 252, other[2] = 254;
+    taps_fit(s, (list){down, 256}, (list){down, 256}, (list){down, 256});
+    taps_fit(s, (list){down, 256}, none_seen, (list){down, 256});
+    taps_fit(s, none_seen, (list){down, 256}, (list){down, 256});
+    taps_clash(s, (list){down, 256}, (list){other, 256}, 252);
+    for (size_t i = 0; i < 70000; i++) long_list[i] = (uint16_t)(i % 256);
+    taps_refuse(s, (list){long_list, 257}, none_seen, 20, 1);
+    taps_refuse(s, (list){long_list, 256}, (list){long_list, 70000}, 20, 2);
+    taps_refuse(s, (list){long_list, 70000}, (list){long_list, 70000}, 20, 1);
+}
+
+static void taps(void) {
+    sheet none = named("no event", H "S 0 0\n"), two = named("sheet 2", H "S 0 0\nM 0 1\nM 2 1\nP 1 3\n");
+    sheet three = named("three messages", H "S 0 0\nM 0 1\nM 2 3\nM 4 5\n");
+    taps_fit(none, none_seen, none_seen, none_seen);
+    taps_refuse(none, LIST(0), none_seen, 20, 1);
+    taps_refuse(none, none_seen, LIST(0), 20, 2);
+    taps_fit(two, none_seen, none_seen, LIST(0, 1, 2, 3));
+    taps_fit(two, LIST(3), LIST(2), LIST(0, 1, 2, 3));
+    taps_fit(two, LIST(2, 0), none_seen, LIST(2, 0, 1, 3));
+    taps_fit(two, none_seen, LIST(2, 1), LIST(0, 2, 1, 3));
+    taps_fit(two, LIST(0, 1, 2, 3), LIST(0, 1, 2, 3), LIST(0, 1, 2, 3));
+    taps_clash(two, LIST(0, 2), LIST(2, 0), 0);
+    taps_clash(two, LIST(3, 2), none_seen, 2);
+    taps_clash(two, none_seen, LIST(3, 0), 0);
+    taps_fit(three, LIST(4, 2), LIST(2, 0), LIST(4, 2, 0, 1, 3, 5));
+    taps_clash(three, LIST(2, 4, 0), LIST(4, 2), 2); /* 0 is left over behind the circle, and lower */
+    taps_clash(three, LIST(5, 2), LIST(3, 4), 2);    /* neither list alone: 4 5 2 3 4 */
+    taps_clash(three, LIST(0, 1, 3, 2), none_seen, 2);
+    taps_refuse(two, LIST(4), none_seen, 20, 1);
+    taps_refuse(two, none_seen, LIST(4), 20, 2);
+    taps_refuse(two, LIST(4), LIST(4), 20, 1);
+    taps_refuse(two, LIST(0, 0), LIST(65535), 20, 1);
+    taps_refuse(two, LIST(3, 0), LIST(1, 2, 1), 20, 2);
+    taps_refuse(two, LIST(65535), none_seen, 20, 1);
+    taps_refuse(two, none_seen, LIST(256), 20, 2);
+    taps_refuse(two, LIST(0, 1, 2, 3, 0), none_seen, 20, 1);
+    full_lists();
+    for (size_t i = 0; i < sizeof refused / sizeof *refused; i++) {
+        taps_refuse(named(refused[i].name, refused[i].text), none_seen, none_seen, refused[i].number, refused[i].line);
+        taps_refuse(named(refused[i].name, refused[i].text), LIST(0, 0), LIST(65535), refused[i].number, refused[i].line);
+    }
+    taps_refuse(named("5 an A row for two taps", H "S 0 0\nA 0 0\n"), none_seen, none_seen, 5, 3);
+    begin(H "S 0 0\n");
+    repeat("B 0 0\n", 1362);
+    repeat("\n\n", 1);
+    taps_refuse((sheet){"3 length 8,193", made, 8193}, LIST(0), none_seen, 3, 0);
+    begin(H "S 0 0\nC 1 0\nC 1 0\nM 0 0\nS 1 0\n");
+    repeat("M 0 1\n", 64);
+    taps_refuse(named("10 messages", made), LIST(0), none_seen, 10, 5);
+    begin(H "S 0 0\n");
+    repeat("C 1 0\n", 32);
+    repeat("S 1 0\n", 1);
+    repeat("C 2 0\n", 32);
+    repeat("S 2 0\n", 1);
+    taps_refuse(named("9 calls", made), LIST(0), none_seen, 9, 36);
+    for (int n = 2; n < 21; n++)
+        if (!tap_refused[n] && (n < 12 || n == 20)) printf("FAILED: two taps were never refused with %d\n", n), failures++;
+    if (!tap_words[0] || !tap_words[1]) printf("FAILED: two taps never fit, or never clashed\n"), failures++;
+}
+
 int main(void) {
     traces();
     choices();
@@ -765,6 +892,7 @@ int main(void) {
     dispatchers();
     tables();
     permissions();
+    taps();
     words();
     limits();
     refusals();

@@ -713,13 +713,18 @@ pub fn cured(s: &Scenario) -> Vec<Vec<bool>> {
     let n = 2 * s.messages.len();
     let own = |x: usize, y: usize| x % 2 == 0 && y == x + 1;
     let mut order: Vec<Vec<bool>> = (0..n).map(|x| (0..n).map(|y| own(x, y) || (y % 2 == 0 && s.before[x][y])).collect()).collect();
-    for k in 0..n {
+    close(&mut order);
+    order
+}
+
+/// The order, closed transitively.
+fn close(order: &mut [Vec<bool>]) {
+    for k in 0..order.len() {
         let through = order[k].clone();
         for row in order.iter_mut().filter(|row| row[k]) {
             row.iter_mut().zip(&through).for_each(|(a, b)| *a |= b);
         }
     }
-    order
 }
 
 /// The rows of the cured sheet: the M rows, then a P row for each same-board pair of the cured order with no event of any board between
@@ -750,4 +755,66 @@ pub fn cure(sheet: &Result<Scenario, Refusal>, scratch: usize, output: usize) ->
         return Err((15, 0));
     }
     Ok(["kind one two\n", &rows.concat()].concat().into_bytes())
+}
+
+// ---------------------------------------------------------------- request (m): two taps on one machine
+
+pub const NUMBERS_LEAST: usize = 512;
+
+#[derive(Clone, PartialEq, Eq, Debug)]
+pub enum Tapped {
+    Fit(Vec<u16>),
+    Clash(usize),
+    Refused(Refusal),
+}
+
+/// The events are in the sheet, and none is twice in the list.
+fn is_list(s: &Scenario, list: &[u16]) -> bool {
+    list.iter().all(|x| usize::from(*x) < 2 * s.messages.len()) && list.iter().collect::<BTreeSet<_>>().len() == list.len()
+}
+
+/// What is sooner than what: by "before", and by each list for all its pairs.
+pub fn sooner(s: &Scenario, lists: [&[u16]; 2]) -> Vec<Vec<bool>> {
+    let mut order = s.before.clone();
+    for list in lists {
+        for (i, x) in list.iter().enumerate() {
+            list[i + 1..].iter().for_each(|y| order[usize::from(*x)][usize::from(*y)] = true);
+        }
+    }
+    order
+}
+
+/// All events: always the lowest that has nothing left before it. None where there is no such event.
+fn course(order: &[Vec<bool>]) -> Option<Vec<u16>> {
+    let n = order.len();
+    let mut left: Vec<bool> = vec![true; n];
+    let mut course = Vec::new();
+    for _ in 0..n {
+        let next = (0..n).find(|k| left[*k] && !(0..n).any(|x| left[x] && order[x][*k]))?;
+        left[next] = false;
+        course.push(next as u16);
+    }
+    Some(course)
+}
+
+/// The answer on two taps: 2 for the scratch or the output, then the sheet's refusal, then 20, the first list first.
+pub fn tapped(sheet: &Result<Scenario, Refusal>, scratch: usize, lists: [&[u16]; 2], output: usize) -> Tapped {
+    if scratch < SCRATCH_LEAST || output < NUMBERS_LEAST {
+        return Tapped::Refused((2, 0));
+    }
+    let s = match sheet {
+        Ok(s) => s,
+        Err(refusal) => return Tapped::Refused(*refusal),
+    };
+    if let Some(wrong) = lists.iter().position(|list| !is_list(s, list)) {
+        return Tapped::Refused((20, wrong as u32 + 1));
+    }
+    let mut order = sooner(s, lists);
+    match course(&order) {
+        Some(course) => Tapped::Fit(course),
+        None => {
+            close(&mut order);
+            Tapped::Clash((0..order.len()).find(|x| order[*x][*x]).expect("no course, and no circle"))
+        }
+    }
 }

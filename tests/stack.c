@@ -15,6 +15,7 @@ static size_t len;
 static uint64_t scratch[CHANNEL_CHECK_SCRATCH_WORDS];
 static uint8_t trace[CHANNEL_CHECK_TRACE_BYTES], output[CURE_SHEET_OUTPUT_BYTES];
 static const char table[] = "from to verdict\n65535 32768 1\n65535 32767 0\n"; /* all may send to board 15 alone */
+static uint16_t down[CHANNEL_CHECK_SCRATCH_WORDS / 4], course[TAPS_CHECK_OUTPUT_NUMBERS]; /* all events, the last first */
 static uint32_t code;
 static channel_check_answer answer;
 static uint8_t sheets[DISPATCHER_PLACES * DISPATCHER_SHEET_BYTES];
@@ -33,6 +34,8 @@ static void *run(void *unused) {
     senders_check((const uint8_t *)table, sizeof table - 1);
     permitted_check((const uint8_t *)text, len, code, scratch, CHANNEL_CHECK_SCRATCH_WORDS, trace, CHANNEL_CHECK_TRACE_BYTES, (const uint8_t *)table, sizeof table - 1);
     cure_sheet((const uint8_t *)text, len, scratch, CHANNEL_CHECK_SCRATCH_WORDS, output, CURE_SHEET_OUTPUT_BYTES);
+    taps_check((const uint8_t *)text, len, scratch, CHANNEL_CHECK_SCRATCH_WORDS, down, 0, down, 0, course, TAPS_CHECK_OUTPUT_NUMBERS);
+    taps_check((const uint8_t *)text, len, scratch, CHANNEL_CHECK_SCRATCH_WORDS, down, sizeof down / 2, down, sizeof down / 2, course, TAPS_CHECK_OUTPUT_NUMBERS);
     return unused;
 }
 
@@ -117,6 +120,7 @@ static void measure(void (*make)(int), int refused) {
 
 int main(int argc, char **argv) {
     size_t most = argc > 1 ? (size_t)atol(argv[1]) : 32768, counters = argc > 2 ? (size_t)atol(argv[2]) : 32768;
+    for (size_t i = 0; i < sizeof down / 2; i++) down[i] = (uint16_t)(sizeof down / 2 - 1 - i);
     for (int refused = 0; refused < 2; refused++) {
         measure(levels, refused);
         measure(messages, refused);

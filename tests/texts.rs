@@ -464,3 +464,18 @@ pub fn table(r: &mut Random) -> Vec<u8> {
     }
     text
 }
+
+/// A text for two taps: mostly small sheets, some of 128 messages with few orders or many.
+pub fn tap_text(r: &mut Random) -> Vec<u8> {
+    let mut rows = vec![('S', 0, 0)];
+    match r.below(24) {
+        0 => rows = large(r),
+        1 => chained(r, &mut rows),
+        2 => {
+            let (boards, orders) = (1 + r.below(16), *r.pick(&[0, 10, 100]));
+            block(r, &mut rows, 128, boards, orders);
+        }
+        _ => rows = small(r),
+    }
+    write(r, &rows)
+}

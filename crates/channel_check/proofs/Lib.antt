@@ -3,3 +3,4 @@ mod Small
 mod Cured
 mod Desk
 mod Judged
+mod Fitted

@@ -1,3 +1,5 @@
 pub mod Numbers
+pub mod Pair
 pub mod Cures
 pub mod Tables
+pub mod Tapped

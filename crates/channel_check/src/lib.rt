@@ -9,6 +9,7 @@ ghost use Rattle.model.specs.Cure.{CureChecked};
 ghost use Rattle.model.specs.Dispatcher as desks;
 ghost use Rattle.model.specs.Dispatcher.{admit, turn, cancel, Serves};
 ghost use Rattle.model.specs.Senders.{TableJudged, PermittedCheck};
+ghost use Rattle.model.specs.Taps.{TapsChecked};
 ghost use Rattle.choice.specs.Bridge as chosen;
 ghost use Rattle.dispatcher.specs.Bridge as desk;
 ghost use Rattle.dispatcher.specs.Bridge.{deskIn, Holds, emptied, lent};
@@ -18,8 +19,10 @@ ghost use Rattle.verdict.specs.Parts.{numbersFor};
 ghost use Rattle.channel_check.specs.Numbers.{Small, numbersIn};
 ghost use Rattle.channel_check.specs.Cures as cured;
 ghost use Rattle.channel_check.specs.Tables as judged;
+ghost use Rattle.channel_check.specs.Tapped as fitted;
 pub use crate::cures::CureSheetAnswer;
 pub use crate::tables::SendersCheckAnswer;
+pub use crate::tapped::TapsCheckAnswer;
 use choice::ChoiceCheckAnswer;
 use dispatcher::Dispatcher;
 use dispatcher::DispatcherAnswer;
@@ -30,6 +33,7 @@ use verdict::Answer;
 
 mod cures;
 mod tables;
+mod tapped;
 
 // The answer as C gets it: word 0 free, 1 locked, 2 refused.
 #[repr(C)]
@@ -225,4 +229,18 @@ pub extern "C" fn permitted_check(
     ensures { λ r. ⌜ PermittedCheck (now (text .entry)) code (now (scratch .entry)) (now (scratch .exit)) (now (trace .entry)) (now (trace .exit)) (now (table .entry)) (numbersIn r) ⌝ }
 {
     numbers(permitted::check(text, code, scratch, trace, table))
+}
+
+// One course of events for two lists of events, or the event that would have to precede itself: any text, any lists, any lengths.
+#[no_mangle]
+pub extern "C" fn taps_check(
+    text: &[u8],
+    scratch: &mut [u64],
+    first: &[u16],
+    second: &[u16],
+    output: &mut [u16],
+) -> TapsCheckAnswer
+    ensures { λ r. ⌜ TapsChecked (now (text .entry)) (now (scratch .entry)) (now (scratch .exit)) (now (first .entry)) (now (second .entry)) (now (output .entry)) (now (output .exit)) (fitted.numbersIn r) ⌝ }
+{
+    tapped::told(taps::fit(text, scratch, first, second, output))
 }

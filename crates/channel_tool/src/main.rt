@@ -42,6 +42,15 @@ fn print_usage() {
         STDERR_FILENO,
         b"       channel_tool counter SHEETFILE:CODE ...\n",
     );
+    io::write_all(STDERR_FILENO, b"       channel_tool senders TABLE\n");
+    io::write_all(
+        STDERR_FILENO,
+        b"       channel_tool permitted CODE TABLE < SHEET\n",
+    );
+    io::write_all(
+        STDERR_FILENO,
+        b"       channel_tool taps LIST LIST < SHEET\n",
+    );
 }
 
 // The words that name a channel code behind them.
@@ -85,6 +94,10 @@ fn main() {
         counter_report::run();
     } else if check::same(word, b"senders") {
         tables::judge();
+    } else if check::same(word, b"taps") {
+        let mut text = [0u8; MOST];
+        let n = io::read_full(STDIN_FILENO, &mut text);
+        tap_report::print_taps(&text[..n]);
     } else {
         match arguments::code_in(2) {
             Code::Missing => print_usage(),

@@ -121,16 +121,13 @@ module _ (words left : List ℕ) (w : ℕ) where
         small = small;
       }
 
-  module _ (bits : ℕ) (t : Trying bits) (z : bits ≡ 0 → ⊥) where
-    -- the lowest bit left to be tried
-    abbrev bit : ℕ
-    bit = trailingZeros wordBits bits
-
+  -- with the lowest bit left to be tried
+  module _ (bits bit : ℕ) (is : bit ≡ trailingZeros wordBits bits) (t : Trying bits) (z : bits ≡ 0 → ⊥) where
     pub bit-below : bit < wordBits
-    bit-below = trailing-below wordBits bits (t .small) z
+    bit-below = subst⁻¹ (λ (b : ℕ). b < wordBits) is (trailing-below wordBits bits (t .small) z)
 
     bit-set : has bits bit ≡ true
-    bit-set = trailing-set wordBits bits (t .small) z
+    bit-set = subst⁻¹ (λ (b : ℕ). has bits b ≡ true) is (trailing-set wordBits bits (t .small) z)
 
     pub trying-found : (r : Bool) → r ≡ nothingLeft words left (wordBits * w + bit) → r ≡ true → w < width → FreeInWord words left w (wordBits * w + bit)
     unfolding isFree
@@ -141,7 +138,7 @@ module _ (words left : List ℕ) (w : ℕ) where
           absent = λ j from to below.
               let at : wordBits * w + (j - wordBits * w) ≡ j = omega arith in
               subst (λ (k : ℕ). isFree words left k ≡ false) at
-              (t .passed (j - wordBits * w) (omega arith) (trailing-clear wordBits bits (j - wordBits * w) (omega arith)));
+              (t .passed (j - wordBits * w) (omega arith) (trailing-clear wordBits bits (j - wordBits * w) (omega (arith, is))));
           most = omega arith;
         }
 

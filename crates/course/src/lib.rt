@@ -3,6 +3,7 @@ ghost use mathlib.Core.Path.{_≡_};
 ghost use mathlib.Core.Bool.{true};
 ghost use mathlib.Core.List.{_++_};
 ghost use Prim.Native.Nat.{_+_, _*_, _<_, _≤_};
+ghost use lib.Count.{trailingZeros};
 ghost use lib.ListN.{length, drop};
 ghost use Rattle.model.specs.Taps.{eachOnce, courseOf};
 ghost use Rattle.relation.specs.Width.{width, wordBits};
@@ -80,6 +81,20 @@ fn is_free(words: &[u64], left: &[u64], k: usize) -> bool
     true
 }
 
+// A count of bits, as an index.
+fn index_of(count: u32) -> usize
+    ensures { λ r. ⌜ r ≡ count ⌝ }
+{
+    count as usize
+}
+
+// The lowest bit that is set.
+fn lowest_bit(bits: u64) -> usize
+    ensures { λ r. ⌜ r ≡ trailingZeros wordBits bits ⌝ }
+{
+    index_of(u64::trailing_zeros(bits))
+}
+
 // The lowest event of word w that is left and has nothing left before it; where there is none, the bits of a row.
 fn free_in_word(words: &[u64], left: &[u64], w: usize) -> usize
     requires { ⌜ wordBits * width * width ≤ length (now words) ⌝ }
@@ -88,7 +103,7 @@ fn free_in_word(words: &[u64], left: &[u64], w: usize) -> usize
 {
     let mut bits = left[w];
     while bits != 0 {
-        let bit = u64::trailing_zeros(bits) as usize;
+        let bit = lowest_bit(bits);
         let k = WORD_BITS * w + bit;
         if is_free(words, left, k) {
             return k;

@@ -36,13 +36,17 @@ use Rattle.taps.specs.Parts.{numbersFor, Lent, Decides, DecidesFor}
 pub lent-room : (count : ℕ) (words output : List ℕ) → Lent count words output → Room (2 * count) words
 lent-room count words output L = record { rows = omega (arith, L .few, L .wordsLong); bits = omega (arith, L .few) }
 
--- and still have it when the first list is linked
-pub lent-room-first : (count : ℕ) (words output first : List ℕ) → Lent count words output → eachOnce (2 * count) first ≡ true → (once : List ℕ)
-    → once ≡ linkedBy width (2 * count) first words → Room (2 * count) once
-lent-room-first count words output first L firstOnce once e =
-    let R = lent-room count words output L in
-    let K = linked-by (2 * count) words R (L .closed) first firstOnce in
-    subst⁻¹ (Room (2 * count)) e (record { rows = omega (arith, R .rows, K .long); bits = R .bits })
+-- and still have it when a list is linked
+pub room-linked : (events : ℕ) (words list : List ℕ) → Room events words → Transitive events (before width words) → eachOnce events list ≡ true
+    → (once : List ℕ) → once ≡ linkedBy width events list words → Room events once
+room-linked events words list R closed listOnce once e =
+    let K = linked-by events words R closed list listOnce in
+    subst⁻¹ (Room events) e (record { rows = omega (arith, R .rows, K .long); bits = R .bits })
+
+-- one list behind the other
+pub both-linked : (events : ℕ) (words first second once twice : List ℕ) → once ≡ linkedBy width events first words
+    → twice ≡ linkedBy width events second once → twice ≡ linkedBy width events second (linkedBy width events first words)
+both-linked events words first second once twice e d = d ∙ ap (linkedBy width events second) e
 
 -- what the model says of a scenario by what the search for a circle finds
 module _ (first second : List ℕ) (S : Scenario) where
@@ -95,13 +99,10 @@ list-stands n list r e t = sym e ∙ not-false r t
 
 -- Both linked: what the search for a circle finds decides.
 module _ (count : ℕ) (words output first second : List ℕ) (lent : Lent count words output) (firstOnce : eachOnce (2 * count) first ≡ true)
-    (secondOnce : eachOnce (2 * count) second ≡ true) (once twice : List ℕ) (e : once ≡ linkedBy width (2 * count) first words)
-    (d : twice ≡ linkedBy width (2 * count) second once) where
+    (secondOnce : eachOnce (2 * count) second ≡ true) (twice : List ℕ)
+    (is-linked : twice ≡ linkedBy width (2 * count) second (linkedBy width (2 * count) first words)) where
   abbrev linked : List ℕ
   linked = linkedBy width (2 * count) second (linkedBy width (2 * count) first words)
-
-  is-linked : twice ≡ linked
-  is-linked = d ∙ ap (linkedBy width (2 * count) second) e
 
   pub linked-long : length twice ≡ length words
   linked-long =

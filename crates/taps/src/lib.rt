@@ -8,6 +8,8 @@ ghost use Rattle.model.specs.Refusal.{andThen};
 ghost use Rattle.model.specs.Answer.{sheetOf};
 ghost use Rattle.model.specs.Taps.{eachOnce, withLists, TapsChecked};
 ghost use Rattle.relation.specs.Width.{width};
+ghost use Rattle.relation.specs.Order.{before, Transitive};
+ghost use Rattle.course.specs.Links.{Room, linkedBy};
 ghost use Rattle.taps.specs.Parts.{numbersFor, Decides, DecidesFor, Lent};
 use expansion::Expanded;
 use relation::Found;
@@ -20,7 +22,20 @@ pub enum Answer {
     Refused(u8, usize),
 }
 
-// The links of both lists go into the relation: a circle is a clash, and without one the course goes into the output.
+// The links of both lists go into the relation.
+fn link_both(words: &mut [u64], count: usize, first: &[u16], second: &[u16])
+    requires { ⌜ Room (2 * count) (now words) ⌝ }
+    requires { ⌜ Transitive (2 * count) (before width (now words)) ⌝ }
+    requires { ⌜ eachOnce (2 * count) (now first) ≡ true ⌝ }
+    requires { ⌜ eachOnce (2 * count) (now second) ≡ true ⌝ }
+    ensures { λ _. ⌜ now (words .exit) ≡ linkedBy width (2 * count) (now (second .entry)) (linkedBy width (2 * count) (now (first .entry)) (now (words .entry))) ⌝ }
+{
+    let events = 2 * count;
+    course::link(words, first, events);
+    course::link(words, second, events);
+}
+
+// With the links of both lists in the relation a circle is a clash, and without one the course goes into the output.
 fn fit_both(
     words: &mut [u64],
     count: usize,
@@ -34,8 +49,7 @@ fn fit_both(
     ensures { λ r. ⌜ DecidesFor count (now (words .entry)) (now (first .entry)) (now (second .entry)) (now (output .entry)) (now (output .exit)) r ⌝ }
 {
     let events = 2 * count;
-    course::link(words, first, events);
-    course::link(words, second, events);
+    link_both(words, count, first, second);
     match relation::lowest_own(words, events) {
         Found::Event(x) => Answer::Clash(x),
         Found::Nothing => {

@@ -20,22 +20,20 @@ shared-slice-read-bits c = search needs
 loop-holds : tie.Need-loop-holds Inv-loop μ-loop
 loop-holds c = trying-start _ _ _ (c .shared-slice-known3 .given _ .fits)
 
-cast-bit : tie.Need-cast-bit Inv-loop μ-loop
-cast-bit c =
-    let few = bit-below _ _ _ _ (c .before .loop .inv) (c .loop-test .taken) in
-    record { fits = omega arith }
+lowest-bit-requires : tie.Need-lowest-bit-requires Inv-loop μ-loop
+lowest-bit-requires c κs = search needs
 
 mul-k : tie.Need-mul-k Inv-loop μ-loop
 mul-k c = search needs
 
 add-k : tie.Need-add-k Inv-loop μ-loop
 add-k c =
-    let few = bit-below _ _ _ _ (c .before .loop .inv) (c .loop-test .taken) in
+    let few = bit-below _ _ _ _ _ (c .lowest-bit .ensures) (c .before .before .loop .inv) (c .before .loop-test .taken) in
     record { fits = omega arith }
 
 is-free-requires : tie.Need-is-free-requires Inv-loop μ-loop
 is-free-requires c κs =
-    let few = bit-below _ _ _ _ (c .before .loop .inv) (c .loop-test .taken) in
+    let few = bit-below _ _ _ _ _ (c .lowest-bit .ensures) (c .before .before .loop .inv) (c .before .loop-test .taken) in
     (omega arith, search needs)
 
 returns : tie.Need-returns Inv-loop μ-loop
@@ -43,7 +41,7 @@ returns c = search trying-found
 
 shl-bits : tie.Need-shl-bits Inv-loop μ-loop
 shl-bits c =
-    let few = bit-below _ _ _ _ (c .before .before .before .loop .inv) (c .before .before .loop-test .taken) in
+    let few = bit-below _ _ _ _ _ (c .before .before .lowest-bit .ensures) (c .before .before .before .before .loop .inv) (c .before .before .before .loop-test .taken) in
     omega arith
 
 loop-less : tie.Need-loop-less Inv-loop μ-loop
@@ -67,7 +65,7 @@ free-in-word-spec =
     mul-bits
     shared-slice-read-bits
     loop-holds
-    cast-bit
+    lowest-bit-requires
     mul-k
     add-k
     is-free-requires

@@ -43,7 +43,7 @@ insert-requires c κs =
     let linked = turn .before .loop .inv in
     let x = member-fits _ _ _ _ _ _ _ (s .pre .0) (s .pre .1) linked (omega arith) (c .before .before .before .wide .ensures) in
     let y = member-fits _ _ _ _ _ _ _ (s .pre .0) (s .pre .1) linked (turn .loop-test .taken) (c .before .wide2 .ensures) in
-    (x .1, (y .1, (omega (arith, s .pre .0 .rows, linked .long), (x .0, y .0))))
+    (search (x .1, y .1), (search (x .1, y .1), (omega (arith, s .pre .0 .rows, linked .long), (search (x .0, y .0), search (x .0, y .0)))))
 
 add-i : tie.Need-add-i Inv-loop μ-loop
 add-i c = search needs

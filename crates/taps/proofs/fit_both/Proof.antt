@@ -1,6 +1,5 @@
 -- `taps::fit_both` meets its contract: what the search for a circle finds decides. Assumes nothing.
-use Rattle.taps.proofs.Deciding.{lent-room, lent-room-first, linked-long, clashes, fits-without-circle, fits}
-use borrow.Author.Needs.{needs}
+use Rattle.taps.proofs.Deciding.{lent-room, linked-long, clashes, fits-without-circle, fits}
 use borrow.Author.Needs.{needs}
 use native.Mathlib.Omega.{arith}
 use Rattle.taps.proofs.fit_both.Statement.{statement}
@@ -9,19 +8,14 @@ use Rattle.taps.proofs.fit_both.Tie as tie
 mul-events : tie.Need-mul-events
 mul-events c = search needs
 
-link-requires : tie.Need-link-requires
-link-requires c κs = (search lent-room, search needs)
-
-link-requires-2 : tie.Need-link-requires-2
-link-requires-2 c κs =
-    let s = c .before .before .before .before .before .before .before .before .before in
-    (lent-room-first _ _ _ _ (s .pre .0) (s .pre .1 .0) _ (c .before .before .before .link .ensures), s .pre .1 .1)
+link-both-requires : tie.Need-link-both-requires
+link-both-requires c κs = (search lent-room, (search needs, (search needs, search needs)))
 
 lowest-own-requires : tie.Need-lowest-own-requires
 lowest-own-requires c κs =
     let called = c .before .before .before in
-    let s = called .before .before .before .before .before .before .before .before .before .before in
-    let long = linked-long _ _ _ _ _ (s .pre .0) (s .pre .1 .0) (s .pre .1 .1) _ _ (called .before .before .before .before .link .ensures) (called .link2 .ensures) in
+    let s = called .before .before .before .before .before .before in
+    let long = linked-long _ _ _ _ _ (s .pre .0) (s .pre .1 .0) (s .pre .1 .1) _ (called .link-both .ensures) in
     let room = lent-room _ _ _ (s .pre .0) in
     (omega arith, omega arith)
 
@@ -35,13 +29,13 @@ write-course-requires : tie.Need-write-course-requires
 write-course-requires c κs =
     let found = c .before .before .before .before in
     let called = found .before .before .before .before in
-    let s = called .before .before .before .before .before .before .before .before .before .before in
-    let long = linked-long _ _ _ _ _ (s .pre .0) (s .pre .1 .0) (s .pre .1 .1) _ _ (called .before .before .before .before .link .ensures) (called .link2 .ensures) in
+    let s = called .before .before .before .before .before .before in
+    let long = linked-long _ _ _ _ _ (s .pre .0) (s .pre .1 .0) (s .pre .1 .1) _ (called .link-both .ensures) in
     let room = lent-room _ _ _ (s .pre .0) in (
       omega arith,
       (
         (omega arith, omega arith),
-        fits-without-circle _ _ _ _ _ (s .pre .0) (s .pre .1 .0) (s .pre .1 .1) _ _ (called .before .before .before .before .link .ensures) (called .link2 .ensures) _ (found .lowest-own .ensures) (c .before .before .enum-told .given .1),
+        fits-without-circle _ _ _ _ _ (s .pre .0) (s .pre .1 .0) (s .pre .1 .1) _ (called .link-both .ensures) _ (found .lowest-own .ensures) (c .before .before .enum-told .given .1),
       ),
     )
 
@@ -65,8 +59,7 @@ fit-both-spec =
     tie.close
     (tie.spec
     mul-events
-    link-requires
-    link-requires-2
+    link-both-requires
     lowest-own-requires
     enum-known-x
     enum-told

@@ -23,7 +23,7 @@ fn add_message(words: &mut [u64], m: usize)
 }
 
 // `P x y`, in a block of so many messages: where y is before x, the row would put x before itself; else x is put before y.
-fn add_order(words: &mut [u64], messages: usize, x: u8, y: u8) -> bool
+fn add_order(words: &mut [u64], messages: usize, x: u16, y: u16) -> bool
     requires { ⌜ (length (now words) ≡ 2 * messagesMost * width) × (messages ≤ messagesMost) × (x < 2 * messages) × (y < 2 * messages) ⌝ }
     ensures { λ r. ⌜ NotedAs (now (words .entry)) messages (order x y) (now (words .exit)) r ⌝ }
 {
@@ -37,7 +37,7 @@ fn add_order(words: &mut [u64], messages: usize, x: u8, y: u8) -> bool
 }
 
 // A row that has its place, in a block of so many messages: whether it puts an event before itself; and the order behind it.
-pub fn note(kind: u8, one: u8, two: u8, messages: usize, words: &mut [u64]) -> bool
+pub fn note(kind: u8, one: u16, two: u16, messages: usize, words: &mut [u64]) -> bool
     requires { ⌜ (length (now words) ≡ 2 * messagesMost * width) × (messages ≤ messagesMost) × Within messages (rowFrom kind one two) ⌝ }
     ensures { λ r. ⌜ NotedAs (now (words .entry)) messages (rowFrom kind one two) (now (words .exit)) r ⌝ }
 {

@@ -13,7 +13,7 @@ ghost use Rattle.blocks.specs.Room.{Room};
 pub const PAST: usize = model::BOARDS * WIDTH;
 
 // Message m is met, from board a to board b: both events are behind their board's past, and the receive behind its send.
-pub fn add_message(boards: &mut [u8], words: &mut [u64], past: &[u64], m: usize, a: u8, b: u8)
+pub fn add_message(boards: &mut [u8], words: &mut [u64], past: &[u64], m: usize, a: u16, b: u16)
     requires { ⌜ length (now boards) ≡ 2 * messagesMost ⌝ }
     requires { ⌜ length (now words) ≡ 2 * messagesMost * width ⌝ }
     requires { ⌜ length (now past) ≡ boardsMost * width ⌝ }
@@ -24,8 +24,8 @@ pub fn add_message(boards: &mut [u8], words: &mut [u64], past: &[u64], m: usize,
 {
     let send = 2 * m;
     let receive = send + 1;
-    boards[send] = a;
-    boards[receive] = b;
+    boards[send] = a as u8;
+    boards[receive] = b as u8;
     relation::copy_from(words, send, past, a as usize);
     relation::copy_from(words, receive, past, b as usize);
     relation::join(words, receive, send);
@@ -33,7 +33,7 @@ pub fn add_message(boards: &mut [u8], words: &mut [u64], past: &[u64], m: usize,
 }
 
 // A P row is met: its events are numbered from the open block's first message on.
-pub fn add_order(words: &mut [u64], first: usize, count: usize, x: u8, y: u8)
+pub fn add_order(words: &mut [u64], first: usize, count: usize, x: u16, y: u16)
     requires { ⌜ length (now words) ≡ 2 * messagesMost * width ⌝ }
     requires { ⌜ count ≤ messagesMost ⌝ }
     requires { ⌜ (2 * first + x < 2 * count) × (2 * first + y < 2 * count) ⌝ }

@@ -11,7 +11,7 @@ use sheet::Verdict;
 const PASSED_MOST: usize = (model::CALLS_MOST + 1) * (ROWS_MOST + 1);
 
 // The option of A row k: its number, its line and the sheet that it takes.
-fn print_option(k: u32, row: usize, sheet: u8) {
+fn print_option(k: u32, row: usize, sheet: u16) {
     report::print(b"A row ");
     report::print_decimal(k);
     report::print(b", line ");
@@ -27,7 +27,7 @@ fn wide(row: u16) -> usize {
 }
 
 // Where the rows of a sheet begin.
-fn begins(start: &[u16; SHEETS], sheet: u8) -> usize {
+fn begins(start: &[u16; SHEETS], sheet: u16) -> usize {
     let at = sheet as usize % SHEETS;
     wide(start[at])
 }
@@ -86,7 +86,14 @@ fn passed(place: Place, at: usize) -> Place {
 }
 
 // The place behind a row that is read as letter and sheets. An A row prints its option.
-fn step(place: Place, letter: u8, one: u8, two: u8, start: &[u16; SHEETS], choices: u32) -> Place {
+fn step(
+    place: Place,
+    letter: u8,
+    one: u16,
+    two: u16,
+    start: &[u16; SHEETS],
+    choices: u32,
+) -> Place {
     let at = place.row % ROWS_MOST;
     let met = place.met % 64;
     if letter == b'A' {
@@ -106,8 +113,8 @@ fn step(place: Place, letter: u8, one: u8, two: u8, start: &[u16; SHEETS], choic
 // The options of a list, as the walk meets its A rows. The rows and the list are those of a file that was answered.
 fn print_options(
     kind: &[u8; ROWS_MOST],
-    one: &[u8; ROWS_MOST],
-    two: &[u8; ROWS_MOST],
+    one: &[u16; ROWS_MOST],
+    two: &[u16; ROWS_MOST],
     rows: usize,
     start: &[u16; SHEETS],
     length: u32,
@@ -132,8 +139,8 @@ fn print_options(
 // The rows again, for the options of the list.
 fn print_list(text: &[u8], length: u32, choices: u32) {
     let mut kind = [0u8; ROWS_MOST];
-    let mut one = [0u8; ROWS_MOST];
-    let mut two = [0u8; ROWS_MOST];
+    let mut one = [0u16; ROWS_MOST];
+    let mut two = [0u16; ROWS_MOST];
     let mut start = [0u16; SHEETS];
     let mut words = [0u64; model::SCRATCH_LEAST];
     match sheet::read(

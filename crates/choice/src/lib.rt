@@ -74,8 +74,8 @@ fn decide_list(
 // The first locked list is walked once more, for its steps.
 fn lock_list(
     kind: &[u8],
-    one: &[u8],
-    two: &[u8],
+    one: &[u16],
+    two: &[u16],
     count: usize,
     start: &[u16],
     list: usize,
@@ -102,8 +102,8 @@ fn lock_list(
 // The rows: all lists are walked; the trace is written when none was refused, for the first locked one.
 fn judge_lists(
     kind: &[u8],
-    one: &[u8],
-    two: &[u8],
+    one: &[u16],
+    two: &[u16],
     count: usize,
     start: &[u16],
     code: usize,
@@ -146,8 +146,8 @@ fn judge(text: &[u8], code: usize, words: &mut [u64], trace: &mut [u8]) -> Choic
     ensures { λ r. ⌜ Judged (choiceAnswerFor (readWith true (now (text .entry))) code) (now (trace .entry)) (now (trace .exit)) r ⌝ }
 {
     let mut kind = [0u8; model::ROWS_MOST];
-    let mut one = [0u8; model::ROWS_MOST];
-    let mut two = [0u8; model::ROWS_MOST];
+    let mut one = [0u16; model::ROWS_MOST];
+    let mut two = [0u16; model::ROWS_MOST];
     let mut start = [0u16; model::SHEETS];
     let mut boards = [0u8; model::EVENTS_MOST];
     let verdict = sheet::read(text, true, &mut kind, &mut one, &mut two, &mut start, words);

@@ -58,8 +58,8 @@ fn first_locked(
 // Every list is walked; a refusal ends it at once, as it is the first refused list's.
 pub fn walk_lists(
     kind: &[u8],
-    one: &[u8],
-    two: &[u8],
+    one: &[u16],
+    two: &[u16],
     count: usize,
     start: &[u16],
     code: usize,

@@ -15,6 +15,7 @@ use borrow.Author.Tests.{eq-eqb, ne-eqb}
 use Rattle.model.specs.Limits.{messagesMost}
 use Rattle.model.specs.Limits as limits
 use Rattle.model.specs.Bounded.{every, any}
+use Rattle.model.proofs.Lists.{replicate-at}
 use Rattle.model.proofs.Bounded.{any-from, any-some, both-ways}
 use Rattle.relation.specs.Width.{width, wordBits}
 use Rattle.relation.specs.Rows.{has, holds, joinedFrom, copiedFrom}
@@ -62,11 +63,7 @@ module _ (words : List ℕ) (count e : ℕ) where
   hiding-start = record { exact = λ x h. alone-row width (replicate width 0) x ∙ zero-word (x / wordBits) (x % wordBits) ∙ sym (none-yet x); long = refl; most = omega arith }
     where
       zero-word : (i b : ℕ) → has (getD (replicate width 0) i 0) b ≡ false
-      zero-word zero b = has-zero b
-      zero-word (suc zero) b = has-zero b
-      zero-word (suc (suc zero)) b = has-zero b
-      zero-word (suc (suc (suc zero))) b = has-zero b
-      zero-word (suc (suc (suc (suc i)))) b = has-zero b
+      zero-word i b = ap (λ (w : ℕ). has w b) (replicate-at width i 0) ∙ has-zero b
 
   pub hiding-more : (k : ℕ) (hidden exit : List ℕ) → Hiding k hidden → exit ≡ hiddenBy words e k hidden → k < count → Hiding (k + 1) exit
   unfolding hiddenBy

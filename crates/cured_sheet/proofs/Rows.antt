@@ -1,5 +1,5 @@
 -- The rows are written one behind the other, and there is room for all. Assumes nothing.
-use mathlib.Core.Path.{_≡_, refl, sym, _∙_, ap, subst, subst⁻¹}
+use mathlib.Core.Path.{_≡_, refl, sym, _∙_, ap, subst, subst⁻¹, subst₂}
 use mathlib.Core.Bool.{Bool, true, false, not}
 use mathlib.Core.List.{List, [], _∷_, _++_, append-nil, append-assoc}
 use Prim.Native.Nat.{ℕ, zero, suc, _+_, _*_, _-_, _<_, _≤_}
@@ -16,7 +16,7 @@ use Rattle.relation.specs.Rows.{holds}
 use Rattle.sheet_text.specs.Writing.{Writes, rowOf, rowBytesMost, headingBytes}
 use Rattle.sheet_text.proofs.Putting.{restFrom, withRest, writes-same, rest-written, rest-room, row-few, writes-none}
 use Rattle.covers.specs.Covers.{ordersFrom, ordersTo}
-use Rattle.cured_sheet.specs.Sheet.{messagesIn, orderIf, sheetRow, headText, listedText, headMost, rowsIn, textIn}
+use Rattle.cured_sheet.specs.Sheet.{messageRow, messagesIn, orderIf, sheetRow, headText, listedText, headMost, rowsIn, textIn}
 
 rows-append : (rs ks : List Written) → rowsText (rs ++ ks) ≡ rowsText rs ++ rowsText ks
 unfolding rowsText
@@ -47,6 +47,11 @@ rowed-more a b l now rest at m rows more r w few =
     let whole = rest-written a b l now rest at m (r .written) w in
     record { written = whole; few = omega (arith, r .few); same = writes-same (a ++ b) l (withRest at now rest) (at + m) whole }
 
+-- a row with the boards that were read
+pub message-writes : (boards rest exit : List ℕ) (m a b n : ℕ) → a ≡ getD boards (2 * m) 0 → b ≡ getD boards (2 * m + 1) 0
+    → Writes (rowText (rowOf 77 a b)) rest exit n → Writes (rowText (messageRow boards m)) rest exit n
+message-writes boards rest exit m a b n e f w = subst₂ (λ (i j : ℕ). Writes (rowText (rowOf 77 i j)) rest exit n) e f w
+
 -- The M rows below m are written.
 module _ (boards : List ℕ) (count : ℕ) where
   pub record Messages (rest now : List ℕ) (at m : ℕ) : Type 0 where
@@ -61,17 +66,17 @@ module _ (boards : List ℕ) (count : ℕ) where
   messages-room rest now at m g h room =
       rest-room (rowsText (messagesIn boards m)) rest now at rowBytesMost (g .rowed .written) (omega (arith, g .rowed .few))
 
-  more-text : (m : ℕ) → rowsText (messagesIn boards (m + 1)) ≡ rowsText (messagesIn boards m) ++ rowText (rowOf 77 (getD boards (2 * m) 0) (getD boards (2 * m + 1) 0))
+  more-text : (m : ℕ) → rowsText (messagesIn boards (m + 1)) ≡ rowsText (messagesIn boards m) ++ rowText (messageRow boards m)
   unfolding messageRows
   more-text m =
       ap (λ (k : ℕ). rowsText (messagesIn boards k)) (add-one m)
-      ∙ rows-append (messagesIn boards m) (rowOf 77 (getD boards (2 * m) 0) (getD boards (2 * m + 1) 0) ∷ [])
-      ∙ ap (λ (t : List ℕ). rowsText (messagesIn boards m) ++ t) (rows-one (rowOf 77 (getD boards (2 * m) 0) (getD boards (2 * m + 1) 0)))
+      ∙ rows-append (messagesIn boards m) (messageRow boards m ∷ [])
+      ∙ ap (λ (t : List ℕ). rowsText (messagesIn boards m) ++ t) (rows-one (messageRow boards m))
 
   pub messages-more : (rest now exit : List ℕ) (at m k : ℕ) → Messages rest now at m → m < count
-      → Writes (rowText (rowOf 77 (getD boards (2 * m) 0) (getD boards (2 * m + 1) 0))) (restFrom at now) exit k → Messages rest (withRest at now exit) (at + k) (m + 1)
+      → Writes (rowText (messageRow boards m)) (restFrom at now) exit k → Messages rest (withRest at now exit) (at + k) (m + 1)
   messages-more rest now exit at m k g h w =
-      let r = rowOf 77 (getD boards (2 * m) 0) (getD boards (2 * m + 1) 0) in
+      let r = messageRow boards m in
       record {
         rowed =
             subst⁻¹ (λ (t : List ℕ). Rowed t rest (withRest at now exit) (at + k) (m + 1)) (more-text m)

@@ -4,6 +4,7 @@ use mathlib.Core.Bool.{cond}
 use mathlib.Core.List.{List, [], _∷_, _++_}
 use Prim.Native.Nat.{ℕ, _+_, _*_}
 use Prim.Native.Char.{code}
+use lib.ListN.{getD}
 use Rattle.model.specs.Cure.{Written, messageRows, orderRows, rowText, rowsText, headingText}
 use Rattle.relation.specs.Width.{width}
 use Rattle.relation.specs.Rows.{holds}
@@ -11,7 +12,10 @@ use Rattle.relation.specs.Scenario.{scenarioIn}
 use Rattle.sheet_text.specs.Writing.{rowBytesMost, headingBytes}
 use Rattle.covers.specs.Covers.{ordersTo}
 
--- the M rows: a message's boards stand at the numbers of its events
+-- the M row of message m, whose boards stand at the numbers of its events, and the M rows
+abbrev pub messageRow : List ℕ → ℕ → Written
+messageRow boards m = record { letter = code "M"; one = getD boards (2 * m) 0; two = getD boards (2 * m + 1) 0 }
+
 abbrev pub messagesIn : List ℕ → ℕ → List Written
 messagesIn boards m = messageRows (scenarioIn 0 boards []) m
 

@@ -1,12 +1,13 @@
 // The cured sheet as text, row by row: each row starts at the byte after the one before, and its writer is lent the rest of the output.
+ghost use mathlib.Core.Path.{_≡_};
 ghost use Prim.Native.Nat.{_+_, _*_, _<_, _≤_};
 ghost use lib.ListN.{length};
-ghost use Rattle.model.specs.Limits.{messagesMost, rowsMost, sheetOutputLeast};
-ghost use Rattle.model.specs.Cure.{rowsText, orderRows};
+ghost use Rattle.model.specs.Limits.{messagesMost, numberMost, rowsMost, sheetOutputLeast};
+ghost use Rattle.model.specs.Cure.{rowText, rowsText, orderRows};
 ghost use Rattle.relation.specs.Width.{width};
 ghost use Rattle.sheet_text.specs.Writing.{Writes, rowBytesMost};
 ghost use Rattle.covers.specs.Covers.{ordersFrom, ordersTo};
-ghost use Rattle.cured_sheet.specs.Sheet.{messagesIn, orderIf, headMost, headText, listedText, rowsIn, textIn};
+ghost use Rattle.cured_sheet.specs.Sheet.{messageRow, messagesIn, orderIf, headMost, headText, listedText, rowsIn, textIn};
 
 // The letters of the rows.
 const SHEET: u8 = 83;
@@ -14,6 +15,25 @@ const SHEET: u8 = 83;
 const MESSAGE: u8 = 77;
 
 const ORDER: u8 = 80;
+
+// A board's number, as one of a row.
+fn wide(board: u8) -> u16
+    ensures { λ r. ⌜ r ≡ board ⌝ }
+    ensures { λ r. ⌜ r ≤ numberMost ⌝ }
+{
+    board as u16
+}
+
+// The M row of message m.
+fn write_message(boards: &[u8], m: usize, rest: &mut [u8]) -> usize
+    requires { ⌜ (m < messagesMost) × (2 * m + 1 < length (now boards)) ⌝ }
+    requires { ⌜ rowBytesMost ≤ length (now rest) ⌝ }
+    ensures { λ r. ⌜ Writes (rowText (messageRow (now (boards .entry)) m)) (now (rest .entry)) (now (rest .exit)) r ⌝ }
+{
+    let send = 2 * m;
+    let receive = send + 1;
+    sheet_text::write_row(rest, MESSAGE, wide(boards[send]), wide(boards[receive]))
+}
 
 // The M rows, in the walk's numbering.
 fn write_messages(boards: &[u8], count: usize, rest: &mut [u8]) -> usize
@@ -24,9 +44,7 @@ fn write_messages(boards: &[u8], count: usize, rest: &mut [u8]) -> usize
 {
     let mut at = 0;
     for m in 0..count {
-        let send = 2 * m;
-        let receive = send + 1;
-        at = at + sheet_text::write_row(&mut rest[at..], MESSAGE, boards[send], boards[receive]);
+        at = at + write_message(boards, m, &mut rest[at..]);
     }
     at
 }
@@ -43,7 +61,7 @@ fn write_order(words: &[u64], x: usize, e: usize, rest: &mut [u8]) -> usize
     if !relation::test(words, receive, x) {
         return 0;
     }
-    sheet_text::write_row(rest, ORDER, x as u8, send as u8)
+    sheet_text::write_row(rest, ORDER, x as u16, send as u16)
 }
 
 // The P rows of event x, by the sends that it stands directly before.

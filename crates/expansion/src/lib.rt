@@ -43,8 +43,8 @@ fn clear_boards(boards: &mut [u8])
 // A rows met, or refusal 8 to 10 or 13.
 pub fn expand_list(
     kind: &[u8],
-    one: &[u8],
-    two: &[u8],
+    one: &[u16],
+    two: &[u16],
     count: usize,
     start: &[u16],
     options: usize,
@@ -102,8 +102,8 @@ pub fn expand_list(
 // The walk of rows without an A row: the scenario in boards and words, or refusal 8 to 10.
 pub fn expand(
     kind: &[u8],
-    one: &[u8],
-    two: &[u8],
+    one: &[u16],
+    two: &[u16],
     count: usize,
     start: &[u16],
     boards: &mut [u8],

@@ -1,5 +1,5 @@
 -- A field by its span: it lies in the text, and holds the letter, the number or the name of its bytes. Assumes nothing.
-use Prim.Native.Nat.{ℕ, zero, suc, _+_, _-_, _^_, _≤_, _<_}
+use Prim.Native.Nat.{ℕ, zero, suc, _+_, _-_, _≤_, _<_}
 use native.Mathlib.Omega.{arith}
 use mathlib.Core.Path.{_≡_, refl, sym, _∙_, ap}
 use mathlib.Core.Bool.{Bool, true, false, cond, _&&_}
@@ -9,17 +9,14 @@ use borrow.Author.Tests.{ne-eqb, leb-true}
 use lib.Dec.{leb}
 use lib.ListN.{length, getD}
 use lib.Seq.{slice, slice-cons, slice-empty, length-slice}
-use Rattle.model.specs.Limits.{numberMost}
 use Rattle.model.specs.Bounded.{same}
 use Rattle.model.proofs.Bounded.{and-right}
 use Rattle.model.specs.Text.{wellBegun, digitsOnly, decimal, numberUpTo}
 use Rattle.line.specs.Parts.{Cut, fieldsIn}
 use Rattle.line.specs.declared.Cuts.{Cuts}
-use Rattle.fields.specs.Fields.{spanOf, letterOf, numberFrom, numeralFrom}
+use Rattle.fields.specs.Fields.{spanOf, letterOf, numeralFrom}
 use Rattle.fields.specs.declared.Span.{Span}
-use Rattle.fields.specs.declared.Number.the-variants as narrow
 use Rattle.fields.specs.declared.Numeral.{Numeral}
-use Rattle.fields.specs.declared.Numeral.the-variants as wide
 
 -- the three spans, by the tests of the code
 pub span-first : (c : Cuts) (place : ℕ) → place ≡ 0 → record { from = c .at; to = c .first } ≡ spanOf c place
@@ -97,14 +94,3 @@ number-most most n f e = go (wellBegun f && digitsOnly f && leb (decimal 0 f) mo
         let k : n ≡ decimal 0 f = cc in
         omega arith
     go false h d = let z : _≡_ {A = ℕ} 0 1 = cc in absurd (omega arith)
-
--- a number of a sheet file is one of a byte
-module _ (f : List ℕ) (n : Numeral) (p : numeralFrom n ≡ numberUpTo numberMost f) where
-  pub byte-fits : (v : ℕ) → n ≡ wide.Is v → v < 2 ^ 8
-  byte-fits v e = omega (arith, number-most numberMost v f (sym (ap numeralFrom e) ∙ p))
-
-  pub byte-is : (v : ℕ) → n ≡ wide.Is v → numberFrom (narrow.Is v) ≡ numberUpTo numberMost f
-  byte-is v e = sym (ap numeralFrom e) ∙ p
-
-  pub byte-bad : n ≡ wide.Bad → numberFrom narrow.Bad ≡ numberUpTo numberMost f
-  byte-bad e = sym (ap numeralFrom e) ∙ p

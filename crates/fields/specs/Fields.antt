@@ -7,10 +7,8 @@ use lib.Dec.{eqb, leb}
 use Rattle.model.specs.Text.{digitsOnly, decimal}
 use Rattle.line.specs.declared.Cuts.{Cuts}
 use Rattle.fields.specs.declared.Span.{Span}
-use Rattle.fields.specs.declared.Number.{Number}
-use Rattle.fields.specs.declared.Number.the-variants.{Is, Bad}
 use Rattle.fields.specs.declared.Numeral.{Numeral}
-use Rattle.fields.specs.declared.Numeral.the-variants as wide
+use Rattle.fields.specs.declared.Numeral.the-variants.{Is, Bad}
 
 -- the span of the field with the given number
 unfoldable pub spanOf : Cuts → ℕ → Span
@@ -28,10 +26,6 @@ letterOf (b ∷ c ∷ s) = 0
 unfoldable pub numeral : ℕ → ℕ → List ℕ → Option ℕ
 numeral most n ds = cond (digitsOnly ds && leb (decimal n ds) most) (some (decimal n ds)) none
 
-abbrev pub numberFrom : Number → Option ℕ
-numberFrom (Is n) = some n
-numberFrom Bad = none
-
 abbrev pub numeralFrom : Numeral → Option ℕ
-numeralFrom (wide.Is n) = some n
-numeralFrom wide.Bad = none
+numeralFrom (Is n) = some n
+numeralFrom Bad = none

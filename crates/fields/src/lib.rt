@@ -8,18 +8,12 @@ ghost use lib.Seq.{slice};
 ghost use Rattle.model.specs.Bounded.{same};
 ghost use Rattle.model.specs.Text.{numberOf, numberUpTo};
 ghost use Rattle.line.specs.Parts.{Cut, fieldsIn};
-ghost use Rattle.fields.specs.Fields.{spanOf, letterOf, numeral, numberFrom, numeralFrom};
+ghost use Rattle.fields.specs.Fields.{spanOf, letterOf, numeral, numeralFrom};
 
 // A field: the bytes from `from` up to `to`.
 struct Span {
     pub from: usize,
     pub to: usize,
-}
-
-// A number of a sheet file.
-pub enum Number {
-    Is(u8),
-    Bad,
 }
 
 // A number up to a largest that is given.
@@ -62,15 +56,11 @@ pub fn letter_in(text: &[u8], cuts: Cuts, place: usize) -> u8
 }
 
 // The number that a field of a sheet file holds.
-pub fn number_in(text: &[u8], cuts: Cuts, place: usize) -> Number
+pub fn number_in(text: &[u8], cuts: Cuts, place: usize) -> Numeral
     requires { ⌜ Cut (now text) cuts × (place < 3) ⌝ }
-    ensures { λ r. ⌜ numberFrom r ≡ numberOf (getD (fieldsIn (now (text .entry)) cuts) place []) ⌝ }
+    ensures { λ r. ⌜ numeralFrom r ≡ numberOf (getD (fieldsIn (now (text .entry)) cuts) place []) ⌝ }
 {
-    let n = number_up_to(text, cuts, place, model::NUMBER_MOST);
-    match n {
-        Numeral::Is(value) => Number::Is(value as u8),
-        Numeral::Bad => Number::Bad,
-    }
+    number_up_to(text, cuts, place, model::NUMBER_MOST)
 }
 
 // The number that a field holds, at most `most`: decimal, without leading zeros.

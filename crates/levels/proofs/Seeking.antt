@@ -11,7 +11,7 @@ use lib.Seq.{getD-set-same, getD-set-other}
 use mir.Syntax.{w64}
 use mir.Val.{Fits}
 use borrow.Author.Tests.{lt-ltb, eqb-true, eqb-false}
-use Rattle.model.specs.Limits.{levels, callsMost}
+use Rattle.model.specs.Limits.{rowsMost, levels, callsMost}
 use Rattle.model.specs.Refusal.{depthRefusal, callsRefusal, choicesRefusal}
 use Rattle.model.specs.Rows.{Row}
 use Rattle.model.specs.Place.{lineOf}
@@ -156,14 +156,17 @@ module _ (options : ℕ) (kind one two : List ℕ) (count : ℕ) (from₀ : List
               no-sheet z = call-no-sheet letter e z
 
           -- its line, and its two numbers, can be read
-          pub call-line : Fits w64 (i + 2)
-          call-line = omega (arith, call-there, lent .rows .few)
+          pub call-few : i < rowsMost
+          call-few = omega (arith, call-there, lent .rows .few)
 
           pub call-one : i < length one
           call-one = omega (arith, call-there, lent .rows .oneLong)
 
           pub call-two : i < length two
           call-two = omega (arith, call-there, lent .rows .twoLong)
+
+          pub call-line : Fits w64 (i + 2)
+          call-line = omega (arith, call-there, lent .rows .few)
 
           letter-is : getD kind i 0 ≡ letter
           letter-is = row-letter kind count i letter read call-there

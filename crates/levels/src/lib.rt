@@ -5,7 +5,7 @@ ghost use mathlib.Core.Path.{_≡_};
 ghost use mathlib.Core.Bool.{false};
 ghost use Prim.Native.Nat.{_<_, _≤_};
 ghost use lib.ListN.{length, getD};
-ghost use Rattle.model.specs.Limits.{choicesMost};
+ghost use Rattle.model.specs.Limits.{rowsMost, choicesMost};
 ghost use Rattle.levels.specs.Options.{optionsOf, isCall, isNinth, sheetCalled, choicesBehind};
 ghost use Rattle.levels.specs.Levels.{letterAt, BehindBlocks, Sheets, Between, Reaches};
 
@@ -54,11 +54,21 @@ pub fn takes_second(options: usize, k: usize) -> bool
     (options >> behind) & 1 == 1
 }
 
-// The sheet that a row calls, with so many A rows met: an A row's is m, or n where its option says so.
-fn called_sheet(letter: u8, m: u8, n: u8, options: usize, choices: usize) -> u8
+// The sheet that a row calls, with so many A rows met: an A row's is its first, or its second where its option says so.
+fn called_sheet(
+    letter: u8,
+    one: &[u16],
+    two: &[u16],
+    row: usize,
+    options: usize,
+    choices: usize,
+) -> u16
     requires { ⌜ isNinth letter choices ≡ false ⌝ }
-    ensures { λ r. ⌜ r ≡ sheetCalled letter m n options choices ⌝ }
+    requires { ⌜ (row < rowsMost) × (row < length (now one)) × (row < length (now two)) ⌝ }
+    ensures { λ r. ⌜ r ≡ sheetCalled letter (getD (now (one .entry)) row 0) (getD (now (two .entry)) row 0) options choices ⌝ }
 {
+    let m = one[row];
+    let n = two[row];
     if letter == b'A' {
         return if takes_second(options, choices) { n } else { m };
     }
@@ -77,7 +87,7 @@ fn choices_behind(letter: u8, choices: usize) -> usize
 }
 
 // The row behind the S row of a sheet that is there.
-pub fn start_of(start: &[u16], sheet: u8) -> usize
+pub fn start_of(start: &[u16], sheet: u16) -> usize
     requires { ⌜ sheet < length (now start) ⌝ }
     ensures { λ r. ⌜ r ≡ getD (now (start .entry)) sheet 0 ⌝ }
 {
@@ -106,8 +116,8 @@ fn behind_blocks(kind: &[u8], rows: usize, row: usize) -> usize
 // that was open. The options are those of a list of eight, as a number.
 pub fn next_block(
     kind: &[u8],
-    one: &[u8],
-    two: &[u8],
+    one: &[u16],
+    two: &[u16],
     rows: usize,
     start: &[u16],
     options: usize,
@@ -140,7 +150,7 @@ pub fn next_block(
             if is_ninth(letter, choices) {
                 return Reached::Stopped(model::CHOICES, at + FIRST_LINE);
             }
-            let sheet = called_sheet(letter, one[at], two[at], options, choices);
+            let sheet = called_sheet(letter, one, two, at, options, choices);
             choices = choices_behind(letter, choices);
             calls += 1;
             from[level] = at;

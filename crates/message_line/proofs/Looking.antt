@@ -1,5 +1,5 @@
 -- What the loop keeps on its way to a message, row by row, and what each place of the code asks. Assumes nothing.
-use Prim.Native.Nat.{ℕ, _+_, _-_, _<_, _≤_}
+use Prim.Native.Nat.{ℕ, _+_, _-_, _<_, _≤_, _*_}
 use native.Mathlib.Omega.{arith}
 use mathlib.Core.Path.{_≡_, refl, sym, _∙_, ap, subst}
 use mathlib.Core.Bool.{Bool, true, false}
@@ -107,6 +107,10 @@ module _ (kind one two : List ℕ) (count message : ℕ) where
 
         pub call-one : i < length one
         call-one = omega (arith, here no-sheet, lent .oneLong)
+
+        -- its place in a column of 16-bit numbers can be counted
+        pub call-place : Fits w64 (i * 2)
+        call-place = omega (arith, here no-sheet, lent-sheets .rows .few)
 
         is : getD kind i 0 ≡ letter
         is = row-letter kind count i letter read (here no-sheet)

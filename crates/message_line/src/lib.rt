@@ -13,7 +13,14 @@ use walk::FIRST_LINE;
 
 // The walk of the rows, up to message `message`. No limit of a walk is met on the way, since the rows are those of an accepted sheet. Calls are
 // counted as what brings the walk nearer to its end.
-fn walk_to(kind: &[u8], one: &[u8], two: &[u8], rows: usize, start: &[u16], message: usize) -> usize
+fn walk_to(
+    kind: &[u8],
+    one: &[u16],
+    two: &[u16],
+    rows: usize,
+    start: &[u16],
+    message: usize,
+) -> usize
     requires { ⌜ RowsRead (now kind) (now one) (now two) rows (now start) ⌝ }
     requires { ⌜ message < length (linesIn (rowsOf (now kind) (now one) (now two) rows)) ⌝ }
     ensures { λ r. ⌜ r ≡ getD (linesIn (rowsOf (now (kind .entry)) (now (one .entry)) (now (two .entry)) rows)) message 0 ⌝ }
@@ -56,8 +63,8 @@ pub fn line_of(text: &[u8], message: usize, words: &mut [u64]) -> usize
     ensures { λ r. ⌜ r ≡ getD (linesMet (now (text .entry))) message 0 ⌝ }
 {
     let mut kind = [0u8; model::ROWS_MOST];
-    let mut one = [0u8; model::ROWS_MOST];
-    let mut two = [0u8; model::ROWS_MOST];
+    let mut one = [0u16; model::ROWS_MOST];
+    let mut two = [0u16; model::ROWS_MOST];
     let mut start = [0u16; model::SHEETS];
     let verdict = sheet::read(
         text,

@@ -13,7 +13,7 @@ ghost use Rattle.place.specs.Letters.{rowFrom};
 ghost use Rattle.place.specs.Stand.{mayOpen, standOf, placedFor, OtherThanS, BlockAs, PlaceAs};
 
 // Boards are 0 to 15, in the type of a field.
-const BOARDS: u8 = model::BOARDS as u8;
+const BOARDS: u16 = model::BOARDS as u16;
 
 // The messages of the open block behind the row; nothing where a rule is broken.
 pub enum Placed {
@@ -22,7 +22,7 @@ pub enum Placed {
 }
 
 // `S n`, as row `row`: sheets 0 to 31, each at most once.
-fn open_sheet(row: usize, n: u8, start: &mut [u16; SHEETS]) -> bool
+fn open_sheet(row: usize, n: u16, start: &mut [u16; SHEETS]) -> bool
     requires { ⌜ (row < rowsMost) × (length (now start) ≡ sheets) ⌝ }
     ensures { λ r. ⌜ r ≡ mayOpen (now (start .entry)) n ⌝ }
     ensures { λ r. ⌜ now (start .exit) ≡ cond r (set (now (start .entry)) n (row + 1)) (now (start .entry)) ⌝ }
@@ -39,7 +39,7 @@ fn open_sheet(row: usize, n: u8, start: &mut [u16; SHEETS]) -> bool
 }
 
 // `M a b`: boards 0 to 15, and no message 129 of the block.
-fn add_message(messages: usize, boards: &mut [u8; EVENTS_MOST], a: u8, b: u8) -> bool
+fn add_message(messages: usize, boards: &mut [u8; EVENTS_MOST], a: u16, b: u16) -> bool
     requires { ⌜ (messages ≤ messagesMost) × (length (now boards) ≡ 2 * messagesMost) ⌝ }
     ensures { λ r. ⌜ r ≡ messageFits (take (2 * messages) (now (boards .entry))) a b ⌝ }
     ensures { λ r. ⌜ now (boards .exit) ≡ cond r (set (set (now (boards .entry)) (2 * messages) a) (2 * messages + 1) b) (now (boards .entry)) ⌝ }
@@ -55,13 +55,13 @@ fn add_message(messages: usize, boards: &mut [u8; EVENTS_MOST], a: u8, b: u8) ->
     }
     let send = 2 * messages;
     let receive = send + 1;
-    boards[send] = a;
-    boards[receive] = b;
+    boards[send] = a as u8;
+    boards[receive] = b as u8;
     true
 }
 
 // `P x y`: both events are there, differ, and are on one board.
-fn may_order(messages: usize, boards: &[u8; EVENTS_MOST], x: u8, y: u8) -> bool
+fn may_order(messages: usize, boards: &[u8; EVENTS_MOST], x: u16, y: u16) -> bool
     requires { ⌜ (messages ≤ messagesMost) × (length (now boards) ≡ 2 * messagesMost) ⌝ }
     ensures { λ r. ⌜ r ≡ orderFits (take (2 * messages) (now (boards .entry))) x y ⌝ }
 {
@@ -92,7 +92,7 @@ fn placed_if(fits: bool, messages: usize) -> Placed
 }
 
 // The two sheets of an A row: 0 to 31, as a call's.
-fn are_sheets(m: u8, n: u8) -> bool
+fn are_sheets(m: u16, n: u16) -> bool
     ensures { λ r. ⌜ r ≡ (ltb m sheets && ltb n sheets) ⌝ }
 {
     let first = m as usize;
@@ -104,7 +104,7 @@ fn are_sheets(m: u8, n: u8) -> bool
 }
 
 // A row that is no S row, in a block of so many messages: a message joins the block, an order is within it, any other opens the next.
-fn in_block(kind: u8, one: u8, two: u8, messages: usize, boards: &mut [u8; EVENTS_MOST]) -> Placed
+fn in_block(kind: u8, one: u16, two: u16, messages: usize, boards: &mut [u8; EVENTS_MOST]) -> Placed
     requires { ⌜ OtherThanS kind × (messages ≤ messagesMost) × (length (now boards) ≡ 2 * messagesMost) ⌝ }
     ensures { λ r. ⌜ BlockAs messages (rowFrom kind one two) (now (boards .entry)) (now (boards .exit)) r ⌝ }
 {
@@ -128,8 +128,8 @@ fn in_block(kind: u8, one: u8, two: u8, messages: usize, boards: &mut [u8; EVENT
 pub fn place(
     row: usize,
     kind: u8,
-    one: u8,
-    two: u8,
+    one: u16,
+    two: u16,
     messages: usize,
     start: &mut [u16; SHEETS],
     boards: &mut [u8; EVENTS_MOST],

@@ -17,8 +17,8 @@ pub enum Presence {
 // Row i calls a sheet that is not there; an A row names two calls.
 fn is_stray(
     kind: &[u8; ROWS_MOST],
-    one: &[u8; ROWS_MOST],
-    two: &[u8; ROWS_MOST],
+    one: &[u16; ROWS_MOST],
+    two: &[u16; ROWS_MOST],
     start: &[u16; SHEETS],
     i: usize,
 ) -> bool
@@ -41,8 +41,8 @@ fn is_stray(
 pub fn complete(
     count: usize,
     kind: &[u8; ROWS_MOST],
-    one: &[u8; ROWS_MOST],
-    two: &[u8; ROWS_MOST],
+    one: &[u16; ROWS_MOST],
+    two: &[u16; ROWS_MOST],
     start: &[u16; SHEETS],
 ) -> Presence
     requires { ⌜ (count ≤ rowsMost) × (length (now start) ≡ sheets) ⌝ }
@@ -62,7 +62,7 @@ pub fn complete(
 }
 
 // Sheet n is there.
-fn is_open(start: &[u16; SHEETS], n: u8) -> bool
+fn is_open(start: &[u16; SHEETS], n: u16) -> bool
     requires { ⌜ length (now start) ≡ sheets ⌝ }
     ensures { λ r. ⌜ r ≡ isOpen (now (start .entry)) n ⌝ }
 {

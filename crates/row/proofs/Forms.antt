@@ -16,12 +16,12 @@ use Rattle.model.specs.Text.{numberOf}
 use Rattle.model.specs.Rows.{block, choice, formed, fromFields, rowOf}
 use Rattle.line.specs.Scan.{firstLine}
 use Rattle.line.specs.Parts.{fieldsIn, SplitAs}
-use Rattle.fields.specs.Fields.{letterOf, numberFrom}
+use Rattle.fields.specs.Fields.{letterOf, numeralFrom}
 use Rattle.line.specs.declared.Cuts.{Cuts}
 use Rattle.line.specs.declared.Split.{Split}
 use Rattle.line.specs.declared.Split.the-variants.{Three, Other}
-use Rattle.fields.specs.declared.Number.{Number}
-use Rattle.fields.specs.declared.Number.the-variants.{Is, Bad}
+use Rattle.fields.specs.declared.Numeral.{Numeral}
+use Rattle.fields.specs.declared.Numeral.the-variants.{Is, Bad}
 use Rattle.line.proofs.Lines.{cut-known, line-ended, line-fields, line-other, onward}
 use Rattle.heading.specs.Names.{columnsFrom}
 use Rattle.heading.specs.declared.Columns.{Columns}
@@ -115,18 +115,18 @@ module _ (t : Bool) (text : List ℕ) (at : ℕ) (c : Columns) (s : Split) (p : 
     unfolding rowOf
     by-fields = rw (line-ended text at s p cuts e, line-fields text at s p cuts e)
 
-    pub row-no-one : (n : Number) → numberFrom n ≡ numberOf (at-place (c .one)) → n ≡ Bad → RowAs t (columnsFrom c) text at Malformed
-    row-no-one n h q = record { row = sym (by-fields ∙ rw (sym h ∙ ap numberFrom q) (no-one t _ _)); next = tt }
+    pub row-no-one : (n : Numeral) → numeralFrom n ≡ numberOf (at-place (c .one)) → n ≡ Bad → RowAs t (columnsFrom c) text at Malformed
+    row-no-one n h q = record { row = sym (by-fields ∙ rw (sym h ∙ ap numeralFrom q) (no-one t _ _)); next = tt }
 
-    pub row-no-two : (n : Number) → numberFrom n ≡ numberOf (at-place (c .two)) → n ≡ Bad → RowAs t (columnsFrom c) text at Malformed
-    row-no-two n h q = record { row = sym (by-fields ∙ rw (sym h ∙ ap numberFrom q) (no-two t _ _)); next = tt }
+    pub row-no-two : (n : Numeral) → numeralFrom n ≡ numberOf (at-place (c .two)) → n ≡ Bad → RowAs t (columnsFrom c) text at Malformed
+    row-no-two n h q = record { row = sym (by-fields ∙ rw (sym h ∙ ap numeralFrom q) (no-two t _ _)); next = tt }
 
-    module _ (k a b : ℕ) (n m : Number) (r : Bool) (letter : k ≡ letterOf (at-place (c .kind)))
-        (h : numberFrom n ≡ numberOf (at-place (c .one))) (q : n ≡ Is a) (h′ : numberFrom m ≡ numberOf (at-place (c .two))) (q′ : m ≡ Is b)
+    module _ (k a b : ℕ) (n m : Numeral) (r : Bool) (letter : k ≡ letterOf (at-place (c .kind)))
+        (h : numeralFrom n ≡ numberOf (at-place (c .one))) (q : n ≡ Is a) (h′ : numeralFrom m ≡ numberOf (at-place (c .two))) (q′ : m ≡ Is b)
         (f : cond r (some (rowFrom k a b)) none ≡ formed t k a b) where
       by-form : rowOf t (columnsFrom c) (firstLine (drop at text)) ≡ cond r (some (rowFrom k a b)) none
       by-form =
-          by-fields ∙ rw (sym h ∙ ap numberFrom q, sym h′ ∙ ap numberFrom q′) (by-letter t (at-place (c .kind)) a b)
+          by-fields ∙ rw (sym h ∙ ap numeralFrom q, sym h′ ∙ ap numeralFrom q′) (by-letter t (at-place (c .kind)) a b)
           ∙ ap (λ (x : ℕ). formed t x a b) (sym letter) ∙ sym f
 
       pub row-formed : not r ≡ false → RowAs t (columnsFrom c) text at (Row k a b (cuts .end + 1))

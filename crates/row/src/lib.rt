@@ -1,5 +1,5 @@
 // A row: its form (refusal 5), a letter and two numbers in the heading's order, ahead of its place (6), and that ahead of a circle (11).
-use fields::Number;
+use fields::Numeral;
 use heading::Columns;
 use line::Split;
 use model::EVENTS_MOST;
@@ -20,13 +20,13 @@ ghost use Rattle.row.specs.Judged.{readerOf, StepAs};
 
 // A row's kind and numbers, and where the next one begins.
 enum Reading {
-    Row(u8, u8, u8, usize),
+    Row(u8, u16, u16, usize),
     Malformed,
 }
 
 // A row's kind and numbers, where the next one begins, and the messages of the open block behind it; or the refusal's number.
 pub enum Step {
-    Row(u8, u8, u8, usize, usize),
+    Row(u8, u16, u16, usize, usize),
     Refused(u8),
 }
 
@@ -70,10 +70,10 @@ fn row_at(text: &[u8], at: usize, choices: bool, columns: Columns) -> Reading
         return Reading::Malformed;
     };
     let kind = fields::letter_in(text, cuts, columns.kind);
-    let Number::Is(one) = fields::number_in(text, cuts, columns.one) else {
+    let Numeral::Is(one) = fields::number_in(text, cuts, columns.one) else {
         return Reading::Malformed;
     };
-    let Number::Is(two) = fields::number_in(text, cuts, columns.two) else {
+    let Numeral::Is(two) = fields::number_in(text, cuts, columns.two) else {
         return Reading::Malformed;
     };
     if !is_formed(choices, kind, one, two) {
@@ -83,7 +83,7 @@ fn row_at(text: &[u8], at: usize, choices: bool, columns: Columns) -> Reading
 }
 
 // The letter is one of the five, or an A that is let through, and an unused field is 0.
-fn is_formed(choices: bool, kind: u8, one: u8, two: u8) -> bool
+fn is_formed(choices: bool, kind: u8, one: u16, two: u16) -> bool
     ensures { λ r. ⌜ cond r (some (rowFrom kind one two)) none ≡ formed choices kind one two ⌝ }
 {
     if kind == b'M' {

@@ -18,8 +18,8 @@ pub fn scenario_of(
     ensures { λ r. ⌜ SheetIn (now (text .entry)) (now (boards .exit)) (now (words .exit)) r ⌝ }
 {
     let mut kind = [0u8; model::ROWS_MOST];
-    let mut one = [0u8; model::ROWS_MOST];
-    let mut two = [0u8; model::ROWS_MOST];
+    let mut one = [0u16; model::ROWS_MOST];
+    let mut two = [0u16; model::ROWS_MOST];
     let mut start = [0u16; model::SHEETS];
     let verdict = sheet::read(
         text,

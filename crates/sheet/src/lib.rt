@@ -28,8 +28,8 @@ pub fn read(
     text: &[u8],
     choices: bool,
     kind: &mut [u8; ROWS_MOST],
-    one: &mut [u8; ROWS_MOST],
-    two: &mut [u8; ROWS_MOST],
+    one: &mut [u16; ROWS_MOST],
+    two: &mut [u16; ROWS_MOST],
     start: &mut [u16; SHEETS],
     words: &mut [u64],
 ) -> Verdict
@@ -55,8 +55,8 @@ fn rows(
     choices: bool,
     columns: Columns,
     kind: &mut [u8; ROWS_MOST],
-    one: &mut [u8; ROWS_MOST],
-    two: &mut [u8; ROWS_MOST],
+    one: &mut [u16; ROWS_MOST],
+    two: &mut [u16; ROWS_MOST],
     start: &mut [u16; SHEETS],
     words: &mut [u64],
 ) -> Verdict

@@ -35,23 +35,23 @@ puts-more at mid n a b l k exit p q =
       same = q .same ∙ p .same;
     }
 
--- the digits of a number, by how many they are
+-- the digits of a number, by how many they are, and their bytes
 module _ (at n : ℕ) (l : List ℕ) where
-  pub one-digit : (exit : List ℕ) (r : ℕ) → n < 10 → Puts at (digit n ∷ []) l exit r → Puts at (digitsOf n) l exit r
+  pub one-digit : (exit : List ℕ) (r a : ℕ) → n < 10 → a ≡ digit n → Puts at (a ∷ []) l exit r → Puts at (digitsOf n) l exit r
   unfolding digitsOf
-  one-digit exit r h p = rw (lt-ltb n 10 h) p
+  one-digit exit r a h e p = rw (lt-ltb n 10 h, ← e) p
 
-  pub two-digits : (k exit : List ℕ) (mid r : ℕ) → 10 ≤ n → n < 100 → Puts at (digit (n / 10) ∷ []) l k mid → Puts mid (digit (n % 10) ∷ []) k exit r
-      → Puts at (digitsOf n) l exit r
+  pub two-digits : (k exit : List ℕ) (mid r a b : ℕ) → 10 ≤ n → n < 100 → a ≡ digit (n / 10) → b ≡ digit (n % 10) → Puts at (a ∷ []) l k mid
+      → Puts mid (b ∷ []) k exit r → Puts at (digitsOf n) l exit r
   unfolding digitsOf
-  two-digits k exit mid r g h p q = rw (le-ltb n 10 g, lt-ltb n 100 h) (puts-more at mid r _ _ l k exit p q)
+  two-digits k exit mid r a b g h e f p q = rw (le-ltb n 10 g, lt-ltb n 100 h, ← e, ← f) (puts-more at mid r _ _ l k exit p q)
 
-  pub three-digits : (k j exit : List ℕ) (mid last r : ℕ) → 100 ≤ n → Puts at (digit (n / 100) ∷ []) l k mid → Puts mid (digit (n / 10 % 10) ∷ []) k j last
-      → Puts last (digit (n % 10) ∷ []) j exit r → Puts at (digitsOf n) l exit r
+  pub three-digits : (k j exit : List ℕ) (mid last r a b c : ℕ) → 100 ≤ n → a ≡ digit (n / 100) → b ≡ digit (n / 10 % 10) → c ≡ digit (n % 10)
+      → Puts at (a ∷ []) l k mid → Puts mid (b ∷ []) k j last → Puts last (c ∷ []) j exit r → Puts at (digitsOf n) l exit r
   unfolding digitsOf
-  three-digits k j exit mid last r g p q s =
+  three-digits k j exit mid last r a b c g e f d p q s =
       let far : 10 ≤ n = omega arith in
-      rw (le-ltb n 10 far, le-ltb n 100 g) (puts-more at last r _ _ l j exit (puts-more at mid last _ _ l k j p q) s)
+      rw (le-ltb n 10 far, le-ltb n 100 g, ← e, ← f, ← d) (puts-more at last r _ _ l j exit (puts-more at mid last _ _ l k j p q) s)
 
 -- what is put at the start is written
 pub put-writes : (t l exit : List ℕ) (n : ℕ) → length t ≤ length l → Puts 0 t l exit n → Writes t l exit n

@@ -53,8 +53,8 @@ pub fn in_block(kind: &[u8], rows: usize, row: usize) -> bool
 // The rows of one block from a row on: each is met, with refusal 10 at message 129; then the block is closed, and the next is open.
 pub fn walk_block(
     kind: &[u8],
-    one: &[u8],
-    two: &[u8],
+    one: &[u16],
+    two: &[u16],
     rows: usize,
     boards: &mut [u8],
     words: &mut [u64],

@@ -48,13 +48,21 @@ returns c = (
       (c .before .before .before .before .before .before .before .before .before .before .before .before .before .before .copy-from .ensures),
 )
 
+cast-boards : tie.Need-cast-boards
+cast-boards c = search needs
+
+cast-boards-2 : tie.Need-cast-boards-2
+cast-boards-2 c = search needs
+
 pub add-message-spec : {M : Type 1} → statement M
 add-message-spec =
     tie.close
     (tie.spec
     mul-send
     add-receive
+    cast-boards
     slice-write-boards
+    cast-boards-2
     slice-write-boards-2
     copy-from-requires
     copy-from-requires-2

@@ -1,5 +1,6 @@
 -- `cured_sheet::write_head` meets its contract. Assumes nothing.
 use Rattle.cured_sheet.proofs.Rows.{head-room, head-written, head-few}
+use native.Mathlib.Omega.{arith}
 use borrow.Author.Needs.{needs}
 use Rattle.cured_sheet.proofs.write_head.Statement.{statement}
 use Rattle.cured_sheet.proofs.write_head.Tie as tie
@@ -17,7 +18,7 @@ part-write-row-end : tie.Need-part-write-row-end
 part-write-row-end c = search needs
 
 write-row-requires : tie.Need-write-row-requires
-write-row-requires c κs = search head-room
+write-row-requires c κs = (search head-room, omega arith, omega arith)
 
 add-result : tie.Need-add-result
 add-result c = search needs

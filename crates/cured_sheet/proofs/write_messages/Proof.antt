@@ -14,30 +14,6 @@ abbrev μ-loop : tie.MeasureT-loop
 loop-holds : tie.Need-loop-holds Inv-loop μ-loop
 loop-holds c = search messages-none
 
-mul-send : tie.Need-mul-send Inv-loop μ-loop
-mul-send c = search needs
-
-add-receive : tie.Need-add-receive Inv-loop μ-loop
-add-receive c = search needs
-
-sub-write-row : tie.Need-sub-write-row Inv-loop μ-loop
-sub-write-row c = search needs
-
-part-write-row-start : tie.Need-part-write-row-start Inv-loop μ-loop
-part-write-row-start c = search needs
-
-part-write-row-end : tie.Need-part-write-row-end Inv-loop μ-loop
-part-write-row-end c = search needs
-
-shared-slice-read-write-row : tie.Need-shared-slice-read-write-row Inv-loop μ-loop
-shared-slice-read-write-row c = search needs
-
-shared-slice-read-write-row-2 : tie.Need-shared-slice-read-write-row-2 Inv-loop μ-loop
-shared-slice-read-write-row-2 c = search needs
-
-write-row-requires : tie.Need-write-row-requires Inv-loop μ-loop
-write-row-requires c κs = search messages-room
-
 add-at : tie.Need-add-at Inv-loop μ-loop
 add-at c = search needs
 
@@ -56,6 +32,18 @@ same-length c = search needs
 returns : tie.Need-returns Inv-loop μ-loop
 returns c = (search messages-all, search messages-few)
 
+sub-write-message : tie.Need-sub-write-message Inv-loop μ-loop
+sub-write-message c = search needs
+
+part-write-message-start : tie.Need-part-write-message-start Inv-loop μ-loop
+part-write-message-start c = search needs
+
+part-write-message-end : tie.Need-part-write-message-end Inv-loop μ-loop
+part-write-message-end c = search needs
+
+write-message-requires : tie.Need-write-message-requires Inv-loop μ-loop
+write-message-requires c κs = search needs
+
 pub write-messages-spec : {M : Type 1} → statement M
 write-messages-spec =
     tie.close
@@ -63,14 +51,10 @@ write-messages-spec =
     Inv-loop
     μ-loop
     loop-holds
-    mul-send
-    add-receive
-    sub-write-row
-    part-write-row-start
-    part-write-row-end
-    shared-slice-read-write-row
-    shared-slice-read-write-row-2
-    write-row-requires
+    sub-write-message
+    part-write-message-start
+    part-write-message-end
+    write-message-requires
     add-at
     add-m
     loop-less

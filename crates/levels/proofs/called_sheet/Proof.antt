@@ -1,4 +1,5 @@
 -- `called_sheet` meets its contract. Assumes nothing.
+use borrow.Author.Needs.{needs}
 use Rattle.levels.proofs.Choosing.{within-eight, called-n, called-m, called-c}
 use Rattle.levels.proofs.called_sheet.Statement.{statement}
 use Rattle.levels.proofs.called_sheet.Tie as tie
@@ -15,5 +16,27 @@ returns-2 c = search called-m
 returns-3 : tie.Need-returns-3
 returns-3 c = search called-c
 
+mul-m : tie.Need-mul-m
+mul-m c = search needs
+
+shared-slice-read-m : tie.Need-shared-slice-read-m
+shared-slice-read-m c = search needs
+
+mul-n : tie.Need-mul-n
+mul-n c = search needs
+
+shared-slice-read-n : tie.Need-shared-slice-read-n
+shared-slice-read-n c = search needs
+
 pub called-sheet-spec : {M : Type 1} → statement M
-called-sheet-spec = tie.close (tie.spec takes-second-requires returns returns-2 returns-3)
+called-sheet-spec =
+    tie.close
+    (tie.spec
+    mul-m
+    shared-slice-read-m
+    mul-n
+    shared-slice-read-n
+    takes-second-requires
+    returns
+    returns-2
+    returns-3)

@@ -3,7 +3,7 @@
 use borrow.Author.Needs.{needs}
 use Rattle.levels.specs.Levels.{rank}
 use Rattle.levels.proofs.Choosing.{room-left}
-use Rattle.levels.proofs.Seeking.{Seeking, seeking-start, seeking-block, seeking-deep, seeking-calls, seeking-ninth, seeking-end, seeking-called, seeking-back, seeking-behind, called-less, back-less, behind-less, on-next, on-inside, back-next, call-line, call-one, call-two, call-sheet}
+use Rattle.levels.proofs.Seeking.{Seeking, seeking-start, seeking-block, seeking-deep, seeking-calls, seeking-ninth, seeking-end, seeking-called, seeking-back, seeking-behind, called-less, back-less, behind-less, on-next, on-inside, back-next, call-line, call-few, call-one, call-two, call-sheet}
 use Rattle.levels.proofs.next_block.Statement.{statement}
 use Rattle.levels.proofs.next_block.Tie as tie
 
@@ -62,17 +62,12 @@ same-length-4 c = search needs
 returns-4 : tie.Need-returns-4 Inv-loop μ-loop
 returns-4 c = search seeking-ninth
 
-shared-slice-read-called-sheet : tie.Need-shared-slice-read-called-sheet Inv-loop μ-loop
-shared-slice-read-called-sheet c = search (call-one, needs)
-
-shared-slice-read-called-sheet-2 : tie.Need-shared-slice-read-called-sheet-2 Inv-loop μ-loop
-shared-slice-read-called-sheet-2 c = search (call-two, needs)
-
 called-sheet-requires : tie.Need-called-sheet-requires Inv-loop μ-loop
-called-sheet-requires c κs = let n = c .before .before in room-left _ _ _ (n .before .is-ninth .ensures) (n .if5 .left)
+called-sheet-requires c κs =
+    (room-left _ _ _ (c .before .is-ninth .ensures) (c .if5 .left), (search call-few, search call-one, search call-two))
 
 choices-behind-requires : tie.Need-choices-behind-requires Inv-loop μ-loop
-choices-behind-requires c κs = let n = c .before .before .before in room-left _ _ _ (n .before .is-ninth .ensures) (n .if5 .left)
+choices-behind-requires c κs = let n = c .before in room-left _ _ _ (n .before .is-ninth .ensures) (n .if5 .left)
 
 add-calls : tie.Need-add-calls Inv-loop μ-loop
 add-calls c = search needs
@@ -153,8 +148,6 @@ next-block-spec =
     add-t24
     same-length-4
     returns-4
-    shared-slice-read-called-sheet
-    shared-slice-read-called-sheet-2
     called-sheet-requires
     choices-behind-requires
     add-calls

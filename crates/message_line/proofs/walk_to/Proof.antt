@@ -3,7 +3,7 @@
 use native.Mathlib.Omega.{arith}
 use borrow.Author.Needs.{needs}
 use Rattle.levels.specs.Levels.{rank}
-use Rattle.message_line.proofs.Looking.{Looking, start-there, looking-start, call-deep, call-level, call-count, call-one, call-sheet, call-less, looking-called, back-level, back-noted, back-next, back-less, looking-back, row-line, row-next, row-less, message-found, looking-message, looking-on}
+use Rattle.message_line.proofs.Looking.{Looking, start-there, looking-start, call-deep, call-level, call-count, call-one, call-place, call-sheet, call-less, looking-called, back-level, back-noted, back-next, back-less, looking-back, row-line, row-next, row-less, message-found, looking-message, looking-on}
 use Rattle.message_line.proofs.walk_to.Statement.{statement}
 use Rattle.message_line.proofs.walk_to.Tie as tie
 
@@ -92,6 +92,9 @@ loop-less-4 c = search row-less
 loop-again-4 : tie.Need-loop-again-4 Inv-loop μ-loop
 loop-again-4 c = search looking-on
 
+mul-start-of : tie.Need-mul-start-of Inv-loop μ-loop
+mul-start-of c = search (call-place, needs)
+
 pub walk-to-spec : {M : Type 1} → statement M
 walk-to-spec =
     tie.close
@@ -105,6 +108,7 @@ walk-to-spec =
     array-write-from
     add-level
     add-calls
+    mul-start-of
     shared-slice-read-start-of
     start-of-requires-2
     loop-less

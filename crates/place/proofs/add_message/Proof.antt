@@ -21,8 +21,14 @@ mul-send c = search needs
 add-receive : tie.Need-add-receive
 add-receive c = search needs
 
+cast-boards : tie.Need-cast-boards
+cast-boards c = search needs
+
 element-write-boards : tie.Need-element-write-boards
 element-write-boards c = search needs
+
+cast-boards-2 : tie.Need-cast-boards-2
+cast-boards-2 c = search needs
 
 element-write-boards-2 : tie.Need-element-write-boards-2
 element-write-boards-2 c = search needs
@@ -39,6 +45,8 @@ add-message-spec =
     returns-3
     mul-send
     add-receive
+    cast-boards
     element-write-boards
+    cast-boards-2
     element-write-boards-2
     returns-4)

@@ -40,18 +40,30 @@ returns-3 c = search stray-second
 returns-4 : tie.Need-returns-4
 returns-4 c = search stray-other
 
+mul-is-open : tie.Need-mul-is-open
+mul-is-open c = search needs
+
+mul-is-open-2 : tie.Need-mul-is-open-2
+mul-is-open-2 c = search needs
+
+mul-is-open-3 : tie.Need-mul-is-open-3
+mul-is-open-3 c = search needs
+
 pub is-stray-spec : {M : Type 1} → statement M
 is-stray-spec =
     tie.close
     (tie.spec
     element-copy-out-if1
+    mul-is-open
     element-copy-out-is-open
     is-open-requires
     returns
     element-copy-out-if2
+    mul-is-open-2
     element-copy-out-is-open-2
     is-open-requires-2
     returns-2
+    mul-is-open-3
     element-copy-out-is-open-3
     is-open-requires-3
     returns-3

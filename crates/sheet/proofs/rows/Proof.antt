@@ -66,6 +66,12 @@ same-length-2 c = search needs
 returns-2 : tie.Need-returns-2 Inv-loop μ-loop
 returns-2 c = search loop-done
 
+mul-one : tie.Need-mul-one Inv-loop μ-loop
+mul-one c = search needs
+
+mul-two : tie.Need-mul-two Inv-loop μ-loop
+mul-two c = search needs
+
 pub rows-spec : {M : Type 1} → statement M
 rows-spec =
     tie.close
@@ -80,7 +86,9 @@ rows-spec =
     returns
     enum-known-s-2
     element-write-kind
+    mul-one
     element-write-one
+    mul-two
     element-write-two
     add-row
     loop-less

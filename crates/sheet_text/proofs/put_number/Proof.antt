@@ -4,9 +4,6 @@ use Rattle.sheet_text.proofs.Putting.{one-digit, two-digits, three-digi
 use Rattle.sheet_text.proofs.put_number.Statement.{statement}
 use Rattle.sheet_text.proofs.put_number.Tie as tie
 
-add-put : tie.Need-add-put
-add-put c = search needs
-
 put-requires : tie.Need-put-requires
 put-requires c κs = search needs
 
@@ -16,14 +13,8 @@ same-length c = search needs
 returns : tie.Need-returns
 returns c = (search one-digit, search needs)
 
-add-put-2 : tie.Need-add-put-2
-add-put-2 c = search needs
-
 put-requires-2 : tie.Need-put-requires-2
 put-requires-2 c κs = search needs
-
-add-put-3 : tie.Need-add-put-3
-add-put-3 c = search needs
 
 put-requires-3 : tie.Need-put-requires-3
 put-requires-3 c κs = search needs
@@ -34,20 +25,11 @@ same-length-2 c = search needs
 returns-2 : tie.Need-returns-2
 returns-2 c = (search two-digits, search needs)
 
-add-put-4 : tie.Need-add-put-4
-add-put-4 c = search needs
-
 put-requires-4 : tie.Need-put-requires-4
 put-requires-4 c κs = search needs
 
-add-put-5 : tie.Need-add-put-5
-add-put-5 c = search needs
-
 put-requires-5 : tie.Need-put-requires-5
 put-requires-5 c κs = search needs
-
-add-put-6 : tie.Need-add-put-6
-add-put-6 c = search needs
 
 put-requires-6 : tie.Need-put-requires-6
 put-requires-6 c κs = search needs
@@ -58,25 +40,43 @@ same-length-3 c = search needs
 returns-3 : tie.Need-returns-3
 returns-3 c = (search three-digits, search needs)
 
+digit-requires : tie.Need-digit-requires
+digit-requires c = search needs
+
+digit-requires-2 : tie.Need-digit-requires-2
+digit-requires-2 c = search needs
+
+digit-requires-3 : tie.Need-digit-requires-3
+digit-requires-3 c = search needs
+
+digit-requires-4 : tie.Need-digit-requires-4
+digit-requires-4 c = search needs
+
+digit-requires-5 : tie.Need-digit-requires-5
+digit-requires-5 c = search needs
+
+digit-requires-6 : tie.Need-digit-requires-6
+digit-requires-6 c = search needs
+
 pub put-number-spec : {M : Type 1} → statement M
 put-number-spec =
     tie.close
     (tie.spec
-    add-put
+    digit-requires
     put-requires
     same-length
     returns
-    add-put-2
+    digit-requires-2
     put-requires-2
-    add-put-3
+    digit-requires-3
     put-requires-3
     same-length-2
     returns-2
-    add-put-4
+    digit-requires-4
     put-requires-4
-    add-put-5
+    digit-requires-5
     put-requires-5
-    add-put-6
+    digit-requires-6
     put-requires-6
     same-length-3
     returns-3)

@@ -44,9 +44,6 @@ loop-again : tie.Need-loop-again Inv-loop μ-loop
 loop-again c =
     meeting-order _ _ _ _ _ _ _ _ _ _ _ _ (c .before .before .before .before .before .before .before .before .before .before .loop .inv) _ (c .before .before .before .before .before .before .before .before .before .in-block .ensures) (c .before .before .before .before .before .before .before .before .if1 .taken) (c .before .before .before .before .before .before .if2 .taken) _ (c .before .before .add-order .ensures)
 
-add-t24 : tie.Need-add-t24 Inv-loop μ-loop
-add-t24 c = omega (arith, in-rows _ _ _ _ (c .before .before .before .before .in-block .ensures) (c .before .before .before .if1 .taken))
-
 same-length : tie.Need-same-length Inv-loop μ-loop
 same-length c = search needs
 
@@ -95,6 +92,21 @@ same-length-5 c = search needs
 returns-2 : tie.Need-returns-2 Inv-loop μ-loop
 returns-2 c = search meeting-end
 
+mul-add-order : tie.Need-mul-add-order Inv-loop μ-loop
+mul-add-order c = omega (arith, in-rows _ _ _ _ (c .before .before .before .before .in-block .ensures) (c .before .before .before .if1 .taken))
+
+mul-add-order-2 : tie.Need-mul-add-order-2 Inv-loop μ-loop
+mul-add-order-2 c = omega (arith, in-rows _ _ _ _ (c .before .before .before .before .before .in-block .ensures) (c .before .before .before .before .if1 .taken))
+
+add-t26 : tie.Need-add-t26 Inv-loop μ-loop
+add-t26 c = omega (arith, in-rows _ _ _ _ (c .before .before .before .before .in-block .ensures) (c .before .before .before .if1 .taken))
+
+mul-add-message : tie.Need-mul-add-message Inv-loop μ-loop
+mul-add-message c = omega (arith, in-rows _ _ _ _ (c .before .before .before .before .before .before .before .in-block .ensures) (c .before .before .before .before .before .before .if1 .taken))
+
+mul-add-message-2 : tie.Need-mul-add-message-2 Inv-loop μ-loop
+mul-add-message-2 c = omega (arith, in-rows _ _ _ _ (c .before .before .before .before .before .before .before .before .in-block .ensures) (c .before .before .before .before .before .before .before .if1 .taken))
+
 pub walk-block-spec : {M : Type 1} → statement M
 walk-block-spec =
     tie.close
@@ -104,17 +116,21 @@ walk-block-spec =
     loop-holds
     in-block-requires
     shared-slice-read-if2
+    mul-add-order
     shared-slice-read-add-order
+    mul-add-order-2
     shared-slice-read-add-order-2
     add-order-requires
     add-at
     loop-less
     loop-again
-    add-t24
+    add-t26
     same-length
     same-length-2
     returns
+    mul-add-message
     shared-slice-read-add-message
+    mul-add-message-2
     shared-slice-read-add-message-2
     add-message-requires
     add-met

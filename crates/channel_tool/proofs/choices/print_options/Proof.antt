@@ -44,6 +44,12 @@ loop-again c = search needs
 returns-2 : tie.Need-returns-2 Inv-loop μ-loop
 returns-2 c = search needs
 
+mul-step : tie.Need-mul-step Inv-loop μ-loop
+mul-step c = search needs
+
+mul-step-2 : tie.Need-mul-step-2 Inv-loop μ-loop
+mul-step-2 c = search needs
+
 pub print-options-spec : {M : Type 1} → statement M
 print-options-spec =
     tie.close
@@ -54,7 +60,9 @@ print-options-spec =
     loop-holds
     returns
     element-copy-out-letter
+    mul-step
     element-copy-out-step
+    mul-step-2
     element-copy-out-step-2
     step-requires
     add-counter

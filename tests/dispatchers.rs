@@ -385,11 +385,19 @@ fn forge(r: &mut Random, seen: &mut Seen) {
     seen.forged += 1;
 }
 
+/// Sheets that are soon answered: the paper's cases 2, 3, 5 and 6.
+const SHORT: [&[u8]; 4] = [
+    b"kind one two\nS 0 0\nM 0 1\nM 2 1\nP 1 3\n",
+    b"kind one two\nS 0 0\nM 0 1\nM 0 1\nP 0 2\nP 1 3\n",
+    b"kind one two\nS 0 0\nM 0 1\nM 1 2\nP 2 1\n",
+    b"kind one two\nS 0 0\nM 3 3\n",
+];
+
 /// A list of calls from the empty dispatcher.
 pub fn try_dispatcher(r: &mut Random, seen: &mut Seen) {
     let mut c = Counter::new();
-    for _ in 0..60 {
-        let text = texts::text(r);
+    for _ in 0..100 {
+        let text = if r.one_in(2) { r.pick(&SHORT).to_vec() } else { texts::text(r) };
         let l = lent(r, seen, &mut c, &text);
         let call = match r.below(12) {
             0..=3 => Call::Admit,

@@ -2,8 +2,8 @@
 use Prim.Native.Nat.{ℕ, _+_, _/_, _^_, _≤_, _<_}
 use native.Mathlib.Nat.{div-eq-of-lt, lt-of-lt-of-le}
 use mathlib.Core.Path.{_≡_, _∙_, ap}
-use mathlib.Core.Bool.{Bool, true, false, _&&_}
-use borrow.Author.Tests.{eq-eqb, ne-eqb}
+use mathlib.Core.Bool.{Bool, true, false, not, _&&_}
+use borrow.Author.Tests.{eq-eqb, ne-eqb, not-true}
 use lib.Bits.{bitAnd, bitOr, and-mask}
 use lib.Dec.{eqb}
 use lib.Pow.{pow-mono}
@@ -54,6 +54,11 @@ noted-second s n h k = rw (ne-eqb (s .first) 0 h, eq-eqb (s .second) 0 k)
 pub noted-other : (s : Search) (n : ℕ) → (s .first ≡ 0 → ⊥) → (s .second ≡ 0 → ⊥) → s ≡ notedBy s n
 unfolding notedBy
 noted-other s n h k = rw (ne-eqb (s .first) 0 h, ne-eqb (s .second) 0 k)
+
+-- a rule without the sender
+pub met-outside : (s : Search) (number : ℕ) (rule : Rule) (r : Bool) → r ≡ inSet (rule .from) (s .sender) → not r ≡ true → s ≡ metBy s number rule
+unfolding metBy joinedBy
+met-outside s number rule r p h = rw (← p, not-true r h)
 
 -- a rule with the pair, and one without
 module _ (s t : Search) (number : ℕ) (rule : Rule) (c : Bool) (p : t ≡ joinedBy s (rule .from) (rule .to))

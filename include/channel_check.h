@@ -1,7 +1,24 @@
-/* channel_check.h: the proved channel check, for C.
+/* channel_check.h: the proved channel check, for C and C++.
  *
- * Link libchannel_check.a (`rt staticlib channel_check` writes it, for x86-64). The library uses no heap, no global state and
- * no function of the C library but memcpy and memset.
+ * Link libchannel_check.a (x86-64); in a package `pkg-config --cflags --libs channel-check` prints the words for it.
+ *
+ * Boards exchange messages over a channel. A message sheet says which messages, and which events come before which: message m, from 0, has the
+ * events 2m, its send, and 2m + 1, its receive. The calls below judge such sheets. Each answer is a struct:
+ *
+ * word                  which of the call's cases it is: one of the enumerators beside the call.
+ * one, two, three       the numbers of that case. Those that a case does not name are 0.
+ *
+ * The last case of every call is refused: `one` is then a channel_check_refusal, and `two` its line, 0 where it has none. README has the form of a
+ * sheet file and the table of refusals; channel_check_words.h has the words of refusals, channels and steps, to print.
+ *
+ * What holds of every call:
+ *
+ * - A buffer is a pointer and the number of its elements. The pointer is valid for that number and aligned for its type; with 0 elements any
+ *   pointer but NULL is taken. A buffer that is written to overlaps no other.
+ * - Any bytes, numbers and lengths are taken; unfit ones are refused. A call always returns, and stays inside its buffers.
+ * - It is reentrant: the library has no static data that changes, allocates nothing, keeps nothing between calls, and uses no function of the C
+ *   library but memcpy, memmove and memset. Several threads may call at a time, with buffers of their own.
+ * - CHANNEL_CHECK_STACK_BYTES of stack hold it, with the structs that are handed in and back.
  */
 #ifndef CHANNEL_CHECK_H
 #define CHANNEL_CHECK_H
@@ -13,49 +30,109 @@
 extern "C" {
 #endif
 
-/* The least lengths of the two buffers lent. A shorter one is refusal 2. */
-#define CHANNEL_CHECK_SCRATCH_WORDS 1024
-#define CHANNEL_CHECK_TRACE_BYTES 768
+/* ------------------------------------------------------------------ what every call is about */
 
-/* word: 0 free, 1 locked, 2 refused.
- * free:    one, two and three are 0.
- * locked:  one is the race's message, two its event (message m has the send 2m and the receive 2m + 1), three the number of
- *          steps in the trace.
- * refused: one is the refusal's number, 1 to 11 (README has the table); two its line, 0 where the table gives none; three is 0. */
+/* The limits of a sheet: the messages of a block, and of all that a sheet calls; their events; boards; channels; the bytes of its text. */
+#define CHANNEL_CHECK_MESSAGES 128
+#define CHANNEL_CHECK_EVENTS (2 * CHANNEL_CHECK_MESSAGES)
+#define CHANNEL_CHECK_BOARDS 16
+#define CHANNEL_CHECK_CHANNELS 6
+#define CHANNEL_CHECK_TEXT_BYTES 8192
+
+/* The least lengths of a scratch, in words of 64 bits, and of a trace that is written to: a bit for each pair of events, and three steps of two
+ * bytes for each message. Shorter ones are refusal 2. */
+#define CHANNEL_CHECK_ROW_WORDS (CHANNEL_CHECK_EVENTS / 64)
+#define CHANNEL_CHECK_SCRATCH_WORDS (CHANNEL_CHECK_EVENTS * CHANNEL_CHECK_ROW_WORDS)
+#define CHANNEL_CHECK_TRACE_BYTES (2 * 3 * CHANNEL_CHECK_MESSAGES)
+
+/* The stack that holds any call. */
+#define CHANNEL_CHECK_STACK_BYTES 32768
+
+/* The channels, for `code`. On an eager one a board sends, or takes a delivery, only while its buffer is empty. */
+enum channel_check_channel {
+    CHANNEL_CHECK_EAGER_FREE_RUNNING = 0,
+    CHANNEL_CHECK_LAZY_FREE_RUNNING = 1,
+    CHANNEL_CHECK_EAGER_FIFO = 2,
+    CHANNEL_CHECK_LAZY_FIFO = 3,
+    CHANNEL_CHECK_SYNCHRONOUS = 4, /* and eager */
+    CHANNEL_CHECK_TOKEN_RING = 5   /* and eager */
+};
+
+/* The steps of a trace, two bytes each: one of these, and then the message. A message is sent, delivered to its receiver's buffer, and consumed. */
+enum channel_check_step {
+    CHANNEL_CHECK_SEND = 0,
+    CHANNEL_CHECK_DELIVER = 1,
+    CHANNEL_CHECK_CONSUME = 2
+};
+
+/* The refusals, and the line that each reports. The first that applies is given: 1 to 4 in this order; then row by row 5, 6 and 11, in this order
+ * on one row; then 7; then 8, 9 and 10 as the calls are walked. Of the others each says which call gives it, and behind which. */
+enum channel_check_refusal {
+    CHANNEL_CHECK_REFUSAL_CHANNEL = 1,    /* no such channel */
+    CHANNEL_CHECK_REFUSAL_BENCH = 2,      /* scratch, trace, words or output too short */
+    CHANNEL_CHECK_REFUSAL_LENGTH = 3,     /* a text of 0 bytes, or of more than CHANNEL_CHECK_TEXT_BYTES */
+    CHANNEL_CHECK_REFUSAL_HEADING = 4,    /* the first line is not the heading: line 1 */
+    CHANNEL_CHECK_REFUSAL_ROW = 5,        /* form, letter, number, unused field or line end of a row, or a row too many: its line */
+    CHANNEL_CHECK_REFUSAL_PLACE = 6,      /* a row, or a number in it, that may not stand there: its line */
+    CHANNEL_CHECK_REFUSAL_ABSENT = 7,     /* no sheet 0: line 0; or a call to an absent sheet: its line */
+    CHANNEL_CHECK_REFUSAL_DEPTH = 8,      /* a call at the deepest level: its line */
+    CHANNEL_CHECK_REFUSAL_CALLS = 9,      /* a call too many: its line */
+    CHANNEL_CHECK_REFUSAL_MESSAGES = 10,  /* a message too many in the walk: its row's line */
+    CHANNEL_CHECK_REFUSAL_CIRCLE = 11,    /* a P row that puts an event of its block before itself: its line */
+    CHANNEL_CHECK_REFUSAL_TRACE = 12,     /* trace_check: a trace of odd length, or too long; directly behind 2 */
+    CHANNEL_CHECK_REFUSAL_CHOICES = 13,   /* choice_check: an A row too many in one walk, behind 8 and 9 on that row: its line */
+    CHANNEL_CHECK_REFUSAL_SWITCH = 14,    /* monitor_switch: the state does not fit the new channel; behind all others */
+    CHANNEL_CHECK_REFUSAL_ROWS = 15,      /* cure_sheet: more rows to write than a sheet may have; behind all others */
+    CHANNEL_CHECK_REFUSAL_JOBS = 16,      /* dispatcher_admit: no place free, or all numbers given out; directly behind 2 */
+    CHANNEL_CHECK_REFUSAL_HELD = 17,      /* dispatcher_cancel: a number that is not held; directly behind 2 */
+    CHANNEL_CHECK_REFUSAL_TABLE = 18,     /* senders_check, permitted_check: a table malformed: its first bad line, 0 for its length; or, to
+                                             permitted_check, not sound: 0; directly behind 3 */
+    CHANNEL_CHECK_REFUSAL_FORBIDDEN = 19, /* permitted_check: a message that the table forbids, behind all others: its row's line */
+    CHANNEL_CHECK_REFUSAL_TAP = 20        /* taps_check: an event not in the sheet, or twice in a list, behind all others: 1 or 2, the list */
+};
+
+/* ------------------------------------------------------------------ the check */
+
+enum channel_check_word {
+    CHANNEL_CHECK_FREE = 0,   /* no timing that the channel allows can stop the boards */
+    CHANNEL_CHECK_LOCKED = 1, /* some timing stops them. one: the race's message; two: the event that it races with; three: steps in the trace */
+    CHANNEL_CHECK_REFUSED = 2 /* 1 to 11 */
+};
+
 typedef struct {
     uint32_t word, one, two, three;
 } channel_check_answer;
 
 /* Says whether some timing that the channel allows can stop the boards of a message sheet.
  *
- * text, text_len        the sheet file's bytes; only read. Any bytes and any length are taken.
- * code                  the channel, 0 to 5. Any number is taken; one above 5 is refusal 1.
- * scratch, scratch_len  64-bit words, aligned as uint64_t, to work in. Their contents do not matter.
- *                       After refusals 1 and 2 they are untouched. After every other call the first 1,024 are zero and the
- *                       rest unchanged.
- * trace, trace_len      bytes for the steps. They change only where the answer is locked, and then only the first
- *                       2 * three of them: two for each step, 0 send, 1 deliver, 2 consume, and then the message.
- *
- * The three buffers do not overlap. A pointer is valid for its length; with length 0 any pointer but NULL is taken.
- * A call needs less than 16 KiB of stack (10,104 bytes measured on x86-64, tests/stack.c).
- * The function always returns, stays inside the buffers, keeps nothing between calls, and may be called from several threads
- * at a time with buffers of their own.
+ * text, text_len        the sheet file's bytes; only read.
+ * code                  the channel.
+ * scratch, scratch_len  CHANNEL_CHECK_SCRATCH_WORDS words or more to work in; their contents do not matter. Refusals 1 and 2 leave them
+ *                       untouched. Behind every other answer the first CHANNEL_CHECK_SCRATCH_WORDS are zero, and the rest unchanged.
+ * trace, trace_len      CHANNEL_CHECK_TRACE_BYTES or more for the steps. On locked the first 2 * three hold the steps that stop the boards, from
+ *                       the start, and the rest is unchanged; behind every other answer all are unchanged.
  */
 channel_check_answer channel_check(const uint8_t *text, size_t text_len, uint32_t code, uint64_t *scratch, size_t scratch_len,
                                    uint8_t *trace, size_t trace_len);
 
-/* The longest trace that trace_check takes. */
-#define TRACE_CHECK_TRACE_BYTES 768
+/* ------------------------------------------------------------------ a trace from any tool */
 
-/* word: 0 finished, 1 stuck, 2 open, 3 not allowed, 4 refused.
- * not allowed: one is the index, from 0, of the first step that is not allowed.
- * refused:     one is the refusal's number, 1 to 12; two its line, 0 where the table gives none.
- * Numbers that a word does not name are 0.
- * waits has a number for each board. stuck: TRACE_CHECK_NO_WAIT where the board's buffer holds no message whose receive is unready; else
- *              the event that the lowest such message waits for: the lowest event on that board that is before the receive and not yet
- *              done (message m has the send 2m and the receive 2m + 1). On every other word all are TRACE_CHECK_NO_WAIT. */
-#define TRACE_CHECK_BOARDS 16
+enum trace_check_word {
+    TRACE_CHECK_FINISHED = 0,    /* all its steps are allowed, and behind them all events are done */
+    TRACE_CHECK_STUCK = 1,       /* all are allowed; behind them no step is, and not all events are done. waits: see below */
+    TRACE_CHECK_OPEN = 2,        /* all are allowed, and the run can go on */
+    TRACE_CHECK_NOT_ALLOWED = 3, /* one: the index, from 0, of the first step that is not allowed */
+    TRACE_CHECK_REFUSED = 4      /* 1 to 12 */
+};
+
+/* The longest trace that is taken; and what stands in `waits` for a board that waits for no event. */
+#define TRACE_CHECK_TRACE_BYTES CHANNEL_CHECK_TRACE_BYTES
+#define TRACE_CHECK_BOARDS CHANNEL_CHECK_BOARDS
 #define TRACE_CHECK_NO_WAIT 65535
+
+/* waits, by board, on stuck: where the board's buffer holds a message whose receive is not ready, the event that the lowest such message waits for,
+ * which is the lowest on that board that is before the receive and not yet done; else TRACE_CHECK_NO_WAIT. On every other word all are
+ * TRACE_CHECK_NO_WAIT. */
 typedef struct {
     uint32_t word, one, two;
     uint16_t waits[TRACE_CHECK_BOARDS];
@@ -63,23 +140,27 @@ typedef struct {
 
 /* Says what the step rules say of a trace, from any tool, on a sheet and a channel.
  *
- * text, code, scratch   as above; the scratch is left as channel_check leaves it.
- * trace, trace_len      the steps, two bytes each: 0 send, 1 deliver, 2 consume, and then the message; only read. An odd length, or
- *                       more than 768 bytes, is refusal 12, directly behind 2.
+ * text, code, scratch   as channel_check's, and so is the scratch at exit.
+ * trace, trace_len      the steps, two bytes each, at most TRACE_CHECK_TRACE_BYTES; only read.
  *
- * finished: an allowed order behind which all events are done. stuck: one behind which no step is allowed, and not all are done.
- * open: any other allowed order. Otherwise the first step that is none (a code above 2, an unknown message) or is not allowed in the
- * state that the steps ahead of it leave is named; a step behind a finished run is not allowed. The steps that channel_check hands
- * back where a sheet is locked are stuck here. All of this is proved for every text and trace.
+ * A step with a wrong code or an unknown message is not allowed, and neither is one behind a finished run. The steps that channel_check hands back
+ * where a sheet is locked are stuck here. All of this is proved for every text and trace.
  */
 trace_check_answer trace_check(const uint8_t *text, size_t text_len, uint32_t code, uint64_t *scratch, size_t scratch_len,
                                const uint8_t *trace, size_t trace_len);
 
-/* word: 0 free, 1 locked, 2 refused.
- * locked:  one, two and three as channel_check says them of the first choice list that locks; length is that list's number of
- *          options, at most 8, and choices has bit k set where its A row k, from 0, takes its second sheet.
- * refused: one is the refusal's number, 1 to 11 or 13; two its line, 0 where the table gives none.
- * Numbers that a word does not name are 0. */
+/* ------------------------------------------------------------------ a choice between two sheets */
+
+enum choice_check_word {
+    CHOICE_CHECK_FREE = 0,   /* every choice list's sheet is free */
+    CHOICE_CHECK_LOCKED = 1, /* one, two, three: the check's of the first list that locks; length: its options; choices: bit k set where its A row k,
+                                from 0, takes its second sheet */
+    CHOICE_CHECK_REFUSED = 2 /* 1 to 11 or 13 */
+};
+
+/* The most options of a list. */
+#define CHOICE_CHECK_OPTIONS 8
+
 typedef struct {
     uint32_t word, one, two, three, length, choices;
 } choice_check_answer;
@@ -87,30 +168,36 @@ typedef struct {
 /* The check of a sheet file with choices: a row `A m n` walks sheet m or sheet n, as a call. A choice list fixes one option for each A
  * row as the walk meets it; one row met twice is two options. Lists are ordered with the earlier A row deciding first, and m ahead of n.
  *
- * All arguments, and the buffers at exit, are as channel_check's.
+ * All arguments, and the buffers at exit, are as channel_check's; the trace is that of the list named.
  *
- * free: no timing of any list's sheet can stop the boards. locked: the first list whose sheet some timing stops, with its lowest race and
- * the steps. A refusal in any list comes before any lock, the first list's first; the ninth A row met in one walk is refusal 13, behind 8
- * and 9 on that row. On files without A rows the answer is channel_check's. Every other call refuses an A row with 5.
+ * A refusal in any list comes before any lock, the first list's first. On files without A rows the answer is channel_check's. Every other call
+ * refuses an A row with 5.
  */
 choice_check_answer choice_check(const uint8_t *text, size_t text_len, uint32_t code, uint64_t *scratch, size_t scratch_len,
                                  uint8_t *trace, size_t trace_len);
 
-/* A live monitor of one run. Its state is a value, handed in and handed back: the events done (event x is bit x % 64 of word x / 64), the
- * messages under way, as bits of their sends, each board's buffer in the same form, and the channel code in force. */
-#define MONITOR_ROW_WORDS 4
+/* ------------------------------------------------------------------ a live monitor */
+
+/* The state of one run, a value that is handed in and handed back: the events done (event x is bit x % 64 of word x / 64), the messages under way,
+ * as bits of their sends, each board's buffer in the same form, and the channel code in force. */
+#define MONITOR_ROW_WORDS CHANNEL_CHECK_ROW_WORDS
 typedef struct {
     uint64_t held[MONITOR_ROW_WORDS];
 } monitor_buffer;
 typedef struct {
     uint64_t done[MONITOR_ROW_WORDS], way[MONITOR_ROW_WORDS];
-    monitor_buffer buffers[16];
+    monitor_buffer buffers[CHANNEL_CHECK_BOARDS];
     uint32_t code;
 } monitor;
 
-/* word: 0 taken (opened, stepped or switched), 1 forbidden, 2 refused: one is the refusal's number, 1 to 11 or 14, and two its line.
- * next is the monitor to go on with: forbidden steps and refusals hand back the one that was handed in, bit for bit, and a refused
- * opening one of all zeros. */
+enum monitor_word {
+    MONITOR_TAKEN = 0,     /* opened, stepped or switched */
+    MONITOR_FORBIDDEN = 1, /* a step that the rules forbid, a wrong step code, or an unknown message */
+    MONITOR_REFUSED = 2    /* 1 to 11 or 14 */
+};
+
+/* next is the monitor to go on with. Forbidden and refused hand back the one that was handed in, bit for bit; a refused opening one of all
+ * zeros. */
 typedef struct {
     uint32_t word, one, two;
     monitor next;
@@ -119,10 +206,9 @@ typedef struct {
 /* Each call is lent the sheet's text and scratch again; both are as channel_check's, and so is the scratch at exit.
  *
  * monitor_open    a run at its start, on a channel.
- * monitor_step    a step by its code (0 send, 1 deliver, 2 consume) and message, under the code in force. A step that the rule forbids, a
- *                 wrong step code and an unknown message are answered forbidden.
- * monitor_switch  another channel code; the state passes over whole. Refusal 14, behind all others: to an eager code (0, 2, 4, 5) while some
- *                 board holds two messages or more, or to code 5 while two or more are under way.
+ * monitor_step    a step by its code, `kind`, and message, under the channel in force.
+ * monitor_switch  another channel; the state passes over whole. Refusal 14: to an eager one while some board holds two messages or more, or to the
+ *                 token ring while two or more are under way.
  *
  * Proved over every list of steps and switches from an opened monitor, each call with that same text: the state held is that of the step
  * rules, each step under the code in force, and so are the answers; without a switch it is that of an allowed order, of which channel_check's
@@ -133,13 +219,16 @@ monitor_answer monitor_step(monitor state, uint32_t kind, uint32_t message, cons
                             size_t scratch_len);
 monitor_answer monitor_switch(monitor state, uint32_t code, const uint8_t *text, size_t text_len, uint64_t *scratch, size_t scratch_len);
 
-/* The least length of the output that cure_sheet is lent. */
-#define CURE_SHEET_OUTPUT_BYTES 8192
+/* ------------------------------------------------------------------ the loosest cure */
 
-/* word: 0 written, 1 refused.
- * written: one is the text's length.
- * refused: one is the refusal's number, 2 to 11 or 15; two its line, 0 where the table gives none.
- * Numbers that a word does not name are 0. */
+enum cure_sheet_word {
+    CURE_SHEET_WRITTEN = 0, /* one: the bytes written */
+    CURE_SHEET_REFUSED = 1  /* 2 to 11 or 15 */
+};
+
+/* The least length of the output, in bytes. */
+#define CURE_SHEET_OUTPUT_BYTES CHANNEL_CHECK_TEXT_BYTES
+
 typedef struct {
     uint32_t word, one, two;
 } cure_sheet_answer;
@@ -147,26 +236,33 @@ typedef struct {
 /* Writes the loosest sheet that is free and keeps a sheet's messages: sends stay before their receives, and an order stays only where it
  * ends in a send, closed transitively.
  *
- * text, scratch         as channel_check's, and so is the scratch at exit. No channel is given, so there is no refusal 1.
- * output, output_len    bytes for the text; fewer than 8,192 are refusal 2. Only the first `one` of them change, and on a refusal none.
+ * text, scratch         as channel_check's, and so is the scratch at exit.
+ * output, output_len    CURE_SHEET_OUTPUT_BYTES or more for the text. Only the first `one` change; on a refusal none do.
  *
  * The text: `kind one two`, `S 0 0`, the M rows as the walk meets them, then `P x y` for each x before y on one board with no event of any
- * board between them, but for a message's own send and receive, by x and then y. A sheet that is free already is written too. A text of
- * more than 512 rows is refusal 15, behind all others.
+ * board between them, but for a message's own send and receive, by x and then y. A sheet that is free already is written too.
  *
  * Proved of every text written: this library reads it, with the same messages and exactly that order, which lies inside the old one; it is free
- * on all six channels; and every sheet of the same messages that is accepted, free on channel 0 and ordered inside the old order is ordered
+ * on all channels; and every sheet of the same messages that is accepted, free on channel 0 and ordered inside the old order is ordered
  * inside this one.
  */
 cure_sheet_answer cure_sheet(const uint8_t *text, size_t text_len, uint64_t *scratch, size_t scratch_len, uint8_t *output, size_t output_len);
 
-/* A dispatcher of up to eight jobs, each an accepted sheet on a channel, which a turn at a time takes to the check's answer. It is a value,
- * handed in and handed back: the jobs in the order of their turns, the head first; how many numbers were given out; and of each place
- * what the race search of its job has found, and the board of each of its events. The causal order of a job is in the words of its place. */
+/* ------------------------------------------------------------------ several jobs, a turn at a time */
+
+/* The places for jobs, the bytes of sheet that are lent for each, and the words that are lent for all. */
 #define DISPATCHER_PLACES 8
-#define DISPATCHER_SHEET_BYTES 8192                                             /* of each place */
-#define DISPATCHER_WORDS (DISPATCHER_PLACES * CHANNEL_CHECK_SCRATCH_WORDS)      /* of all places */
-#define DISPATCHER_EVENTS 256
+#define DISPATCHER_SHEET_BYTES CHANNEL_CHECK_TEXT_BYTES
+#define DISPATCHER_WORDS (DISPATCHER_PLACES * CHANNEL_CHECK_SCRATCH_WORDS)
+#define DISPATCHER_EVENTS CHANNEL_CHECK_EVENTS
+
+/* The unrefused turns behind its admission within which a job that is not cancelled is answered; and how many numbers there are for jobs. */
+#define DISPATCHER_TURNS (DISPATCHER_PLACES * (DISPATCHER_EVENTS + 1))
+#define DISPATCHER_NUMBERS 65536
+
+/* A dispatcher of jobs, each an accepted sheet on a channel, which a turn at a time takes to the check's answer. It is a value, handed in and handed
+ * back: the jobs in the order of their turns, the head first; how many numbers were given out; and of each place what the race search of its job
+ * has found, and the board of each of its events. The causal order of a job is in the words of its place. */
 typedef struct {
     uint32_t number, turns;
     uint16_t count;
@@ -189,9 +285,16 @@ typedef struct {
     dispatcher_boards boards[DISPATCHER_PLACES];
 } dispatcher;
 
-/* word: 0 admitted: one is the job's number, two its place; 1 idle: no job is held; 2 a turn of job one, which is unanswered; 3 job one
- * answered, and `answer` is what channel_check answers; 4 job one cancelled; 5 refused: one is the refusal's number, two its line.
- * `answer` is zero but on 3. next is the dispatcher to go on with: an idle turn and a refusal hand back the one that was handed in, bit for bit. */
+enum dispatcher_word {
+    DISPATCHER_ADMITTED = 0,   /* one: the job's number; two: its place */
+    DISPATCHER_IDLE = 1,       /* a turn with no job held */
+    DISPATCHER_UNANSWERED = 2, /* a turn of job one */
+    DISPATCHER_ANSWERED = 3,   /* the last turn of job one, which leaves; answer: the check's */
+    DISPATCHER_CANCELLED = 4,  /* job one leaves */
+    DISPATCHER_REFUSED = 5     /* an admission: 1, 2, 16, 3 to 11; a turn: 2; a cancellation: 2 or 17 */
+};
+
+/* answer is all zeros but on answered. next is the dispatcher to go on with: idle and refused hand back the one that was handed in, bit for bit. */
 typedef struct {
     uint32_t word, one, two;
     channel_check_answer answer;
@@ -200,28 +303,29 @@ typedef struct {
 
 /* Every call is lent, of all places:
  *
- * sheets, sheets_len    8,192 bytes a place, of which the first lengths[p] are the sheet of place p; bytes that are not lent are not there.
- * lengths, codes        a sheet's length and a channel code a place; one that is not lent counts as 0 bytes, and as code 6.
- * words, words_len      1,024 words a place. A held job's words are written by its admission alone; those of free places are zero behind
- *                       every call but refusals 1 and 2, whatever they held, and those behind the 8,192 are unchanged.
- * trace, trace_len      to a turn: as channel_check's. It changes only where the answer is locked, in the bytes of the steps.
+ * sheets, sheets_len    DISPATCHER_SHEET_BYTES a place, of which the first lengths[p] are the sheet of place p; bytes that are not lent are not
+ *                       there. Only read.
+ * lengths, codes        a sheet's length and a channel a place; one that is not lent counts as 0 bytes, and as no channel. Only read.
+ * words, words_len      DISPATCHER_WORDS or more, a place's CHANNEL_CHECK_SCRATCH_WORDS behind the other's. A held job's are written by its
+ *                       admission alone, and are to be lent as the last call left them. Those of free places are zero behind every call but
+ *                       refusals 1 and 2, which touch none; those behind all places are unchanged.
+ * trace, trace_len      to a turn: as channel_check's. It changes only where a job is answered locked, in the bytes of the steps.
  *
- * dispatcher_admit    the sheet and the code lent in the lowest free place are a new job, which goes behind the last. Its number is 0 first, and
- *                     then one more each time, up to 65,535. Refusals: 1; 2, under 8,192 words; 16, eight jobs held or all numbers given out;
- *                     3, also a length over 8,192, and so on as channel_check's. With no place free: 2, then 16. A refused admission
- *                     gives out no number.
+ * dispatcher_empty    no job held, and no number given out.
+ * dispatcher_admit    the sheet and the channel lent in the lowest free place are a new job, which goes behind the last. Its number is 0 first, and
+ *                     then one more each time, up to DISPATCHER_NUMBERS - 1. A sheet longer than DISPATCHER_SHEET_BYTES is refusal 3. With no place
+ *                     free: 2, then 16. A refused admission gives out no number.
  * dispatcher_turn     takes the head of the queue. A job of n messages is answered on its own turn number 2n + 1 and leaves; ahead of that it
- *                     goes behind the last. Refusal 2, also with no job held: under 8,192 words, or a trace under 768 bytes.
- * dispatcher_cancel   the job with the number leaves; the others stay in their order. Refusals: 2, under 8,192 words; 17, the number is not held.
+ *                     goes behind the last. Refusal 2 also with no job held.
+ * dispatcher_cancel   the job with the number leaves; the others stay in their order.
  *
  * An admission reads the sheet once. A turn and a cancellation read no sheets, lengths and codes: a job's answer cannot depend on another's text,
- * nor on its own changed since. A turn that is not a job's last looks at half a row of the causal order of one message. A call needs less
- * than 20 KiB of stack, with the dispatchers that are handed in and back (18,824 bytes measured).
+ * nor on its own changed since. A turn that is not a job's last looks at half a row of the causal order of one message.
  *
  * Proved over every list of calls from dispatcher_empty, each taking the dispatcher that the last call left: the queue, the places, the numbers
- * and the answers are as said; a job not cancelled is answered within 2,056 unrefused turns of its admission; and, while every call is lent
- * its words as the last call left them, its answer is exactly channel_check's for the sheet and the code that it was admitted with: the word,
- * the three numbers and the bytes of the trace. Of any other dispatcher or words the refusals, what is unchanged and what is zero are proved.
+ * and the answers are as said; a job not cancelled is answered within DISPATCHER_TURNS unrefused turns of its admission; and, while every call is
+ * lent its words as the last call left them, its answer is exactly channel_check's for the sheet and the channel that it was admitted with: the
+ * word, the three numbers and the bytes of the trace. Of any other dispatcher or words the refusals, what is unchanged and what is zero are proved.
  */
 dispatcher dispatcher_empty(void);
 dispatcher_answer dispatcher_admit(dispatcher state, const uint8_t *sheets, size_t sheets_len, const uint32_t *lengths, size_t lengths_len,
@@ -231,51 +335,61 @@ dispatcher_answer dispatcher_turn(dispatcher state, const uint8_t *sheets, size_
 dispatcher_answer dispatcher_cancel(dispatcher state, uint32_t number, const uint8_t *sheets, size_t sheets_len, const uint32_t *lengths,
                                     size_t lengths_len, const uint32_t *codes, size_t codes_len, uint64_t *words, size_t words_len);
 
-/* word: 0 sound, 1 gap, 2 clash, 3 refused.
- * gap:     one is the lowest pair that is not in exactly one rule, 16 times sender plus receiver; it is in none.
- * clash:   one is that pair, in two rules or more; two and three are the lines of its first two rules.
- * refused: one is 18; two is the first bad line, 0 for the table's length.
- * Numbers that a word does not name are 0. */
+/* ------------------------------------------------------------------ who may send to whom */
+
+enum senders_check_word {
+    SENDERS_CHECK_SOUND = 0,  /* each ordered pair of boards is in exactly one rule */
+    SENDERS_CHECK_GAP = 1,    /* one: the lowest pair that is not in exactly one rule; it is in none */
+    SENDERS_CHECK_CLASH = 2,  /* one: that pair, which is in two or more; two, three: the lines of its first two rules */
+    SENDERS_CHECK_REFUSED = 3 /* 18 */
+};
+
+/* The most rules of a table, and the longest table in bytes. A pair is CHANNEL_CHECK_BOARDS times its sender, plus its receiver. */
+#define SENDERS_CHECK_RULES 64
+#define SENDERS_CHECK_TABLE_BYTES CHANNEL_CHECK_TEXT_BYTES
+
 typedef struct {
     uint32_t word, one, two, three;
 } senders_check_answer;
 
-/* Judges a table of permitted senders: its names line `from to verdict`, then at most 64 rules, a line each: two sets of boards as decimal
- * numbers 0 to 65,535 (bit k is board k) and 1 for permitted or 0, with the spacing, number and line-end rules of the sheet file; 1 to
- * 8,192 bytes. All lines are read ahead of the judgement. Sound: each of the 256 ordered pairs of boards is in exactly one rule.
+/* Judges a table of permitted senders: its names line `from to verdict`, then at most SENDERS_CHECK_RULES rules, a line each: two sets of boards as
+ * decimal numbers (bit k is board k) and 1 for permitted or 0, with the spacing, number and line-end rules of the sheet file; at least one
+ * byte. All lines are read ahead of the judgement.
  *
- * table, table_len      the table's bytes; only read. Any bytes and any length are taken.
+ * table, table_len      the table's bytes; only read.
  */
 senders_check_answer senders_check(const uint8_t *table, size_t table_len);
 
-/* The check of a sheet with a table of permitted senders. All arguments but the table, and the buffers at exit, are as channel_check's.
+/* The check of a sheet with a table of permitted senders: the answer is a channel_check_word, and refusals are 1 to 11, 18 and 19. All arguments but
+ * the table, and the buffers at exit, are as channel_check's.
  *
- * refused: 18, for a table that is malformed, with its first bad line (0 for its length), or not sound (0), directly behind 3 and ahead of
- *          all else that is said of the sheet; 19, for the first message in walk order that the table forbids, with the line of its M row, once
- *          the walk has ended: behind all others. The trace is untouched, and the scratch as behind any refusal.
- * With a sound table that forbids no message of the walk, answer, trace and scratch are those of channel_check.
+ * Refused with 18: a table that is malformed or not sound, ahead of all that is said of the sheet but its length. With 19: the first message in walk
+ * order that the table forbids, once the walk has ended. With a sound table that forbids no message of the walk, answer, trace and scratch are
+ * those of channel_check.
  */
 channel_check_answer permitted_check(const uint8_t *text, size_t text_len, uint32_t code, uint64_t *scratch, size_t scratch_len,
                                      uint8_t *trace, size_t trace_len, const uint8_t *table, size_t table_len);
 
-/* The least length, in 16-bit numbers, of the output that taps_check is lent. */
+/* ------------------------------------------------------------------ one course of events for two lists */
+
+enum taps_check_word {
+    TAPS_CHECK_FIT = 0,    /* one: the events written to the output, which are all of the sheet's */
+    TAPS_CHECK_CLASH = 1,  /* one: the lowest event that would have to precede itself */
+    TAPS_CHECK_REFUSED = 2 /* 2 to 11 or 20 */
+};
+
+/* The least length of the output, in numbers of 16 bits. */
 #define TAPS_CHECK_OUTPUT_NUMBERS 512
 
-/* word: 0 fit, 1 clash, 2 refused.
- * fit:     one is how many numbers stand in the output: all events of the sheet.
- * clash:   one is the lowest event that would have to precede itself.
- * refused: one is the refusal's number, 2 to 11 or 20; two its line, 0 where the table gives none; for 20 it is 1 or 2, the list.
- * Numbers that a word does not name are 0. */
 typedef struct {
     uint32_t word, one, two;
 } taps_check_answer;
 
 /* Says whether two lists of events, each in the order that a probe saw them, fit one course of events of a sheet, and writes it.
  *
- * text, scratch         as channel_check's, and so is the scratch at exit. No channel is given, so there is no refusal 1.
- * first, second         the lists: event numbers (message m has the send 2m and the receive 2m + 1); only read. Any length is taken, 0 too.
- *                       An event that the sheet has not, or one twice in a list, is refusal 20, behind all others, the first list first.
- * output, output_len    16-bit numbers for the course; fewer than 512 are refusal 2. Only the first `one` of them change, and only on fit.
+ * text, scratch         as channel_check's, and so is the scratch at exit.
+ * first, second         the lists: event numbers; only read. Any length is taken, 0 too.
+ * output, output_len    TAPS_CHECK_OUTPUT_NUMBERS or more for the course. Only the first `one` change, and only on fit.
  *
  * fit: some order of all events obeys "before" and both lists; the one written always takes the lowest event that has nothing left before
  * it by all three. clash: an event would have to precede itself by "before" and the lists' orders, closed transitively; no lower one would.

@@ -2,12 +2,15 @@
  * and scratch, on all eleven refusals and both words, with exact and larger buffers, odd codes and empty text; trace_check on
  * every word and on traces of every length up to two beyond the limit; choice_check on every word, with lists of every length; the
  * monitor; cure_sheet on every refusal, with texts of 512 rows and one row more; the dispatcher's calls; senders_check on every word, and
- * permitted_check on each refusal, in its order; and taps_check on every word and refusal, with lists of many lengths. */
+ * permitted_check on each refusal, in its order; and taps_check on every word and refusal, with lists of many lengths. And the header's
+ * enumerators have the numbers that all of this is written in. */
 #define _GNU_SOURCE
 #include "../include/channel_check.h"
+#include "../include/channel_check_words.h"
 #include <stdio.h>
 #include <stdlib.h>
 #include <string.h>
+#include <strings.h>
 #include <sys/mman.h>
 #include <unistd.h>
 
@@ -884,7 +887,43 @@ static void taps(void) {
     if (!tap_words[0] || !tap_words[1]) printf("FAILED: two taps never fit, or never clashed\n"), failures++;
 }
 
+/* ------------------------------------------------------------------ the header's enumerators */
+
+/* enumerators count from a number on, in the order of the paper's table or of the call's cases */
+static void in_order(int from, const int *numbers, size_t count, const char *names) {
+    for (size_t i = 0; i < count; i++)
+        if (numbers[i] != from + (int)i) failures++, printf("FAILED: number %d of %s is %d\n", (int)i, names, numbers[i]);
+}
+#define IN_ORDER(from, ...) in_order(from, (const int[]){__VA_ARGS__}, sizeof (const int[]){__VA_ARGS__} / sizeof(int), #__VA_ARGS__)
+
+/* a refusal's word is its enumerator's name */
+static void worded(int number, const char *name) {
+    if (strcasecmp(channel_check_refusal_words[number], name) == 0) return;
+    failures++, printf("FAILED: refusal %d, %s, has the word %s\n", number, name, channel_check_refusal_words[number]);
+}
+#define REFUSALS(R) \
+    R(CHANNEL), R(BENCH), R(LENGTH), R(HEADING), R(ROW), R(PLACE), R(ABSENT), R(DEPTH), R(CALLS), R(MESSAGES), R(CIRCLE), R(TRACE), R(CHOICES), \
+        R(SWITCH), R(ROWS), R(JOBS), R(HELD), R(TABLE), R(FORBIDDEN), R(TAP)
+#define NUMBER(NAME) CHANNEL_CHECK_REFUSAL_##NAME
+#define WORDED(NAME) worded(CHANNEL_CHECK_REFUSAL_##NAME, #NAME)
+
+static void enumerators(void) {
+    IN_ORDER(1, REFUSALS(NUMBER));
+    REFUSALS(WORDED);
+    IN_ORDER(0, CHANNEL_CHECK_EAGER_FREE_RUNNING, CHANNEL_CHECK_LAZY_FREE_RUNNING, CHANNEL_CHECK_EAGER_FIFO, CHANNEL_CHECK_LAZY_FIFO, CHANNEL_CHECK_SYNCHRONOUS, CHANNEL_CHECK_TOKEN_RING, CHANNEL_CHECK_CHANNELS);
+    IN_ORDER(0, CHANNEL_CHECK_SEND, CHANNEL_CHECK_DELIVER, CHANNEL_CHECK_CONSUME);
+    IN_ORDER(0, CHANNEL_CHECK_FREE, CHANNEL_CHECK_LOCKED, CHANNEL_CHECK_REFUSED);
+    IN_ORDER(0, TRACE_CHECK_FINISHED, TRACE_CHECK_STUCK, TRACE_CHECK_OPEN, TRACE_CHECK_NOT_ALLOWED, TRACE_CHECK_REFUSED);
+    IN_ORDER(0, CHOICE_CHECK_FREE, CHOICE_CHECK_LOCKED, CHOICE_CHECK_REFUSED);
+    IN_ORDER(0, MONITOR_TAKEN, MONITOR_FORBIDDEN, MONITOR_REFUSED);
+    IN_ORDER(0, CURE_SHEET_WRITTEN, CURE_SHEET_REFUSED);
+    IN_ORDER(0, DISPATCHER_ADMITTED, DISPATCHER_IDLE, DISPATCHER_UNANSWERED, DISPATCHER_ANSWERED, DISPATCHER_CANCELLED, DISPATCHER_REFUSED);
+    IN_ORDER(0, SENDERS_CHECK_SOUND, SENDERS_CHECK_GAP, SENDERS_CHECK_CLASH, SENDERS_CHECK_REFUSED);
+    IN_ORDER(0, TAPS_CHECK_FIT, TAPS_CHECK_CLASH, TAPS_CHECK_REFUSED);
+}
+
 int main(void) {
+    enumerators();
     traces();
     choices();
     monitors();

@@ -119,7 +119,8 @@ static void measure(void (*make)(int), int refused) {
 }
 
 int main(int argc, char **argv) {
-    size_t most = argc > 1 ? (size_t)atol(argv[1]) : 32768, counters = argc > 2 ? (size_t)atol(argv[2]) : 32768;
+    const size_t said = CHANNEL_CHECK_STACK_BYTES; /* by the header, of every call */
+    size_t most = argc > 1 ? (size_t)atol(argv[1]) : said, counters = argc > 2 ? (size_t)atol(argv[2]) : said;
     for (size_t i = 0; i < sizeof down / 2; i++) down[i] = (uint16_t)(sizeof down / 2 - 1 - i);
     for (int refused = 0; refused < 2; refused++) {
         measure(levels, refused);
@@ -127,5 +128,5 @@ int main(int argc, char **argv) {
     }
     measure(choosing, 1);
     printf("stack: %zu bytes at the deepest, %zu allowed; %zu in the dispatcher, %zu allowed\n", deepest, most, counter, counters);
-    return deepest > most || counter > counters;
+    return deepest > most || counter > counters || deepest > said || counter > said;
 }

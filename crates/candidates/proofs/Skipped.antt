@@ -192,15 +192,20 @@ unfolding holds
 needed-deliveries-all words way now e i p h m l clear =
     let word : (2 * m + 1) / wordBits ≡ 2 * m / wordBits = omega arith in
     let bit : (2 * m + 1) % wordBits ≡ 1 + 2 * m % wordBits = omega arith in
-    rw (alone-row width way (2 * m), word, bit, shifted (getD words (2 * e * width + 2 * m / wordBits) 0) 1 (2 * m % wordBits),
-      ← has-and (getD way (2 * m / wordBits) 0) (getD words (2 * e * width + 2 * m / wordBits) 0 / 2 ^ 1) (2 * m % wordBits))
+    rw (
+      alone-row width way (2 * m),
+      word,
+      bit,
+      shifted (getD words (2 * e * width + 2 * m / wordBits) 0) 1 (2 * m % wordBits),
+      ← has-and (getD way (2 * m / wordBits) 0) (getD words (2 * e * width + 2 * m / wordBits) 0 / 2 ^ 1) (2 * m % wordBits),
+    )
     (sym (filled-bit (behindSends words (2 * e * width) way) way now i (2 * m) p h (omega arith)) ∙ clear)
 
 -- message e is under way, and its bit set; or it is not
 pub own-marked : (way row now : List ℕ) (e : ℕ) → length row ≡ width → e < messagesMost → now ≡ marked width row 0 (2 * e) → OwnDelivery way e now
 own-marked way row now e long few m clear =
     let mark-bit : inRow now (2 * e) ≡ (inRow row (2 * e) || eqb (2 * e) (2 * e)) =
-        rw m (holds-marked width row 0 (2 * e) 0 (2 * e) (omega (arith, long)) (omega arith) (omega arith)) in
+    rw m (holds-marked width row 0 (2 * e) 0 (2 * e) (omega (arith, long)) (omega arith) (omega arith)) in
     let z : true ≡ false = sym (eq-eqb (2 * e) (2 * e) refl) ∙ or-right-false (inRow row (2 * e)) (eqb (2 * e) (2 * e)) (sym mark-bit ∙ clear) in
     absurd (let n : _≡_ {A = ℕ} 0 1 = cc in omega arith)
 
@@ -249,7 +254,7 @@ module _ (words done way rows : List ℕ) (e : ℕ) (q : Class) (row : List ℕ)
           → fits count on words c run e DeliveryOf m ≡ false
       go m clear run w count on c (yes s) =
           let own : inRow way (2 * m) ≡ false =
-              ap (λ (k : ℕ). inRow way (2 * k)) s ∙ o (ap (λ (k : ℕ). inRow row (2 * k)) (sym s) ∙ clear) in
+          ap (λ (k : ℕ). inRow way (2 * k)) s ∙ o (ap (λ (k : ℕ). inRow row (2 * k)) (sym s) ∙ clear) in
           rw (undelivered (scenarioIn count on words) (channelIn c) run m w own, and-false)
       go m clear run w count on c (no n) = rw (ne-eqb m e n)
 

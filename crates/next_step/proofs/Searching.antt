@@ -33,7 +33,7 @@ use Rattle.candidates.specs.Candidates.{fits, OfRuns, Candidates, NextIn}
 use Rattle.candidates.proofs.EachClass.{step-is, message-is}
 use Rattle.channel.specs.Steps.{SaysIn}
 use Rattle.channel.proofs.StepTests.{allowed-inside}
-use Rattle.next_step.specs.Search.{classAt, Fits, Lowest, Chosen}
+use Rattle.next_step.specs.Search.{classAt, Fits, Lowest, ChosenIn}
 
 -- the class behind the first five is the last
 pub last-class : (k : ℕ) → (k ≡ 0 → ⊥) → (k ≡ 1 → ⊥) → (k ≡ 2 → ⊥) → (k ≡ 3 → ⊥) → (k ≡ 4 → ⊥) → AnySend ≡ classAt k
@@ -197,12 +197,11 @@ module _ (count : ℕ) (boards words : List ℕ) (c : Channel) (done way rows : 
       → q ≡ classAt k → k < 6 → Tried (k + 1)
   tried-more k q f T n h i l = record { within = omega arith; same = λ run d w p. rw n at (by-class k q f T l i h run d w p) }
 
-  pub chooses : (run : Run) (k : ℕ) (q : Class) (f : StepOrNone) (step : code.Step) → run .done ≡ done → run .way ≡ way → HeldIn run rows → Tried k
-      → f ≡ maybe.Step step → Lowest count boards words c done way rows e q f → q ≡ classAt k → k < 6 → Chosen count boards words c run e f
-  chooses run k q f step d w p T n h i l = rw n (sym (rw n at (by-class k q f T l i h run d w p)))
+  pub chooses : (k : ℕ) (q : Class) (f : StepOrNone) (step : code.Step) → Tried k → f ≡ maybe.Step step → Lowest count boards words c done way rows e q f
+      → q ≡ classAt k → k < 6 → ChosenIn count boards words c done way rows e f
+  chooses k q f step T n h i l run d w p = rw n (sym (rw n at (by-class k q f T l i h run d w p)))
 
-  pub chooses-nothing : (run : Run) (k : ℕ) → run .done ≡ done → run .way ≡ way → HeldIn run rows → Tried k → 6 ≤ k
-      → Chosen count boards words c run e maybe.Nothing
-  chooses-nothing run k d w p T l =
+  pub chooses-nothing : (k : ℕ) → Tried k → 6 ≤ k → ChosenIn count boards words c done way rows e maybe.Nothing
+  chooses-nothing k T l run d w p =
       let i : k ≡ 6 = omega (arith, T .within) in
       sym (T .same run d w p ∙ ap (λ j. choose (scenarioIn count boards words) (channelIn c) (drop j (classesFor (scenarioIn count boards words) e)) (stateOf run)) i ∙ choose-none (scenarioIn count boards words) (channelIn c) (stateOf run))

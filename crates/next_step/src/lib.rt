@@ -2,13 +2,12 @@
 ghost use mathlib.Core.Path.{_≡_};
 ghost use Prim.Native.Nat.{_<_};
 ghost use Rattle.board.specs.Masks.{Standing};
-ghost use Rattle.next_step.specs.Search.{classAt, Fits, Lowest, Chosen};
+ghost use Rattle.next_step.specs.Search.{classAt, Fits, Lowest, ChosenIn};
 use buffers::HELD_WORDS;
 use candidates::Class;
 use channel::may_step;
 use channel_table::Channel;
 use relation::WIDTH;
-use run::Run;
 use step::StepOrNone;
 
 // Message m is of the class and its step is allowed, in every run with these parts: what is done, what is under way, and the
@@ -84,26 +83,25 @@ fn class_at(k: usize) -> Class
     }
 }
 
-// The step that the schedule for e takes next in the run: of the first class with an allowed step, on the lowest message.
-pub fn choose(
+// The step that the schedule for e takes next, in every run with these parts: of the first class with an allowed step, on the lowest message.
+pub fn choose<'a>(
     words: &[u64],
     masks: &[u64],
     boards: &[u8],
     count: usize,
     c: Channel,
-    run: Run,
+    done: &'a [u64; WIDTH],
+    way: &'a [u64; WIDTH],
+    rows: &'a [u64; HELD_WORDS],
     e: usize,
 ) -> StepOrNone
     requires { ⌜ Standing count (now boards) (now words) (now masks) ⌝ }
     requires { ⌜ e < count ⌝ }
-    ensures { λ r. ⌜ Chosen count (now (boards .entry)) (now (words .entry)) c run e r ⌝ }
+    ensures { λ r. ⌜ ChosenIn count (now (boards .entry)) (now (words .entry)) c (now (done .entry)) (now (way .entry)) (now (rows .entry)) e r ⌝ }
 {
-    let done = run.done;
-    let way = run.way;
-    let rows = buffers::held_rows(run);
     for k in 0..CLASS_COUNT {
         let class = class_at(k);
-        let found = lowest(words, masks, boards, count, c, &done, &way, &rows, e, class);
+        let found = lowest(words, masks, boards, count, c, done, way, rows, e, class);
         match found {
             StepOrNone::Step(_) => return found,
             StepOrNone::Nothing => {}

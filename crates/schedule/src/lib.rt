@@ -48,8 +48,9 @@ pub fn schedule(
     ensures { λ r. ⌜ Scheduled (scenarioIn count (now (boards .entry)) (now (words .entry))) (channelIn c) e (now (trace .entry)) (now (trace .exit)) r ⌝ }
 {
     let mut run = Run::start();
+    let mut rows = buffers::held_rows(run);
     for i in 0..3 * count {
-        let chosen = choose(words, masks, boards, count, c, run, e);
+        let chosen = choose(words, masks, boards, count, c, &run.done, &run.way, &rows, e);
         let StepOrNone::Step(step) = chosen else {
             return i;
         };
@@ -59,6 +60,7 @@ pub fn schedule(
         done_behind(&mut run.done, step);
         way_behind(&mut run.way, step);
         held_behind(&mut buffer.held, step);
+        buffers::put_row(&mut rows, target, buffer);
         run.buffers[target] = buffer;
     }
     3 * count

@@ -6,13 +6,16 @@ use Rattle.schedule.proofs.schedule.Statement.{statement}
 use Rattle.schedule.proofs.schedule.Tie as tie
 
 abbrev Inv-loop : tie.InvT-loop
-Inv-loop words masks boards count c e trace₀ run₀ i₀ i-end trace run i = Goes count boards words c e trace₀ i-end trace run i
+Inv-loop words masks boards count c e trace₀ run₀ rows₀ i₀ i-end trace run rows i = Goes count boards words masks c e trace₀ i-end trace run rows i
 
 abbrev μ-loop : tie.MeasureT-loop
-μ-loop words masks boards count c e trace₀ run₀ i₀ i-end trace run i = i-end - i
+μ-loop words masks boards count c e trace₀ run₀ rows₀ i₀ i-end trace run rows i = i-end - i
 
 start-requires : tie.Need-start-requires Inv-loop μ-loop
 start-requires c κs = search needs
+
+held-rows-requires : tie.Need-held-rows-requires Inv-loop μ-loop
+held-rows-requires c κs = search needs
 
 mul-i-end : tie.Need-mul-i-end Inv-loop μ-loop
 mul-i-end c = search needs
@@ -39,7 +42,10 @@ write-step-requires : tie.Need-write-step-requires Inv-loop μ-loop
 write-step-requires c κs = (search needs, search step-few)
 
 target-of-requires : tie.Need-target-of-requires Inv-loop μ-loop
-target-of-requires c κs = search step-reaches
+target-of-requires c κs =
+    let k = c .before .before .before .before .before .before .before in
+    let l = k .before .before .before .before .before .before in
+    step-reaches _ _ _ _ _ _ _ _ _ _ _ _ (l .loop .inv) (k .choose .result) _ (k .choose .ensures) (search needs)
 
 mul-buffer : tie.Need-mul-buffer Inv-loop μ-loop
 mul-buffer c = search needs
@@ -56,8 +62,11 @@ way-behind-requires c κs = search step-few
 held-behind-requires : tie.Need-held-behind-requires Inv-loop μ-loop
 held-behind-requires c κs = search step-few
 
-mul-t21 : tie.Need-mul-t21 Inv-loop μ-loop
-mul-t21 c = search needs
+put-row-requires : tie.Need-put-row-requires Inv-loop μ-loop
+put-row-requires c κs = search needs
+
+mul-t25 : tie.Need-mul-t25 Inv-loop μ-loop
+mul-t25 c = search needs
 
 element-set-from-run : tie.Need-element-set-from-run Inv-loop μ-loop
 element-set-from-run c = search needs
@@ -87,6 +96,7 @@ schedule-spec =
     Inv-loop
     μ-loop
     start-requires
+    held-rows-requires
     mul-i-end
     loop-holds
     choose-requires
@@ -101,7 +111,8 @@ schedule-spec =
     done-behind-requires
     way-behind-requires
     held-behind-requires
-    mul-t21
+    put-row-requires
+    mul-t25
     element-set-from-run
     add-i
     loop-less

@@ -32,7 +32,7 @@ use Rattle.buffers.specs.Held.{HeldAnywhere}
 use Rattle.buffers.proofs.Rows.{in-no-buffer}
 use Rattle.candidates.specs.declared.classes.Class.{Class}
 use Rattle.candidates.specs.declared.classes.Class.the-variants.{AnyConsume, DeliveryOf, NeededDelivery, NeededSend, AnyDelivery, AnySend}
-use Rattle.candidates.specs.Candidates.{fits, Unsent, Needed, NeededDeliveries, OwnDelivery, Candidates, NextIn}
+use Rattle.candidates.specs.Candidates.{fits, Unsent, Needed, NeededDeliveries, OwnDelivery, CandidatesIn, NextIn}
 
 -- The next message in a row: what is left of m's word, and then the words behind it.
 module _ (row : List ℕ) (m : ℕ) where
@@ -213,9 +213,9 @@ pub own-absent : (way row : List ℕ) (e : ℕ) (r : Bool) → r ≡ holds width
 own-absent way row e r h f clear = sym h ∙ f
 
 -- What each return of `candidates` is to show: the step of a message that is not in the row is not allowed.
-module _ (words done way rows : List ℕ) (e : ℕ) (q : Class) (row : List ℕ) where
+module _ (words done way held : List ℕ) (e : ℕ) (q : Class) (row : List ℕ) where
   abbrev Left-out : Class → Type 0
-  Left-out k = Candidates words done way rows e k row
+  Left-out k = CandidatesIn words done way held e k row
 
   -- the message is not under way
   module _ (S : Scenario) (c : model.Channel) (run : Run) (m : ℕ) (clear : inRow (run .way) (2 * m) ≡ false) where
@@ -235,20 +235,22 @@ module _ (words done way rows : List ℕ) (e : ℕ) (q : Class) (row : List ℕ)
     unfolding allowed
     not-held = rw (absent, and-false)
 
-  pub candidates-held : q ≡ AnyConsume → HeldAnywhere rows row → Candidates words done way rows e q row
-  candidates-held i h =
-      subst⁻¹ Left-out i (λ m l clear run d w s count on c. not-held (scenarioIn count on words) (channelIn c) run m (in-no-buffer run rows (2 * m) s (omega arith) (h (2 * m) (omega arith) clear) (getD on (2 * m + 1) 0)))
+  pub candidates-held : q ≡ AnyConsume → row ≡ held → CandidatesIn words done way held e q row
+  candidates-held i r =
+      subst⁻¹ Left-out i (λ rows h m l clear run d w s count on c.
+      not-held (scenarioIn count on words) (channelIn c) run m
+      (in-no-buffer run rows (2 * m) s (omega arith) (h (2 * m) (omega arith) (ap (λ (k : List ℕ). inRow k (2 * m)) (sym r) ∙ clear)) (getD on (2 * m + 1) 0)))
 
   -- the delivery of a message that is not under way
   undelivered : (S : Scenario) (c : model.Channel) (run : Run) (m : ℕ) → run .way ≡ way → inRow way (2 * m) ≡ false → allowed S c (stateOf run) (deliver m) ≡ false
   undelivered S c run m w clear = not-under-way S c run m (ap (λ (l : List ℕ). inRow l (2 * m)) w ∙ clear)
 
-  pub candidates-delivery : q ≡ AnyDelivery → row ≡ way → Candidates words done way rows e q row
+  pub candidates-delivery : q ≡ AnyDelivery → row ≡ way → CandidatesIn words done way held e q row
   candidates-delivery i r =
-      subst⁻¹ Left-out i (λ m l clear run d w s count on c. undelivered (scenarioIn count on words) (channelIn c) run m w (ap (λ (k : List ℕ). inRow k (2 * m)) (sym r) ∙ clear))
+      subst⁻¹ Left-out i (λ rows h m l clear run d w s count on c. undelivered (scenarioIn count on words) (channelIn c) run m w (ap (λ (k : List ℕ). inRow k (2 * m)) (sym r) ∙ clear))
 
-  pub candidates-own : q ≡ DeliveryOf → OwnDelivery way e row → Candidates words done way rows e q row
-  candidates-own i o = subst⁻¹ Left-out i (λ m l clear run d w s count on c. go m clear run w count on c (ℕ-discrete m e))
+  pub candidates-own : q ≡ DeliveryOf → OwnDelivery way e row → CandidatesIn words done way held e q row
+  candidates-own i o = subst⁻¹ Left-out i (λ rows h m l clear run d w s count on c. go m clear run w count on c (ℕ-discrete m e))
     where
       go : (m : ℕ) → inRow row (2 * m) ≡ false → (run : Run) → run .way ≡ way → (count : ℕ) (on : List ℕ) (c : Channel) → Dec (m ≡ e)
           → fits count on words c run e DeliveryOf m ≡ false
@@ -263,9 +265,9 @@ module _ (words done way rows : List ℕ) (e : ℕ) (q : Class) (row : List ℕ)
   unfolding number
   receive-not-before count on m h = rw (h, and-false)
 
-  pub candidates-needed-delivery : q ≡ NeededDelivery → NeededDeliveries words e way row → Candidates words done way rows e q row
+  pub candidates-needed-delivery : q ≡ NeededDelivery → NeededDeliveries words e way row → CandidatesIn words done way held e q row
   candidates-needed-delivery i n =
-      subst⁻¹ Left-out i (λ m l clear run d w s count on c. go m run w count on c (inRow way (2 * m)) refl (n m l clear))
+      subst⁻¹ Left-out i (λ rows h m l clear run d w s count on c. go m run w count on c (inRow way (2 * m)) refl (n m l clear))
     where
       go : (m : ℕ) (run : Run) → run .way ≡ way → (count : ℕ) (on : List ℕ) (c : Channel) (b : Bool) → inRow way (2 * m) ≡ b
           → (inRow way (2 * m) && holds width words (2 * e) (2 * m + 1)) ≡ false → fits count on words c run e NeededDelivery m ≡ false
@@ -278,9 +280,9 @@ module _ (words done way rows : List ℕ) (e : ℕ) (q : Class) (row : List ℕ)
   sent left u S c run m d l clear =
       sent-before S c run m (ap (λ (k : List ℕ). inRow k (2 * m)) d ∙ u m l clear)
 
-  pub candidates-send : q ≡ AnySend → Unsent done row → Candidates words done way rows e q row
+  pub candidates-send : q ≡ AnySend → Unsent done row → CandidatesIn words done way held e q row
   candidates-send i u =
-      subst⁻¹ Left-out i (λ m l clear run d w s count on c. sent row u (scenarioIn count on words) (channelIn c) run m d l clear)
+      subst⁻¹ Left-out i (λ rows h m l clear run d w s count on c. sent row u (scenarioIn count on words) (channelIn c) run m d l clear)
 
   -- a send that is neither e's nor before it
   not-needed : (S : Scenario) (m : ℕ) → (2 * m ≡ 2 * e → ⊥) → S .before (sendOf m) (sendOf e) ≡ false → atOrBefore S (sendOf m) (sendOf e) ≡ false
@@ -291,9 +293,9 @@ module _ (words done way rows : List ℕ) (e : ℕ) (q : Class) (row : List ℕ)
   unfolding number
   not-before count on m h = rw (h, and-false)
 
-  pub candidates-needed-send : (left : List ℕ) → q ≡ NeededSend → Unsent done left → Needed words e left row → Candidates words done way rows e q row
+  pub candidates-needed-send : (left : List ℕ) → q ≡ NeededSend → Unsent done left → Needed words e left row → CandidatesIn words done way held e q row
   candidates-needed-send left i u n =
-      subst⁻¹ Left-out i (λ m l clear run d w s. go m l (n (2 * m) (omega arith) clear .1) (inRow left (2 * m)) refl (n (2 * m) (omega arith) clear .0) run d)
+      subst⁻¹ Left-out i (λ rows h m l clear run d w s. go m l (n (2 * m) (omega arith) clear .1) (inRow left (2 * m)) refl (n (2 * m) (omega arith) clear .0) run d)
     where
       go : (m : ℕ) → m < messagesMost → (2 * m ≡ 2 * e → ⊥) → (b : Bool) → inRow left (2 * m) ≡ b → (inRow left (2 * m) && holds width words (2 * e) (2 * m)) ≡ false
           → (run : Run) → run .done ≡ done → (count : ℕ) (on : List ℕ) (c : Channel) → fits count on words c run e NeededSend m ≡ false

@@ -12,7 +12,7 @@ use Rattle.channel_table.specs.declared.Channel.{Channel}
 use Rattle.channel_table.specs.Table.{channelIn}
 use Rattle.run.specs.declared.Run.{Run}
 use Rattle.run.specs.State.{inRow, stateOf}
-use Rattle.buffers.specs.Held.{HeldIn}
+use Rattle.buffers.specs.Held.{HeldIn, HeldAnywhere}
 use Rattle.candidates.specs.declared.classes.Class.{Class}
 use Rattle.candidates.specs.Classes.{classIn}
 
@@ -49,6 +49,10 @@ abbrev pub Candidates : List ℕ → List ℕ → List ℕ → List ℕ → ℕ 
 Candidates words done way rows e class row =
     (m : ℕ) → m < messagesMost → inRow row (2 * m) ≡ false
     → OfRuns done way rows (λ run. (count : ℕ) (boards : List ℕ) (c : Channel) → fits count boards words c run e class m ≡ false)
+
+-- so in every run of whose buffers these are all the messages held
+abbrev pub CandidatesIn : List ℕ → List ℕ → List ℕ → List ℕ → ℕ → Class → List ℕ → Type 0
+CandidatesIn words done way held e class row = (rows : List ℕ) → HeldAnywhere rows held → Candidates words done way rows e class row
 
 -- no message from m on and before r is in the row
 pub record NextIn (row : List ℕ) (m r : ℕ) : Type 0 where

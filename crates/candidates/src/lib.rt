@@ -5,11 +5,10 @@ ghost use Prim.Native.Nat.{_+_, _*_, _<_, _≤_};
 ghost use lib.ListN.{length};
 ghost use Rattle.model.specs.Limits.{messagesMost};
 ghost use Rattle.relation.specs.Width.{width};
-ghost use Rattle.candidates.specs.Candidates.{Unsent, Needed, NeededDeliveries, OwnDelivery, Candidates, NextIn};
+ghost use Rattle.candidates.specs.Candidates.{Unsent, Needed, NeededDeliveries, OwnDelivery, CandidatesIn, NextIn};
 pub use crate::classes::Class;
 pub use crate::classes::step_of;
 pub use crate::classes::takes;
-use buffers::HELD_WORDS;
 use relation::SENDS;
 use relation::WIDTH;
 use relation::WORD_BITS;
@@ -68,20 +67,21 @@ fn own_delivery(way: &[u64; WIDTH], e: usize) -> [u64; WIDTH]
     own
 }
 
-// The messages whose step of the class can be allowed at all, as bits of their sends: in a buffer, under way, or not yet sent.
+// The messages whose step of the class can be allowed at all, as bits of their sends: in a buffer, under way, or not yet sent. What is held are
+// those that some buffer has, or more.
 pub fn candidates<'a>(
     words: &[u64],
     done: &'a [u64; WIDTH],
     way: &'a [u64; WIDTH],
-    rows: &'a [u64; HELD_WORDS],
+    held: &'a [u64; WIDTH],
     e: usize,
     class: Class,
 ) -> [u64; WIDTH]
     requires { ⌜ (e < messagesMost) × (2 * e * width + width ≤ length (now words)) ⌝ }
-    ensures { λ r. ⌜ Candidates (now (words .entry)) (now (done .entry)) (now (way .entry)) (now (rows .entry)) e class r ⌝ }
+    ensures { λ r. ⌜ CandidatesIn (now (words .entry)) (now (done .entry)) (now (way .entry)) (now (held .entry)) e class r ⌝ }
 {
     match class {
-        Class::AnyConsume => buffers::held_anywhere(rows),
+        Class::AnyConsume => *held,
         Class::DeliveryOf => own_delivery(way, e),
         Class::NeededDelivery => needed_deliveries(words, e, *way),
         Class::AnyDelivery => *way,

@@ -7,9 +7,6 @@ use Rattle.candidates.proofs.candidates.Tie as tie
 enum-told : tie.Need-enum-told
 enum-told c = search needs
 
-held-anywhere-requires : tie.Need-held-anywhere-requires
-held-anywhere-requires c κs = search needs
-
 enum-told-2 : tie.Need-enum-told-2
 enum-told-2 c = search needs
 
@@ -63,7 +60,6 @@ candidates-spec =
     tie.close
     (tie.spec
     enum-told
-    held-anywhere-requires
     enum-told-2
     own-delivery-requires
     enum-told-3

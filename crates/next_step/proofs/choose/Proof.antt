@@ -6,10 +6,10 @@ use Rattle.next_step.proofs.choose.Statement.{statement}
 use Rattle.next_step.proofs.choose.Tie as tie
 
 abbrev Inv-loop : tie.InvT-loop
-Inv-loop words masks boards count c done way rows e k₀ k = Tried count boards words c done way rows e k
+Inv-loop words masks boards count c done way rows held e k₀ k = Tried count boards words c done way rows e k
 
 abbrev μ-loop : tie.MeasureT-loop
-μ-loop words masks boards count c done way rows e k₀ k = 6 - k
+μ-loop words masks boards count c done way rows held e k₀ k = 6 - k
 
 loop-holds : tie.Need-loop-holds Inv-loop μ-loop
 loop-holds c = search tried-none

@@ -388,7 +388,7 @@ fn take(
         job.code as usize,
         job.turns as usize,
     );
-    let turned = queue.turned(taken.count);
+    let turned = queue.turned(job, taken.count);
     places::clear_free(words, taken.places);
     let answer = Numbers::zero();
     Turn {
@@ -426,7 +426,7 @@ fn answer(
         job.code as usize,
         trace,
     );
-    let turned = queue.turned(count);
+    let turned = queue.turned(job, count);
     let left = turned.places();
     places::clear_free(words, left);
     Turn {

@@ -21,9 +21,7 @@ use Rattle.model.proofs.Ahead.{among-not, among-snoc, once-parts, once-make, on
 use Rattle.model.proofs.Queue.{once-most}
 use Rattle.queue.specs.declared.Job.{Job}
 use Rattle.queue.specs.declared.Queue.{Queue}
-use Rattle.queue.specs.declared.Head.{Head}
-use Rattle.queue.specs.declared.Head.the-variants as head
-use Rattle.queue.specs.Bridge.{jobIn, jobsIn, apartFrom, queueIn, Counted, PlacesOf, isFreeIn, headIn, headOf, FirstPlace}
+use Rattle.queue.specs.Bridge.{jobIn, jobsIn, apartFrom, queueIn, Counted, PlacesOf, isFreeIn, headOf, FirstPlace}
 use Rattle.queue.proofs.Apart.{swaps, among-first, places-snoc, once-whole, apart-once}
 use Rattle.queue.proofs.Jobs.{jobs-append, jobs-take, jobs-drop, counted-length}
 
@@ -195,53 +193,47 @@ module _ (q₀ : Queue) (count at : ℕ) (C : Counted q₀ count) (h : at < leng
         }
 
 -- ---- a turn
-module _ (q : Queue) (v : Head) (found : headIn v ≡ headOf (queueIn q)) where
-  pub turned-none : v ≡ head.Nothing → queueIn q ≡ turned (queueIn q)
-  unfolding turned
-  turned-none i = go (queueIn q) (sym found ∙ ap headIn i)
-    where
-      go : (js : List model.Job) → headOf js ≡ none → js ≡ turned js
-      go [] e = refl
-      go (j ∷ js) e = let z : _≡_ {A = ℕ} 0 1 = cc in absurd (omega arith)
-
-  module _ (job : Job) (i : v ≡ head.Job job) where
-    pub comes-apart : queueIn q ≡ jobIn job ∷ drop 1 (queueIn q)
-    comes-apart = go (queueIn q) (sym found ∙ ap headIn i)
-      where
-        go : (js : List model.Job) → headOf js ≡ some (jobIn job) → js ≡ jobIn job ∷ drop 1 js
-        go [] e = let z : _≡_ {A = ℕ} 0 1 = cc in absurd (omega arith)
-        go (j ∷ js) e = let k : j ≡ jobIn job = cc in ap (λ (k : model.Job). k ∷ js) k
-
-    pub some-held : 0 < length (queueIn q)
-    some-held = rw comes-apart (omega arith)
-
-    module _ (rest : Queue) (closed : queueIn rest ≡ take 0 (queueIn q) ++ drop (0 + 1) (queueIn q)) where
-      pub turned-last : (r : Bool) → r ≡ isLast (jobIn job) → r ≡ true → queueIn rest ≡ turned (queueIn q)
-      unfolding turned
-      turned-last r e t = closed ∙ sym (ap turned comes-apart ∙ rw (sym e ∙ t))
-
-      pub turned-again : (r : Bool) (next : Queue) → r ≡ isLast (jobIn job) → r ≡ false
-          → queueIn next ≡ queueIn rest ++ (record { number = job .number; place = job .place; code = job .code; count = job .count; turns = job .turns + 1 } ∷ [])
-          → queueIn next ≡ turned (queueIn q)
-      unfolding turned
-      turned-again r next e f n =
-          n ∙ rw closed
-          (ap (λ k. drop 1 (queueIn q) ++ (record { number = job .number; place = job .place; code = job .code; count = job .count; turns = k } ∷ [])) (add-one (job .turns))
-          ∙ sym (ap turned comes-apart ∙ rw (sym e ∙ f)))
-
 -- a job that is not at its last turn has one more
 pub turn-fits : (job : Job) (r : Bool) → r ≡ isLast (jobIn job) → r ≡ false → job .count < 2 ^ 16 → job .turns + 1 < 2 ^ 32
 unfolding isLast
 turn-fits job r e f h = omega (arith, leb-false (2 * job .count) (job .turns) (sym e ∙ f))
 
--- behind the head that left, its place is free
-pub head-free : (q rest : Queue) (v : Head) (job : Job) → headIn v ≡ headOf (queueIn q) → v ≡ head.Job job
-    → queueIn rest ≡ take 0 (queueIn q) ++ drop (0 + 1) (queueIn q) → (job .place < jobsMost) × (isFreeIn (queueIn rest) (job .place) ≡ true)
-unfolding placesOf
-head-free q rest v job found i closed =
-    let h : eachOnce jobsMost (placesOf (jobIn job ∷ drop 1 (queueIn q))) ≡ true = ap (λ js. eachOnce jobsMost (placesOf js)) (sym (comes-apart q v found job i)) ∙ each q in
-    let o = once-parts jobsMost (job .place) (placesOf (drop 1 (queueIn q))) h in
-    (o .below, rw closed (ap not (o .fresh)))
+module _ (q : Queue) (job : Job) (first : headOf (queueIn q) ≡ some (jobIn job)) where
+  comes-apart : queueIn q ≡ jobIn job ∷ drop 1 (queueIn q)
+  comes-apart = go (queueIn q) first
+    where
+      go : (js : List model.Job) → headOf js ≡ some (jobIn job) → js ≡ jobIn job ∷ drop 1 js
+      go [] e = let z : _≡_ {A = ℕ} 0 1 = cc in absurd (omega arith)
+      go (j ∷ js) e = let k : j ≡ jobIn job = cc in ap (λ (k : model.Job). k ∷ js) k
+
+  pub some-held : 0 < length (queueIn q)
+  some-held = rw comes-apart (omega arith)
+
+  module _ (rest : Queue) (count : ℕ) (closed : (queueIn rest ≡ take 0 (queueIn q) ++ drop (0 + 1) (queueIn q)) × Counted rest (count - 1)) where
+    pub turned-last : (r : Bool) → r ≡ isLast (jobIn job) → r ≡ true → queueIn rest ≡ turned (queueIn q)
+    unfolding turned
+    turned-last r e t = closed .0 ∙ sym (ap turned comes-apart ∙ rw (sym e ∙ t))
+
+    abbrev again : Job
+    again = record { number = job .number; turns = job .turns + 1; count = job .count; place = job .place; code = job .code }
+
+    -- behind the head that left, its place is free
+    head-free : (job .place < jobsMost) × (isFreeIn (queueIn rest) (job .place) ≡ true)
+    unfolding placesOf
+    head-free =
+        let h : eachOnce jobsMost (placesOf (jobIn job ∷ drop 1 (queueIn q))) ≡ true = ap (λ js. eachOnce jobsMost (placesOf js)) (sym comes-apart) ∙ each q in
+        let o = once-parts jobsMost (job .place) (placesOf (drop 1 (queueIn q))) h in
+        (o .below, rw (closed .0) (ap not (o .fresh)))
+
+    pub turned-again : 1 ≤ count → (r : Bool) → r ≡ isLast (jobIn job) → r ≡ false → queueIn (record { jobs = set (rest .jobs) (count - 1) again; held = count }) ≡ turned (queueIn q)
+    unfolding turned
+    turned-again held r e f =
+        let whole : count ≡ count - 1 + 1 = omega arith in
+        ap (λ k. queueIn (record { jobs = set (rest .jobs) (count - 1) again; held = k })) whole
+        ∙ lasts rest (count - 1) (closed .1) again head-free
+        ∙ rw (closed .0)
+        (ap (λ k. drop 1 (queueIn q) ++ (record { number = job .number; place = job .place; code = job .code; count = job .count; turns = k } ∷ [])) (add-one (job .turns))
+        ∙ sym (ap turned comes-apart ∙ rw (sym e ∙ f)))
 
 -- the head, where there is one, is the first job of the array
 head-is-first : (jobs : List Job) (held : ℕ) (other : Job) (j : model.Job) → headOf (apartFrom [] (jobsIn (take held jobs))) ≡ some j

@@ -2,6 +2,7 @@
 ghost use mathlib.Core.Path.{_≡_};
 ghost use mathlib.Core.Bool.{true};
 ghost use mathlib.Core.List.{[], _∷_, _++_};
+ghost use mathlib.Core.Option.{some};
 ghost use Prim.Native.Nat.{_+_, _-_, _<_};
 ghost use lib.ListN.{length, take, drop};
 ghost use Rattle.model.specs.Limits.{jobsMost};
@@ -194,20 +195,20 @@ impl Queue {
     }
 
     // The queue behind a turn: its head leaves on its last turn, and else goes behind the last with one turn more.
-    pub fn turned(self, count: usize) -> Self
-        requires { ⌜ Counted self count ⌝ }
+    pub fn turned(self, head: Job, count: usize) -> Self
+        requires { ⌜ (headOf (queueIn self) ≡ some (jobIn head)) × Counted self count ⌝ }
         ensures { λ r. ⌜ queueIn r ≡ turned (queueIn self) ⌝ }
     {
-        let found = self.head(count);
-        let Head::Job(mut job) = found else {
-            return self;
-        };
-        let rest = self.closed_up(0, count);
-        if job.is_last() {
+        let mut rest = self.closed_up(0, count);
+        if head.is_last() {
             return rest;
         }
-        job.turns = job.turns + 1;
-        rest.behind_last(job, count - 1)
+        let mut again = head;
+        again.turns = head.turns + 1;
+        let last = count - 1;
+        rest.jobs[last] = again;
+        rest.held = count as u32;
+        rest
     }
 
     // Where the job with the number stands; as many as are held, if none has it.

@@ -216,7 +216,7 @@ typedef struct {
  *
  * An admission reads the sheet once. A turn and a cancellation read no sheets, lengths and codes: a job's answer cannot depend on another's text,
  * nor on its own changed since. A turn that is not a job's last looks at half a row of the causal order of one message. A call needs less
- * than 20 KiB of stack, with the dispatchers that are handed in and back (18,824 bytes measured).
+ * than 16 KiB of stack, with the dispatchers that are handed in and back (14,432 bytes measured).
  *
  * Proved over every list of calls from dispatcher_empty, each taking the dispatcher that the last call left: the queue, the places, the numbers
  * and the answers are as said; a job not cancelled is answered within 2,056 unrefused turns of its admission; and, while every call is lent

@@ -17,7 +17,7 @@ returns c =
     turned-last (s .args .self) (s .args .head) (s .pre .0) (closed .closed-up .result) _ (closed .closed-up .ensures) _ (c .before .is-last .ensures) (c .if1 .taken)
 
 add-again : tie.Need-add-again
-add-again c = record { fits = turn-fits _ _ (c .before .before .is-last .ensures) (c .before .if1 .left) (search needs) }
+add-again c = let more = turn-fits _ _ (c .before .before .is-last .ensures) (c .before .if1 .left) (search needs) in search needs
 
 sub-last : tie.Need-sub-last
 sub-last c =

@@ -795,6 +795,27 @@ dispatcher_answer careful_dispatcher_turn(dispatcher state, const uint8_t *sheet
     return *saying(&a, 2, j.number, 0);
 }
 
+dispatcher_answer careful_dispatcher_cancel(dispatcher state, uint32_t number, const uint8_t *sheets, size_t sheets_len, const uint32_t *lengths,
+                                            size_t lengths_len, const uint32_t *codes, size_t codes_len, uint64_t *words, size_t words_len) {
+    (void)sheets, (void)sheets_len, (void)lengths, (void)lengths_len, (void)codes, (void)codes_len;
+    dispatcher_answer a = {0, 0, 0, {0, 0, 0, 0}, state};
+    dispatcher_queue *q = &a.next.queue;
+    if (words_len < PLACES * WORDS) return *saying(&a, 5, 2, 0);
+    unsigned taken = places_of(q);
+    uint32_t at = 0;
+    while (at < q->held && q->jobs[at].number != number) at++;
+    if (at < q->held) {
+        taken &= ~(1u << q->jobs[at].place);
+        for (uint32_t i = at + 1; i < q->held; i++) q->jobs[i - 1] = q->jobs[i];
+        q->held--;
+        saying(&a, 4, number, 0);
+    } else {
+        saying(&a, 5, 17, 0);
+    }
+    clear_free(taken, words);
+    return a;
+}
+
 /* ------------------------------------------------------------------ permitted senders */
 
 enum { RULES = 64 };

@@ -21,6 +21,8 @@ dispatcher_answer careful_dispatcher_admit(dispatcher state, const uint8_t *shee
 dispatcher_answer careful_dispatcher_turn(dispatcher state, const uint8_t *sheets, size_t sheets_len, const uint32_t *lengths,
                                           size_t lengths_len, const uint32_t *codes, size_t codes_len, uint64_t *words, size_t words_len,
                                           uint8_t *trace, size_t trace_len);
+dispatcher_answer careful_dispatcher_cancel(dispatcher state, uint32_t number, const uint8_t *sheets, size_t sheets_len, const uint32_t *lengths,
+                                            size_t lengths_len, const uint32_t *codes, size_t codes_len, uint64_t *words, size_t words_len);
 senders_check_answer careful_senders_check(const uint8_t *table, size_t table_len);
 channel_check_answer careful_permitted_check(const uint8_t *text, size_t text_len, uint32_t code, uint64_t *scratch, size_t scratch_len,
                                              uint8_t *trace, size_t trace_len, const uint8_t *table, size_t table_len);

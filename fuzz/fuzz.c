@@ -5,7 +5,8 @@
  * not a trace but calls of the monitor. Otherwise the call is permitted_check and senders_check where the first byte has bit 5: a byte for a
  * quarter of the table's length follows, then the table, then the text; cure_sheet where it has bit 4, choice_check where it has bit 3, else
  * channel_check. Where the first byte has bit 6 it is taps_check, whatever the rest: a byte for each list's length follows, then the lists, a byte
- * an event, 255 being 65,535, then the text. */
+ * an event, 255 being 65,535, then the text. Where it has bit 7 it is the dispatcher's calls, whatever the rest: the second byte says how long the
+ * sheets are that are lent, a byte for the number of calls follows, then the calls, three bytes each, then the text. */
 #define _GNU_SOURCE
 #include "../bench/check.h"
 #include <stdio.h>
@@ -23,9 +24,13 @@ cure_sheet_answer guided_cure_sheet(const uint8_t *, size_t, uint64_t *, size_t,
 senders_check_answer guided_senders_check(const uint8_t *, size_t);
 channel_check_answer guided_permitted_check(const uint8_t *, size_t, uint32_t, uint64_t *, size_t, uint8_t *, size_t, const uint8_t *, size_t);
 taps_check_answer guided_taps_check(const uint8_t *, size_t, uint64_t *, size_t, const uint16_t *, size_t, const uint16_t *, size_t, uint16_t *, size_t);
+dispatcher guided_dispatcher_empty(void);
+dispatcher_answer guided_dispatcher_admit(dispatcher, const uint8_t *, size_t, const uint32_t *, size_t, const uint32_t *, size_t, uint64_t *, size_t);
+dispatcher_answer guided_dispatcher_turn(dispatcher, const uint8_t *, size_t, const uint32_t *, size_t, const uint32_t *, size_t, uint64_t *, size_t, uint8_t *, size_t);
+dispatcher_answer guided_dispatcher_cancel(dispatcher, uint32_t, const uint8_t *, size_t, const uint32_t *, size_t, const uint32_t *, size_t, uint64_t *, size_t);
 int LLVMFuzzerTestOneInput(const uint8_t *data, size_t size);
 
-enum { WORDS = CHANNEL_CHECK_SCRATCH_WORDS, BYTES = CHANNEL_CHECK_TRACE_BYTES, PAINT = 0xa5, AHEAD = 64, ROOM = 1 << 16, GUARD = 1 << 16 };
+enum { WORDS = CHANNEL_CHECK_SCRATCH_WORDS, BYTES = CHANNEL_CHECK_TRACE_BYTES, PAINT = 0xa5, AHEAD = 64, ROOM = 1 << 19, GUARD = 1 << 16 };
 
 /* the answer of channel_check has length and choices 0 */
 typedef struct { int choices; choice_check_answer answer; size_t text_len, words, bytes; uint8_t *text, *scratch, *trace; } call;
@@ -39,7 +44,7 @@ static void stop(const char *what, const call *a) {
 /* The proved code is not compiled with the address sanitizer: its buffers end at a page that cannot be touched, and the
  * bytes ahead of them are painted. */
 static uint8_t *guarded(int which, size_t size) {
-    static uint8_t *rooms[5];
+    static uint8_t *rooms[7];
     if (!rooms[which]) {
         rooms[which] = mmap(NULL, ROOM + GUARD, PROT_READ | PROT_WRITE, MAP_PRIVATE | MAP_ANONYMOUS, -1, 0);
         if (rooms[which] == MAP_FAILED || mprotect(rooms[which] + ROOM, GUARD, PROT_NONE) != 0) exit(2);
@@ -261,6 +266,173 @@ static void try_taps(const uint8_t *text, size_t len, size_t words, size_t numbe
     free(exact_text), free(exact_output), free(exact), free(first), free(second);
 }
 
+/* ---- the dispatcher: a list of calls, three bytes a call, on one value */
+typedef dispatcher_answer admits(dispatcher, const uint8_t *, size_t, const uint32_t *, size_t, const uint32_t *, size_t, uint64_t *, size_t);
+typedef dispatcher_answer turns(dispatcher, const uint8_t *, size_t, const uint32_t *, size_t, const uint32_t *, size_t, uint64_t *, size_t, uint8_t *, size_t);
+typedef dispatcher_answer cancels(dispatcher, uint32_t, const uint8_t *, size_t, const uint32_t *, size_t, const uint32_t *, size_t, uint64_t *, size_t);
+
+enum { PLACES = DISPATCHER_PLACES, SHEET = DISPATCHER_SHEET_BYTES, BEHIND = 3, ALL = DISPATCHER_WORDS + BEHIND, TURNS = 600, HEAD = offsetof(dispatcher, boards) };
+enum { ADMIT, TURN, CANCEL };
+
+/* one implementation, with its words and its trace; both end at the end of their memory */
+typedef struct { admits *admit; turns *turn; cancels *cancel; uint64_t *words; uint8_t *trace; dispatcher_answer told; } desk;
+
+/* what a call is lent beside words and trace, and how much of these; and the number that is cancelled */
+typedef struct { uint8_t *sheets; uint32_t *lengths, *codes, number; size_t sheets_len, lengths_len, codes_len, words_len, trace_len; } lent;
+
+/* what is known of the dispatcher: its words; what the check answers to the sheet of each place. The careful C program reads no forged values. */
+typedef struct { lent l; desk desks[3]; int is_forged, turns; uint64_t words[ALL]; channel_check_answer expected[PLACES]; uint8_t steps[PLACES][BYTES]; dispatcher kept; } counter;
+
+static void stop_at(const char *what, const dispatcher_answer *a) {
+    call c = {.answer = {a->word, a->one, a->two, a->answer.word, a->answer.one, a->answer.two}};
+    stop(what, &c);
+}
+
+/* bit p: a job is in place p; a value is read as far as each job has a place of its own */
+static unsigned places_in(const dispatcher_queue *q) {
+    unsigned taken = 0;
+    for (uint32_t i = 0; i < PLACES && i < q->held; i++) {
+        if (q->jobs[i].place >= PLACES || taken >> q->jobs[i].place & 1) break;
+        taken |= 1u << q->jobs[i].place;
+    }
+    return taken;
+}
+
+static dispatcher_answer ask(const desk *d, int kind, const lent *l) {
+    uint64_t *words = d->words + ALL - l->words_len;
+    dispatcher v = d->told.next;
+    if (kind == ADMIT) return d->admit(v, l->sheets, l->sheets_len, l->lengths, l->lengths_len, l->codes, l->codes_len, words, l->words_len);
+    if (kind == CANCEL) return d->cancel(v, l->number, l->sheets, l->sheets_len, l->lengths, l->lengths_len, l->codes, l->codes_len, words, l->words_len);
+    return d->turn(v, l->sheets, l->sheets_len, l->lengths, l->lengths_len, l->codes, l->codes_len, words, l->words_len, d->trace + BYTES - l->trace_len, l->trace_len);
+}
+
+/* the header's promise of value, words and trace, whatever was handed in */
+static void keeps_promise(counter *c, desk *d, int kind, const dispatcher *before, uint64_t *words) {
+    const dispatcher_answer *a = &d->told;
+    unsigned taken = places_in(&a->next.queue);
+    size_t written = kind == TURN && a->word == 3 && a->answer.word == 1 ? 2 * (size_t)a->answer.three : 0;
+    memcpy(words, c->words, sizeof c->words);
+    if (a->word != 5 || a->one > 2)
+        for (size_t p = 0; p < PLACES; p++)
+            if (!(taken >> p & 1)) memset(words + p * WORDS, 0, 8 * WORDS);
+    if (kind == ADMIT && a->word == 0) memcpy(words + a->two % PLACES * WORDS, d->words + a->two % PLACES * WORDS, 8 * WORDS);
+    if (memcmp(words, d->words, sizeof c->words) != 0) stop_at("words behind a dispatcher's call", a);
+    if ((a->word == 5 || a->word == 1) && memcmp(&a->next, before, sizeof *before) != 0) stop_at("a dispatcher that was to be left as it was", a);
+    if (a->word != 3 && (a->answer.word | a->answer.one | a->answer.two | a->answer.three)) stop_at("an answer without one", a);
+    if (written > BYTES) stop_at("more steps than a trace has", a);
+    for (size_t i = written; i < BYTES; i++)
+        if (d->trace[i] != PAINT) stop_at("trace bytes behind a dispatcher's steps", a);
+}
+
+/* what was not forged: a job is admitted if the check accepts its sheet, and is answered as by the check */
+static void as_checked(counter *c, int kind, const dispatcher *before) {
+    const dispatcher_answer *a = &c->desks[0].told;
+    static uint64_t scratch[WORDS];
+    if (kind == ADMIT && a->word == 0) {
+        size_t p = a->two, from = p * SHEET < c->l.sheets_len ? p * SHEET : c->l.sheets_len, most = c->l.sheets_len - from;
+        size_t len = c->l.lengths[p] < most ? c->l.lengths[p] : most;
+        memset(c->steps[p], PAINT, BYTES);
+        c->expected[p] = channel_check(c->l.sheets + from, len, c->l.codes[p], scratch, WORDS, c->steps[p], BYTES);
+        if (c->expected[p].word == 2) stop_at("a job whose sheet the check refuses", a);
+        if (a->one != before->given || a->next.given != before->given + 1) stop_at("a job's number", a);
+    }
+    if (kind == TURN && a->word == 3) {
+        size_t p = before->queue.jobs[0].place;
+        if (memcmp(&a->answer, &c->expected[p], sizeof a->answer) != 0) stop_at("another answer than the check's", a);
+        if (memcmp(c->desks[0].trace, c->steps[p], BYTES) != 0) stop_at("other steps than the check's", a);
+    }
+}
+
+/* one call of all implementations: they agree, and each keeps its promise */
+static dispatcher_answer serve(counter *c, int kind) {
+    static uint64_t words[ALL];
+    dispatcher before = c->desks[0].told.next;
+    for (int i = 0; i < (c->is_forged ? 2 : 3); i++) {
+        desk *d = &c->desks[i];
+        dispatcher own = d->told.next;
+        memset(d->trace, PAINT, BYTES);
+        d->told = ask(d, kind, &c->l);
+        keeps_promise(c, d, kind, &own, words);
+        if (memcmp(&d->told, &c->desks[0].told, offsetof(dispatcher_answer, next)) != 0) stop_at("a dispatcher's answer", &d->told);
+        if (memcmp(d->trace, c->desks[0].trace, BYTES) != 0 || memcmp(d->words, c->desks[0].words, sizeof words) != 0) stop_at("a dispatcher's words or trace", &d->told);
+        if (i == 1 && memcmp(&d->told.next, &c->desks[0].told.next, sizeof before) != 0) stop_at("a dispatcher's value", &d->told);
+        if (i < 2 && (!ahead_painted((uint8_t *)d->words) || !ahead_painted(d->trace))) stop_at("bytes ahead of a dispatcher's buffer", &d->told);
+    }
+    if (!c->is_forged) as_checked(c, kind, &before);
+    memcpy(c->words, words, sizeof words);
+    return c->desks[0].told;
+}
+
+/* the text's first lines, or all of it, as the sheet of the place that an admission takes */
+static void lend_sheet(lent *l, const dispatcher *d, const uint8_t *text, size_t len, size_t lines, uint32_t code) {
+    unsigned taken = places_in(&d->queue);
+    size_t p = 0, size = 0;
+    while (p < PLACES && taken >> p & 1) p++;
+    if (p == PLACES) return;
+    if (lines == 0) size = len;
+    for (; lines > 0 && size < len; size++) lines -= text[size] == '\n';
+    size_t from = p * SHEET, most = from < l->sheets_len ? l->sheets_len - from : 0, copied = size < SHEET ? size : SHEET;
+    if (most > 0) memcpy(l->sheets + from, text, copied < most ? copied : most);
+    l->lengths[p] = (uint32_t)size;
+    l->codes[p] = code;
+}
+
+/* a call that is lent less: words, a trace, lengths or codes */
+static void lend_less(counter *c, int kind, size_t by) {
+    lent whole = c->l;
+    if (by % 4 == 0) c->l.words_len = DISPATCHER_WORDS - 1 - by / 4;
+    if (by % 4 == 1) c->l.trace_len = BYTES - 1 - by / 4;
+    if (by % 4 == 2) c->l.lengths_len = by / 4 % (PLACES + 1), c->l.lengths += PLACES - c->l.lengths_len;
+    if (by % 4 == 3) c->l.codes_len = by / 4 % (PLACES + 1), c->l.codes += PLACES - c->l.codes_len;
+    if (kind == TURN && c->turns++ >= TURNS) kind = CANCEL;
+    serve(c, kind);
+    c->l = whole;
+}
+
+/* a byte of the value, or of a word, is another; or the value is that of an earlier call */
+static void forge(counter *c, uint8_t kind, uint8_t a, uint8_t b) {
+    size_t at = a % 2 ? b % HEAD : (a / 2 * (size_t)256 + b) % sizeof(dispatcher), word = (a / 2 * (size_t)256 + b) % ALL;
+    c->is_forged = 1;
+    for (int i = 0; i < 2; i++) {
+        if (kind % 8 == 7) c->desks[i].told.next = c->kept;
+        else if (a % 4 == 2) ((uint8_t *)(c->desks[i].words + word))[kind / 8 % 8] ^= (uint8_t)(1u << b % 8);
+        else ((uint8_t *)&c->desks[i].told.next)[at] = (uint8_t)(kind / 8 * 33);
+    }
+    memcpy(c->words, c->desks[0].words, sizeof c->words);
+}
+
+/* the calls: an admission, turns, a cancellation, one that is lent less, a value kept or forged */
+static void call_desks(counter *c, const uint8_t *calls, size_t count, const uint8_t *text, size_t len) {
+    static const uint32_t codes[8] = {0, 1, 2, 3, 4, 5, 6, UINT32_MAX};
+    for (const uint8_t *at = calls; at + 3 <= calls + 3 * count; at += 3) {
+        uint8_t kind = at[0], a = at[1], b = at[2];
+        lend_sheet(&c->l, &c->desks[0].told.next, text, len, b, codes[a % 8]);
+        c->l.number = a;
+        if (kind % 8 < 2) serve(c, ADMIT);
+        if (kind % 8 == 2 || kind % 8 == 3)
+            for (size_t t = 0; t <= a && c->turns < TURNS; t++, c->turns++)
+                if (serve(c, TURN).word == 1) break;
+        if (kind % 8 == 4) serve(c, CANCEL);
+        if (kind % 8 == 5) lend_less(c, kind / 8 % 3, b);
+        if (kind % 8 == 6 && kind < 128) c->kept = c->desks[0].told.next;
+        if ((kind % 8 == 6 && kind > 127) || kind == 7 || kind == 255) forge(c, kind, a, b);
+    }
+}
+
+static void try_dispatcher(const uint8_t *calls, size_t count, const uint8_t *text, size_t len, size_t sheets_len) {
+    static counter c;
+    c.l = (lent){guarded(0, sheets_len), (uint32_t *)guarded(3, 4 * PLACES), (uint32_t *)guarded(4, 4 * PLACES), 0, sheets_len, PLACES, PLACES, ALL, BYTES};
+    c.desks[0] = (desk){dispatcher_admit, dispatcher_turn, dispatcher_cancel, (uint64_t *)guarded(1, sizeof c.words), guarded(2, BYTES), {.next = dispatcher_empty()}};
+    c.desks[1] = (desk){guided_dispatcher_admit, guided_dispatcher_turn, guided_dispatcher_cancel, (uint64_t *)guarded(5, sizeof c.words), guarded(6, BYTES), {.next = guided_dispatcher_empty()}};
+    c.desks[2] = (desk){careful_dispatcher_admit, careful_dispatcher_turn, careful_dispatcher_cancel, memset(malloc(sizeof c.words), PAINT, sizeof c.words), malloc(BYTES), {.next = careful_dispatcher_empty()}};
+    c.is_forged = c.turns = 0;
+    c.kept = dispatcher_empty();
+    memset(c.words, PAINT, sizeof c.words);
+    call_desks(&c, calls, count, text, len);
+    if (!ahead_painted(c.l.sheets) || !ahead_painted((uint8_t *)c.l.lengths) || !ahead_painted((uint8_t *)c.l.codes)) stop_at("bytes ahead of what is lent to be read", &c.desks[0].told);
+    free(c.desks[2].words), free(c.desks[2].trace);
+}
+
 int LLVMFuzzerTestOneInput(const uint8_t *data, size_t size) {
     static const uint32_t codes[8] = {0, 1, 2, 3, 4, 5, 6, UINT32_MAX};
     static const size_t words[8] = {WORDS, WORDS, WORDS, WORDS + 1, 2 * WORDS, WORDS, WORDS - 1, 0};
@@ -270,6 +442,13 @@ int LLVMFuzzerTestOneInput(const uint8_t *data, size_t size) {
     if (size < 2) return -1;
     call c = {.choices = data[0] / 8 % 2, .text_len = size - 2, .words = words[data[1] % 8], .bytes = bytes[data[1] / 8 % 8]}, a = c;
     uint32_t code = codes[data[0] % 8];
+    if (data[0] / 128) {
+        static const size_t sheets[8] = {PLACES * SHEET, PLACES * SHEET, PLACES * SHEET, PLACES * SHEET + 1, PLACES * SHEET - 1, SHEET, 3 * SHEET / 2, 0};
+        if (size < 3) return -1;
+        size_t count = data[2] < (size - 3) / 3 ? data[2] : (size - 3) / 3;
+        try_dispatcher(data + 3, count, data + 3 + 3 * count, size - 3 - 3 * count, sheets[data[1] % 8]);
+        return 0;
+    }
     if (data[0] / 64 % 2) {
         enum { LONG = TAPS_CHECK_OUTPUT_NUMBERS };
         static const size_t numbers[8] = {LONG, LONG, LONG, LONG + 1, LONG + 9, LONG, LONG - 1, 0};

@@ -7,20 +7,20 @@ use native.Mathlib.Nat.{zero-add, not-suc-le-zero}
 use native.Mathlib.Decide.{ℕ-discrete, decLt}
 use native.Mathlib.Omega.{arith}
 use lib.Bits.{bitOr}
-use lib.ListN.{length, getD, replicate, length-replicate, List·getD-eq-default}
-use lib.Seq.{ext-getD}
+use lib.ListN.{length, getD, set, replicate, length-set, length-replicate, List·getD-eq-default}
+use lib.Seq.{ext-getD, getD-set-same, getD-set-other}
 use Rattle.model.specs.Limits.{boards}
 use Rattle.model.proofs.Lists.{replicate-at}
 use Rattle.relation.specs.Width.{width, wordBits}
 use Rattle.relation.specs.Rows.{has, holds, joinedFrom}
 use Rattle.relation.proofs.Bits.{has-zero}
-use Rattle.relation.proofs.Joined.{gained-at, length-joined-from, joined-from-outside, holds-joined-from}
+use Rattle.relation.proofs.Joined.{gained-at, length-joined-from, joined-from-outside, holds-joined-from, copied-at, copied-outside}
 use Rattle.run.specs.declared.Buffer.{Buffer}
 use Rattle.run.specs.declared.Run.{Run}
 use Rattle.board.specs.Boards.{boardsMost}
 use Rattle.run.specs.State.{inRow, bufferOf}
 use Rattle.relation.proofs.Words.{alone-row, or-left-false, or-right-false}
-use Rattle.buffers.specs.Held.{HeldIn, HeldAnywhere}
+use Rattle.buffers.specs.Held.{HeldIn, PutsRow, HeldAnywhere}
 
 -- a row that was empty is the row it gains
 joined-word : (l : List ℕ) (to : ℕ) (other : List ℕ) (from i : ℕ) → to * width + width ≤ length l → i < width → getD l (to * width + i) 0 ≡ 0
@@ -73,6 +73,35 @@ laid-more run rows now b buffer p e j h =
 pub laid-all : (run : Run) (rows : List ℕ) (b : ℕ) → Laid run rows b → boardsMost ≤ b → length (run .buffers) ≡ boardsMost → HeldIn run rows
 laid-all run rows b p h l =
     record { boards = l; long = λ a g. p .long a (omega arith); words = λ a i g m. p .words a i (omega arith) m }
+
+-- the rows behind a change of one buffer are those of the run behind it
+pub row-put : (run : Run) (rows now : List ℕ) (b : ℕ) (held done way : List ℕ) → HeldIn run rows → PutsRow rows b held now → b < boardsMost
+    → HeldIn (record { done = done; way = way; buffers = set (run .buffers) b (record { held = held }) }) now
+row-put run rows now b held done way p s h =
+    record {
+      boards = length-set (run .buffers) b _ ∙ p .boards;
+      long = λ a g. here-long a g (ℕ-discrete a b);
+      words = λ a i g l. here a i g l (ℕ-discrete a b);
+    }
+  where
+    new : Buffer
+    new = record { held = held }
+
+    own : getD (set (run .buffers) b new) b (record { held = [] }) ≡ new
+    own = getD-set-same (run .buffers) b new (record { held = [] }) (omega (arith, p .boards))
+
+    other : (a : ℕ) → (a ≡ b → ⊥) → getD (set (run .buffers) b new) a (record { held = [] }) ≡ bufferOf run a
+    other a n = getD-set-other (run .buffers) b a new (record { held = [] }) n
+
+    here-long : (a : ℕ) → a < boardsMost → Dec (a ≡ b) → length (getD (set (run .buffers) b new) a (record { held = [] }) .held) ≡ width
+    here-long a g (yes e) = rw (e, own) (s .long)
+    here-long a g (no n) = rw (other a n) (p .long a g)
+
+    here : (a i : ℕ) → a < boardsMost → i < width → Dec (a ≡ b) → getD now (a * width + i) 0 ≡ getD (getD (set (run .buffers) b new) a (record { held = [] }) .held) i 0
+    here a i g l (yes e) =
+        rw (e, own, s .put) (copied-at width rows b held 0 i l (omega (arith, s .room)) ∙ ap (λ (k : ℕ). getD held k 0) (zero-add i))
+    here a i g l (no n) =
+        rw (other a n, s .put) (copied-outside width rows b held 0 (a * width + i) (λ k m e. omega arith) ∙ p .words a i g l)
 
 -- the buffer read back from its row
 pub read-back : (rows held : List ℕ) (board : ℕ) → held ≡ joinedFrom width (replicate width 0) 0 rows board → board < boardsMost

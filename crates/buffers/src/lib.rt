@@ -6,7 +6,7 @@ ghost use Rattle.relation.specs.Width.{width};
 ghost use Rattle.relation.specs.Rows.{joinedFrom};
 ghost use Rattle.board.specs.Boards.{boardsMost};
 ghost use Rattle.run.specs.State.{bufferOf};
-ghost use Rattle.buffers.specs.Held.{HeldIn, HeldAnywhere};
+ghost use Rattle.buffers.specs.Held.{HeldIn, PutsRow, HeldAnywhere};
 use relation::WIDTH;
 use run::Buffer;
 use run::Run;
@@ -32,6 +32,14 @@ pub fn held_rows(run: Run) -> [u64; HELD_WORDS]
         join_held(&mut rows, board, buffer);
     }
     rows
+}
+
+// A board's row becomes its buffer's.
+pub fn put_row(rows: &mut [u64; HELD_WORDS], board: usize, buffer: Buffer)
+    requires { ⌜ board < boardsMost ⌝ }
+    ensures { λ _. ⌜ PutsRow (now (rows .entry)) board (buffer .held) (now (rows .exit)) ⌝ }
+{
+    relation::copy_from(rows, board, &buffer.held, 0);
 }
 
 // The buffer of a board, from its row.

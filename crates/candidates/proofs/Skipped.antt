@@ -15,7 +15,7 @@ use lib.Pow.{pow-add, pow-pos}
 use lib.Seq.{getD-set-same, getD-set-other}
 use borrow.Author.Tests.{eq-eqb, ne-eqb}
 use Rattle.model.specs.Limits.{messagesMost}
-use Rattle.model.specs.Order.{sendOf, number, atOrBefore, Scenario}
+use Rattle.model.specs.Order.{sendOf, receiveOf, number, atOrBefore, Scenario}
 use Rattle.model.specs.Run.{ready, allowed, send, deliver, consume}
 use Rattle.model.specs.Channel as model
 use Rattle.relation.specs.Width.{width, wordBits}
@@ -23,7 +23,7 @@ use Rattle.relation.specs.Rows.{has, holds, marked}
 use Rattle.relation.specs.Scenario.{scenarioIn}
 use Rattle.relation.proofs.Bits.{has-zero}
 use Rattle.relation.proofs.Marked.{holds-marked}
-use Rattle.relation.proofs.Words.{or-left-false, or-right-false, has-and, shifted, trailing-clear, trailing-below, alone-row, flipped, has-flipped}
+use Rattle.relation.proofs.Words.{or-left-false, or-right-false, has-and, shifted, trailing-clear, trailing-below, alone-row, flipped, has-flipped, evenBits, has-even-bits}
 use Rattle.channel_table.specs.declared.Channel.{Channel}
 use Rattle.channel_table.specs.Table.{channelIn}
 use Rattle.run.specs.declared.Run.{Run}
@@ -31,9 +31,8 @@ use Rattle.run.specs.State.{inRow, bufferOf, stateOf}
 use Rattle.buffers.specs.Held.{HeldAnywhere}
 use Rattle.buffers.proofs.Rows.{in-no-buffer}
 use Rattle.candidates.specs.declared.classes.Class.{Class}
-use Rattle.candidates.specs.declared.classes.Class.the-variants.{AnyConsume, NeededSend, AnySend}
-use Rattle.candidates.specs.Candidates.{fits, Undone, Needed, Candidates, NextIn}
-use Rattle.candidates.proofs.EachClass.{Delivers, if-delivers}
+use Rattle.candidates.specs.declared.classes.Class.the-variants.{AnyConsume, DeliveryOf, NeededDelivery, NeededSend, AnyDelivery, AnySend}
+use Rattle.candidates.specs.Candidates.{fits, Unsent, Needed, NeededDeliveries, OwnDelivery, CandidatesIn, NextIn}
 
 -- The next message in a row: what is left of m's word, and then the words behind it.
 module _ (row : List ℕ) (m : ℕ) where
@@ -142,15 +141,23 @@ filled-bit : (f : ℕ → ℕ) (row now : List ℕ) (i k : ℕ) → Filled f row
 filled-bit f row now i k p h l =
     alone-row width now k ∙ ap (λ (w : ℕ). has w (k % wordBits)) (p .exact (k / wordBits) (omega arith))
 
-pub flipped-all : (row now : List ℕ) (i : ℕ) → Filled (flipped row) row now i → width ≤ i → ((j : ℕ) → getD row j 0 < 2 ^ wordBits) → Undone row now
-flipped-all row now i p h small k l clear =
-    alone-row width row k ∙ go (has (getD row (k / wordBits) 0) (k % wordBits)) refl
-  where
-    off : not (has (getD row (k / wordBits) 0) (k % wordBits)) ≡ false
-    off =
-        sym (has-flipped row small k) ∙ sym (filled-bit (flipped row) row now i k p h l) ∙ clear
+-- the sends that are not in a word
+abbrev pub sendsOut : List ℕ → ℕ → ℕ
+sendsOut row j = bitAnd (flipped row j) evenBits
 
-    go : (b : Bool) → has (getD row (k / wordBits) 0) (k % wordBits) ≡ b → b ≡ true
+pub unsent-all : (row now : List ℕ) (i : ℕ) → Filled (sendsOut row) row now i → width ≤ i → ((j : ℕ) → getD row j 0 < 2 ^ wordBits) → Unsent row now
+unsent-all row now i p h small m l clear =
+    alone-row width row (2 * m) ∙ go (has (getD row (2 * m / wordBits) 0) (2 * m % wordBits)) refl
+  where
+    even : has evenBits (2 * m % wordBits) ≡ true
+    even = has-even-bits (2 * m % wordBits) (omega arith) ∙ eq-eqb (2 * m % wordBits % 2) 0 (omega arith)
+
+    off : (not (has (getD row (2 * m / wordBits) 0) (2 * m % wordBits)) && true) ≡ false
+    off =
+        rw (← has-flipped row small (2 * m), ← even, ← has-and (flipped row (2 * m / wordBits)) evenBits (2 * m % wordBits))
+        (sym (filled-bit (sendsOut row) row now i (2 * m) p h (omega arith)) ∙ clear)
+
+    go : (b : Bool) → has (getD row (2 * m / wordBits) 0) (2 * m % wordBits) ≡ b → b ≡ true
     go true e = refl
     go false e = sym (rw e at off)
 
@@ -175,10 +182,40 @@ common-all words row kept now e i p h few m k l clear = (both, other)
         let z : true ≡ false = sym (eq-eqb k (2 * e) s) ∙ or-right-false (inRow kept k) (eqb k (2 * e)) neither in
         absurd (let n : _≡_ {A = ℕ} 0 1 = cc in omega arith)
 
+-- the words of the messages under way in common with the sends whose receive is in one of the relation's
+abbrev pub behindSends : List ℕ → ℕ → List ℕ → ℕ → ℕ
+behindSends words from row j = bitAnd (getD row j 0) (getD words (from + j) 0 / 2 ^ 1)
+
+pub needed-deliveries-all : (words way now : List ℕ) (e i : ℕ) → Filled (behindSends words (2 * e * width) way) way now i → width ≤ i
+    → NeededDeliveries words e way now
+unfolding holds
+needed-deliveries-all words way now e i p h m l clear =
+    let word : (2 * m + 1) / wordBits ≡ 2 * m / wordBits = omega arith in
+    let bit : (2 * m + 1) % wordBits ≡ 1 + 2 * m % wordBits = omega arith in
+    rw (
+      alone-row width way (2 * m),
+      word,
+      bit,
+      shifted (getD words (2 * e * width + 2 * m / wordBits) 0) 1 (2 * m % wordBits),
+      ← has-and (getD way (2 * m / wordBits) 0) (getD words (2 * e * width + 2 * m / wordBits) 0 / 2 ^ 1) (2 * m % wordBits),
+    )
+    (sym (filled-bit (behindSends words (2 * e * width) way) way now i (2 * m) p h (omega arith)) ∙ clear)
+
+-- message e is under way, and its bit set; or it is not
+pub own-marked : (way row now : List ℕ) (e : ℕ) → length row ≡ width → e < messagesMost → now ≡ marked width row 0 (2 * e) → OwnDelivery way e now
+own-marked way row now e long few m clear =
+    let mark-bit : inRow now (2 * e) ≡ (inRow row (2 * e) || eqb (2 * e) (2 * e)) =
+    rw m (holds-marked width row 0 (2 * e) 0 (2 * e) (omega (arith, long)) (omega arith) (omega arith)) in
+    let z : true ≡ false = sym (eq-eqb (2 * e) (2 * e) refl) ∙ or-right-false (inRow row (2 * e)) (eqb (2 * e) (2 * e)) (sym mark-bit ∙ clear) in
+    absurd (let n : _≡_ {A = ℕ} 0 1 = cc in omega arith)
+
+pub own-absent : (way row : List ℕ) (e : ℕ) (r : Bool) → r ≡ holds width way 0 (2 * e) → r ≡ false → OwnDelivery way e row
+own-absent way row e r h f clear = sym h ∙ f
+
 -- What each return of `candidates` is to show: the step of a message that is not in the row is not allowed.
-module _ (words done way rows : List ℕ) (e : ℕ) (q : Class) (row : List ℕ) where
+module _ (words done way held : List ℕ) (e : ℕ) (q : Class) (row : List ℕ) where
   abbrev Left-out : Class → Type 0
-  Left-out k = Candidates words done way rows e k row
+  Left-out k = CandidatesIn words done way held e k row
 
   -- the message is not under way
   module _ (S : Scenario) (c : model.Channel) (run : Run) (m : ℕ) (clear : inRow (run .way) (2 * m) ≡ false) where
@@ -198,30 +235,54 @@ module _ (words done way rows : List ℕ) (e : ℕ) (q : Class) (row : List ℕ)
     unfolding allowed
     not-held = rw (absent, and-false)
 
-  pub candidates-held : q ≡ AnyConsume → HeldAnywhere rows row → Candidates words done way rows e q row
-  candidates-held i h =
-      subst⁻¹ Left-out i (λ m l clear run d w s count on c. not-held (scenarioIn count on words) (channelIn c) run m (in-no-buffer run rows (2 * m) s (omega arith) (h (2 * m) (omega arith) clear) (getD on (2 * m + 1) 0)))
+  pub candidates-held : q ≡ AnyConsume → row ≡ held → CandidatesIn words done way held e q row
+  candidates-held i r =
+      subst⁻¹ Left-out i (λ rows h m l clear run d w s count on c.
+      not-held (scenarioIn count on words) (channelIn c) run m
+      (in-no-buffer run rows (2 * m) s (omega arith) (h (2 * m) (omega arith) (ap (λ (k : List ℕ). inRow k (2 * m)) (sym r) ∙ clear)) (getD on (2 * m + 1) 0)))
 
-  pub candidates-delivery : Delivers q → row ≡ way → Candidates words done way rows e q row
-  candidates-delivery t r =
-      if-delivers Left-out q
-      (λ m l clear run d w s count on c. rw (none (scenarioIn count on words) (channelIn c) run m w clear, and-false))
-      (λ m l clear run d w s count on c. rw (none (scenarioIn count on words) (channelIn c) run m w clear, and-false))
-      (λ m l clear run d w s count on c. none (scenarioIn count on words) (channelIn c) run m w clear)
-      t
+  -- the delivery of a message that is not under way
+  undelivered : (S : Scenario) (c : model.Channel) (run : Run) (m : ℕ) → run .way ≡ way → inRow way (2 * m) ≡ false → allowed S c (stateOf run) (deliver m) ≡ false
+  undelivered S c run m w clear = not-under-way S c run m (ap (λ (l : List ℕ). inRow l (2 * m)) w ∙ clear)
+
+  pub candidates-delivery : q ≡ AnyDelivery → row ≡ way → CandidatesIn words done way held e q row
+  candidates-delivery i r =
+      subst⁻¹ Left-out i (λ rows h m l clear run d w s count on c. undelivered (scenarioIn count on words) (channelIn c) run m w (ap (λ (k : List ℕ). inRow k (2 * m)) (sym r) ∙ clear))
+
+  pub candidates-own : q ≡ DeliveryOf → OwnDelivery way e row → CandidatesIn words done way held e q row
+  candidates-own i o = subst⁻¹ Left-out i (λ rows h m l clear run d w s count on c. go m clear run w count on c (ℕ-discrete m e))
     where
-      none : (S : Scenario) (c : model.Channel) (run : Run) (m : ℕ) → run .way ≡ way → inRow row (2 * m) ≡ false → allowed S c (stateOf run) (deliver m) ≡ false
-      none S c run m w clear = not-under-way S c run m (ap (λ (l : List ℕ). inRow l (2 * m)) (w ∙ sym r) ∙ clear)
+      go : (m : ℕ) → inRow row (2 * m) ≡ false → (run : Run) → run .way ≡ way → (count : ℕ) (on : List ℕ) (c : Channel) → Dec (m ≡ e)
+          → fits count on words c run e DeliveryOf m ≡ false
+      go m clear run w count on c (yes s) =
+          let own : inRow way (2 * m) ≡ false =
+          ap (λ (k : ℕ). inRow way (2 * k)) s ∙ o (ap (λ (k : ℕ). inRow row (2 * k)) (sym s) ∙ clear) in
+          rw (undelivered (scenarioIn count on words) (channelIn c) run m w own, and-false)
+      go m clear run w count on c (no n) = rw (ne-eqb m e n)
+
+  -- a receive that is not before e's send
+  receive-not-before : (count : ℕ) (on : List ℕ) (m : ℕ) → holds width words (2 * e) (2 * m + 1) ≡ false → scenarioIn count on words .before (receiveOf m) (sendOf e) ≡ false
+  unfolding number
+  receive-not-before count on m h = rw (h, and-false)
+
+  pub candidates-needed-delivery : q ≡ NeededDelivery → NeededDeliveries words e way row → CandidatesIn words done way held e q row
+  candidates-needed-delivery i n =
+      subst⁻¹ Left-out i (λ rows h m l clear run d w s count on c. go m run w count on c (inRow way (2 * m)) refl (n m l clear))
+    where
+      go : (m : ℕ) (run : Run) → run .way ≡ way → (count : ℕ) (on : List ℕ) (c : Channel) (b : Bool) → inRow way (2 * m) ≡ b
+          → (inRow way (2 * m) && holds width words (2 * e) (2 * m + 1)) ≡ false → fits count on words c run e NeededDelivery m ≡ false
+      go m run w count on c true k both = rw (receive-not-before count on m (rw k at both))
+      go m run w count on c false k both = rw (undelivered (scenarioIn count on words) (channelIn c) run m w k, and-false)
 
   -- the send of a message that is not among those left is done
-  sent : (left : List ℕ) → Undone done left → (S : Scenario) (c : model.Channel) (run : Run) (m : ℕ) → run .done ≡ done → m < messagesMost
+  sent : (left : List ℕ) → Unsent done left → (S : Scenario) (c : model.Channel) (run : Run) (m : ℕ) → run .done ≡ done → m < messagesMost
       → inRow left (2 * m) ≡ false → allowed S c (stateOf run) (send m) ≡ false
   sent left u S c run m d l clear =
-      sent-before S c run m (ap (λ (k : List ℕ). inRow k (2 * m)) d ∙ u (2 * m) (omega arith) clear)
+      sent-before S c run m (ap (λ (k : List ℕ). inRow k (2 * m)) d ∙ u m l clear)
 
-  pub candidates-send : q ≡ AnySend → Undone done row → Candidates words done way rows e q row
+  pub candidates-send : q ≡ AnySend → Unsent done row → CandidatesIn words done way held e q row
   candidates-send i u =
-      subst⁻¹ Left-out i (λ m l clear run d w s count on c. sent row u (scenarioIn count on words) (channelIn c) run m d l clear)
+      subst⁻¹ Left-out i (λ rows h m l clear run d w s count on c. sent row u (scenarioIn count on words) (channelIn c) run m d l clear)
 
   -- a send that is neither e's nor before it
   not-needed : (S : Scenario) (m : ℕ) → (2 * m ≡ 2 * e → ⊥) → S .before (sendOf m) (sendOf e) ≡ false → atOrBefore S (sendOf m) (sendOf e) ≡ false
@@ -232,9 +293,9 @@ module _ (words done way rows : List ℕ) (e : ℕ) (q : Class) (row : List ℕ)
   unfolding number
   not-before count on m h = rw (h, and-false)
 
-  pub candidates-needed-send : (left : List ℕ) → q ≡ NeededSend → Undone done left → Needed words e left row → Candidates words done way rows e q row
+  pub candidates-needed-send : (left : List ℕ) → q ≡ NeededSend → Unsent done left → Needed words e left row → CandidatesIn words done way held e q row
   candidates-needed-send left i u n =
-      subst⁻¹ Left-out i (λ m l clear run d w s. go m l (n (2 * m) (omega arith) clear .1) (inRow left (2 * m)) refl (n (2 * m) (omega arith) clear .0) run d)
+      subst⁻¹ Left-out i (λ rows h m l clear run d w s. go m l (n (2 * m) (omega arith) clear .1) (inRow left (2 * m)) refl (n (2 * m) (omega arith) clear .0) run d)
     where
       go : (m : ℕ) → m < messagesMost → (2 * m ≡ 2 * e → ⊥) → (b : Bool) → inRow left (2 * m) ≡ b → (inRow left (2 * m) && holds width words (2 * e) (2 * m)) ≡ false
           → (run : Run) → run .done ≡ done → (count : ℕ) (on : List ℕ) (c : Channel) → fits count on words c run e NeededSend m ≡ false

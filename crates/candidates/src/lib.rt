@@ -5,21 +5,21 @@ ghost use Prim.Native.Nat.{_+_, _*_, _<_, _≤_};
 ghost use lib.ListN.{length};
 ghost use Rattle.model.specs.Limits.{messagesMost};
 ghost use Rattle.relation.specs.Width.{width};
-ghost use Rattle.candidates.specs.Candidates.{Undone, Needed, Candidates, NextIn};
+ghost use Rattle.candidates.specs.Candidates.{Unsent, Needed, NeededDeliveries, OwnDelivery, CandidatesIn, NextIn};
 pub use crate::classes::Class;
 pub use crate::classes::step_of;
 pub use crate::classes::takes;
-use buffers::HELD_WORDS;
+use relation::SENDS;
 use relation::WIDTH;
 use relation::WORD_BITS;
 
-// The events that are not done.
-fn undone(done: [u64; WIDTH]) -> [u64; WIDTH]
-    ensures { λ r. ⌜ Undone done r ⌝ }
+// The sends that are not done.
+fn unsent(done: [u64; WIDTH]) -> [u64; WIDTH]
+    ensures { λ r. ⌜ Unsent done r ⌝ }
 {
     let mut rest = done;
     for i in 0..WIDTH {
-        rest[i] = !rest[i];
+        rest[i] = !rest[i] & SENDS;
     }
     rest
 }
@@ -40,23 +40,53 @@ fn needed(words: &[u64], e: usize, row: [u64; WIDTH]) -> [u64; WIDTH]
     kept
 }
 
-// The messages whose step of the class can be allowed at all, as bits of their sends: in a buffer, under way, or not yet sent.
+// Of the messages under way, those whose receive is before e's send.
+fn needed_deliveries(words: &[u64], e: usize, way: [u64; WIDTH]) -> [u64; WIDTH]
+    requires { ⌜ (e < messagesMost) × (2 * e * width + width ≤ length (now words)) ⌝ }
+    ensures { λ r. ⌜ NeededDeliveries (now (words .entry)) e way r ⌝ }
+{
+    let from = 2 * e * WIDTH;
+    let mut kept = way;
+    for i in 0..WIDTH {
+        let at = from + i;
+        kept[i] = kept[i] & (words[at] >> 1);
+    }
+    kept
+}
+
+// Message e, if it is under way.
+fn own_delivery(way: &[u64; WIDTH], e: usize) -> [u64; WIDTH]
+    requires { ⌜ e < messagesMost ⌝ }
+    ensures { λ r. ⌜ OwnDelivery (now (way .entry)) e r ⌝ }
+{
+    let send = 2 * e;
+    let mut own = [0u64; WIDTH];
+    if relation::test(way, 0, send) {
+        relation::mark(&mut own, 0, send);
+    }
+    own
+}
+
+// The messages whose step of the class can be allowed at all, as bits of their sends: in a buffer, under way, or not yet sent. What is held are
+// those that some buffer has, or more.
 pub fn candidates<'a>(
     words: &[u64],
     done: &'a [u64; WIDTH],
     way: &'a [u64; WIDTH],
-    rows: &'a [u64; HELD_WORDS],
+    held: &'a [u64; WIDTH],
     e: usize,
     class: Class,
 ) -> [u64; WIDTH]
     requires { ⌜ (e < messagesMost) × (2 * e * width + width ≤ length (now words)) ⌝ }
-    ensures { λ r. ⌜ Candidates (now (words .entry)) (now (done .entry)) (now (way .entry)) (now (rows .entry)) e class r ⌝ }
+    ensures { λ r. ⌜ CandidatesIn (now (words .entry)) (now (done .entry)) (now (way .entry)) (now (held .entry)) e class r ⌝ }
 {
     match class {
-        Class::AnyConsume => buffers::held_anywhere(rows),
-        Class::DeliveryOf | Class::NeededDelivery | Class::AnyDelivery => *way,
-        Class::NeededSend => needed(words, e, undone(*done)),
-        Class::AnySend => undone(*done),
+        Class::AnyConsume => *held,
+        Class::DeliveryOf => own_delivery(way, e),
+        Class::NeededDelivery => needed_deliveries(words, e, *way),
+        Class::AnyDelivery => *way,
+        Class::NeededSend => needed(words, e, unsent(*done)),
+        Class::AnySend => unsent(*done),
     }
 }
 

@@ -1,16 +1,16 @@
 -- A step is allowed: the tests of the code, one behind the other, are the model's. Assumes nothing.
 use mathlib.Core.Path.{_≡_, refl, sym, _∙_, ap, subst, subst⁻¹}
-use mathlib.Core.Bool.{Bool, true, false}
+use mathlib.Core.Bool.{Bool, true, false, not, and-false}
 use mathlib.Core.List.{List}
 use Prim.Native.Nat.{ℕ, _+_, _*_, _<_, _≤_}
 use native.Mathlib.Decide.{decLt}
 use native.Mathlib.Omega.{arith}
 use lib.ListN.{getD}
-use borrow.Author.Tests.{lt-ltb, le-ltb}
+use borrow.Author.Tests.{lt-ltb, le-ltb, not-true}
 use Rattle.model.specs.Order.{Event, sendOf, receiveOf, Scenario}
 use Rattle.model.specs.Channel as model
 use Rattle.model.specs.Run as model-run
-use Rattle.model.specs.Run.{State, send, deliver, consume, ready, allowed}
+use Rattle.model.specs.Run.{State, send, deliver, consume, ready, boardFree, allowed}
 use Rattle.model.specs.Waits.{readiness}
 use Rattle.model.specs.Schedule.{messageOfStep}
 use Rattle.model.proofs.Bounded.{not-both}
@@ -34,7 +34,7 @@ use Rattle.rules.specs.declared.Readiness.{Readiness}
 use Rattle.rules.specs.declared.Readiness.the-variants.{Ready, Done, Waits}
 use Rattle.rules.specs.Rules.{readinessIn, SaysReadiness, SaysSendRule, SaysDeliverRule}
 use Rattle.rules.proofs.Conditions.{free-says}
-use Rattle.channel.specs.Steps.{Says, SaysStep, SaysIn}
+use Rattle.channel.specs.Steps.{Says, SaysStep, SaysIn, HeldUp}
 
 module _ (count : ℕ) (on words masks : List ℕ) (standing : Standing count on words masks) (m : ℕ) (inside : m < count) where
   module _ (c : Channel) (way : List ℕ) (buffer : Buffer) where
@@ -138,6 +138,47 @@ pub by-buffer : (count : ℕ) (on words : List ℕ) (c : Channel) (done way rows
     → SaysStep count on words c done way buffer t r → ((run : Run) → HeldIn run rows → bufferOf run b ≡ buffer) → BoardAt on t b
     → SaysIn count on words c done way rows t r
 by-buffer count on words c done way rows t r buffer b says held at run d w h = says run d w (ap (bufferOf run) (sym (at .place)) ∙ held run h)
+
+-- A board that is not free holds up a send and a delivery.
+module _ (masks : List ℕ) (eager : Bool) (buffer : Buffer) (step : Step) where
+  module _ (t : Bool) (g : t ≡ freeIn eager masks (buffer .held)) where
+    unfree : not t ≡ true → (count : ℕ) (on words : List ℕ) → Standing count on words masks → (c : Channel) → c .eager ≡ eager → (run : Run) (b : ℕ) → bufferOf run b ≡ buffer
+        → boardFree (scenarioIn count on words) (channelIn c) (stateOf run) b ≡ false
+    unfree f count on words standing c same run b h =
+        sym (free-says count on words masks standing (channelIn c) run b buffer h) ∙ ap (λ (q : Bool). freeIn q masks (buffer .held)) same ∙ sym g ∙ not-true t f
+
+    module _ (f : not t ≡ true) (count : ℕ) (on words : List ℕ) (standing : Standing count on words masks) (c : Channel) (same : c .eager ≡ eager) (done way : List ℕ) (m : ℕ) where
+      no-send : SaysStep count on words c done way buffer (Send m) false
+      unfolding allowed
+      no-send run d w b = rw (unfree f count on words standing c same run (getD on (2 * m) 0) b, and-false)
+
+      no-delivery : SaysStep count on words c done way buffer (Deliver m) false
+      unfolding allowed
+      no-delivery run d w b = rw (unfree f count on words standing c same run (getD on (2 * m + 1) 0) b, and-false)
+
+    pub held-up-send : (m : ℕ) → step ≡ Send m → HeldUp masks eager buffer step (not t)
+    held-up-send m i =
+        record {
+          never = λ count on words standing c same e done way.
+              subst⁻¹ (λ (s : Step). SaysStep count on words c done way buffer s false) i (no-send e count on words standing c same done way m);
+        }
+
+    pub held-up-delivery : (m : ℕ) → step ≡ Deliver m → HeldUp masks eager buffer step (not t)
+    held-up-delivery m i =
+        record {
+          never = λ count on words standing c same e done way.
+              subst⁻¹ (λ (s : Step). SaysStep count on words c done way buffer s false) i (no-delivery e count on words standing c same done way m);
+        }
+
+  pub not-held-up : HeldUp masks eager buffer step false
+  not-held-up = record { never = λ count on words standing c same e. absurd (let n : _≡_ {A = ℕ} 0 1 = cc in omega arith) }
+
+-- a step that is held up, in every run with these buffers in rows
+pub held-up-in : (count : ℕ) (on words masks : List ℕ) (c : Channel) (done way rows : List ℕ) (t : Step) (r : Bool) (buffer : Buffer) (b : ℕ)
+    → Standing count on words masks → r ≡ true → HeldUp masks (c .eager) buffer t r → ((run : Run) → HeldIn run rows → bufferOf run b ≡ buffer) → BoardAt on t b
+    → SaysIn count on words c done way rows t false
+held-up-in count on words masks c done way rows t r buffer b standing e h held at =
+    by-buffer count on words c done way rows t false buffer b (h .never count on words standing c refl e done way) held at
 
 -- its message, as it is read
 pub known : (step : Step) (m count : ℕ) → m ≡ messageIn step → m < count → messageIn step < count

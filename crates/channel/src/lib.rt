@@ -1,9 +1,11 @@
 // The step rules: whether a step is allowed.
 ghost use mathlib.Core.List.{List};
-ghost use Prim.Native.Nat.{ℕ, _<_};
-ghost use Rattle.board.specs.Masks.{Standing};
+ghost use Prim.Native.Nat.{ℕ, _*_, _<_, _≤_};
+ghost use lib.ListN.{length};
+ghost use Rattle.relation.specs.Width.{width};
+ghost use Rattle.board.specs.Masks.{maskRows, Standing};
 ghost use Rattle.step.specs.Steps.{messageIn};
-ghost use Rattle.channel.specs.Steps.{Says, SaysStep, SaysIn};
+ghost use Rattle.channel.specs.Steps.{Says, SaysStep, SaysIn, HeldUp};
 use board::board_of;
 use buffers::HELD_WORDS;
 use channel_table::Channel;
@@ -122,6 +124,18 @@ pub fn allowed<'a>(
     }
 }
 
+// A send or a delivery on a board that is not free: most steps that a search tries are. Asked ahead of the rest, because it is soon told.
+fn held_up(masks: &[u64], eager: bool, buffer: Buffer, step: Step) -> bool
+    requires { ⌜ maskRows * width ≤ length (now masks) ⌝ }
+    ensures { λ r. ⌜ HeldUp (now (masks .entry)) eager buffer step r ⌝ }
+{
+    match step {
+        Step::Send(_) => !rules::board_free(masks, eager, buffer),
+        Step::Deliver(_) => !rules::board_free(masks, eager, buffer),
+        Step::Consume(_) => false,
+    }
+}
+
 // The same, of the buffers in rows.
 pub fn may_step<'a>(
     words: &[u64],
@@ -140,6 +154,9 @@ pub fn may_step<'a>(
 {
     let board = board_at(boards, step);
     let buffer = buffers::buffer_at(rows, board);
+    if held_up(masks, c.eager, buffer, step) {
+        return false;
+    }
     allowed(words, masks, boards, count, c, done, way, buffer, step)
 }
 

@@ -26,7 +26,7 @@ use Rattle.share.specs.Search.{searched}
 use Rattle.places.specs.Words.{FreeCleared, Put}
 use Rattle.dispatcher.specs.declared.Boards.{Boards}
 use Rattle.dispatcher.specs.declared.Dispatcher.{Dispatcher}
-use Rattle.dispatcher.specs.Bridge.{deskIn, boardsAt, raceAt, HoldsIn, Holds, lent, AdmitOf, HoldsNew}
+use Rattle.dispatcher.specs.Bridge.{deskIn, boardsAt, raceAt, HoldsIn, Holds, lent, AdmitOf}
 use Rattle.dispatcher.proofs.Members.{member-last, one-job, number-below, place-below, place-held}
 use Rattle.dispatcher.proofs.Cases.{Case, admit-admitted, sheet-judged}
 use Rattle.dispatcher.proofs.Serving.{words-cleared, holds-same, words-same}
@@ -151,7 +151,7 @@ module _ (d : Dispatcher) (place code count : ℕ) (boards written exit : List �
         absurd (omega (arith, number-below (deskIn d) o j a)))
         (member-last k new (queueIn (d .queue)) (subst (λ (q : List model.Job). Member k q) isLonger (subst⁻¹ (λ (q : Desk). Member k (q .queue)) next-is b)))
 
-    admitted-serves : (r : Served Dispatcher) → r ≡ record { told = record { word = admittedWord; one = d .given; two = place; answer = noAnswer }; next = next }
+    pub admitted-serves : (r : Served Dispatcher) → r ≡ record { told = record { word = admittedWord; one = d .given; two = place; answer = noAnswer }; next = next }
         → AdmitOf d sheets lengths codes words exit r
     unfolding leavesAll
     admitted-serves r e =
@@ -170,7 +170,3 @@ module _ (d : Dispatcher) (place code count : ℕ) (boards written exit : List �
               let z : _≡_ {A = ℕ} 0 1 = cc in
               absurd (omega arith);
         })
-
-  pub holds-new-serves : (r : Served Dispatcher) → r ≡ record { told = record { word = admittedWord; one = d .given; two = place; answer = noAnswer }; next = next }
-      → HoldsNew d place code count boards written exit r
-  holds-new-serves r e = record { serves = λ sheets lengths codes words enough isCode few isSheet fit P. admitted-serves sheets lengths codes words enough isCode few isSheet fit P r e }

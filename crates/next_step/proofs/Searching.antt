@@ -25,15 +25,15 @@ use Rattle.step.specs.declared.StepOrNone.{StepOrNone}
 use Rattle.step.specs.declared.StepOrNone.the-variants as maybe
 use Rattle.step.specs.Steps.{stepIn, messageIn, stepOrNone}
 use Rattle.run.specs.State.{stateOf}
-use Rattle.buffers.specs.Held.{HeldIn}
+use Rattle.buffers.specs.Held.{HeldAnywhere}
 use Rattle.candidates.specs.declared.classes.Class.{Class}
 use Rattle.candidates.specs.declared.classes.Class.the-variants.{AnySend}
 use Rattle.candidates.specs.Classes.{classIn, stepFor}
-use Rattle.candidates.specs.Candidates.{fits, OfRuns, Candidates, NextIn}
+use Rattle.candidates.specs.Candidates.{fits, OfRuns, CandidatesIn, NextIn}
 use Rattle.candidates.proofs.EachClass.{step-is, message-is}
 use Rattle.channel.specs.Steps.{SaysIn}
 use Rattle.channel.proofs.StepTests.{allowed-inside}
-use Rattle.next_step.specs.Search.{classAt, Fits, Lowest, Chosen}
+use Rattle.next_step.specs.Search.{classAt, Fits, Lowest, ChosenIn}
 
 -- the class behind the first five is the last
 pub last-class : (k : ℕ) → (k ≡ 0 → ⊥) → (k ≡ 1 → ⊥) → (k ≡ 2 → ⊥) → (k ≡ 3 → ⊥) → (k ≡ 4 → ⊥) → AnySend ≡ classAt k
@@ -121,15 +121,15 @@ module _ (count : ℕ) (boards words : List ℕ) (c : Channel) (done way rows : 
       go (suc n) f g = lowest-miss n (fits count boards words c run e q) (go n (omega arith) (λ j l. g j (omega arith))) (g n (omega arith))
 
   -- no candidate is among the messages skipped
-  skips : (m r : ℕ) (row : List ℕ) → Passed m → NextIn row m r → Candidates words done way rows e q row → count ≤ messagesMost → Passed r
-  skips m r row p n all few = record { passed = λ j h i. go j h i (decLt j m) }
+  skips : (m r : ℕ) (row held : List ℕ) → Passed m → NextIn row m r → CandidatesIn words done way held e q row → HeldAnywhere rows held → count ≤ messagesMost → Passed r
+  skips m r row held p n all anywhere few = record { passed = λ j h i. go j h i (decLt j m) }
     where
       go : (j : ℕ) → j < r → j < count → Dec (j < m) → OfRuns done way rows (λ run. fits count boards words c run e q j ≡ false)
       go j h i (yes b) = p .passed j b i
-      go j h i (no b) = λ run d w s. all j (omega arith) (n .absent j (omega arith) h) run d w s count boards c
+      go j h i (no b) = λ run d w s. all rows anywhere j (omega arith) (n .absent j (omega arith) h) run d w s count boards c
 
-  pub search-begins : (r : ℕ) (row : List ℕ) → NextIn row 0 r → Candidates words done way rows e q row → count ≤ messagesMost → Passed r
-  search-begins r row n all few = skips 0 r row (record { passed = λ j h i. absurd (omega arith) }) n all few
+  pub search-begins : (r : ℕ) (row held : List ℕ) → NextIn row 0 r → CandidatesIn words done way held e q row → HeldAnywhere rows held → count ≤ messagesMost → Passed r
+  search-begins r row held n all anywhere few = skips 0 r row held (record { passed = λ j h i. absurd (omega arith) }) n all anywhere few
 
   pub finds-nothing : (m : ℕ) → Passed m → count ≤ m → Lowest count boards words c done way rows e q maybe.Nothing
   finds-nothing m p l run d w r =
@@ -146,8 +146,8 @@ module _ (count : ℕ) (boards words : List ℕ) (c : Channel) (done way rows : 
         go k h g (yes same) = λ run d w r. rw same (sym (s run d w r) ∙ f)
         go k h g (no other) = p .passed k (omega arith) g
 
-    pub goes-past : (r : ℕ) (row : List ℕ) → u ≡ false → NextIn row (m + 1) r → Candidates words done way rows e q row → count ≤ messagesMost → Passed r
-    goes-past r row f n all few = skips (m + 1) r row (misses f) n all few
+    pub goes-past : (r : ℕ) (row held : List ℕ) → u ≡ false → NextIn row (m + 1) r → CandidatesIn words done way held e q row → HeldAnywhere rows held → count ≤ messagesMost → Passed r
+    goes-past r row held f n all anywhere few = skips (m + 1) r row held (misses f) n all anywhere few
 
     pub finds : (step : code.Step) → step ≡ stepFor q m → u ≡ true → Lowest count boards words c done way rows e q (maybe.Step step)
     finds step i v run d w r =
@@ -197,12 +197,11 @@ module _ (count : ℕ) (boards words : List ℕ) (c : Channel) (done way rows : 
       → q ≡ classAt k → k < 6 → Tried (k + 1)
   tried-more k q f T n h i l = record { within = omega arith; same = λ run d w p. rw n at (by-class k q f T l i h run d w p) }
 
-  pub chooses : (run : Run) (k : ℕ) (q : Class) (f : StepOrNone) (step : code.Step) → run .done ≡ done → run .way ≡ way → HeldIn run rows → Tried k
-      → f ≡ maybe.Step step → Lowest count boards words c done way rows e q f → q ≡ classAt k → k < 6 → Chosen count boards words c run e f
-  chooses run k q f step d w p T n h i l = rw n (sym (rw n at (by-class k q f T l i h run d w p)))
+  pub chooses : (k : ℕ) (q : Class) (f : StepOrNone) (step : code.Step) → Tried k → f ≡ maybe.Step step → Lowest count boards words c done way rows e q f
+      → q ≡ classAt k → k < 6 → ChosenIn count boards words c done way rows e f
+  chooses k q f step T n h i l run d w p = rw n (sym (rw n at (by-class k q f T l i h run d w p)))
 
-  pub chooses-nothing : (run : Run) (k : ℕ) → run .done ≡ done → run .way ≡ way → HeldIn run rows → Tried k → 6 ≤ k
-      → Chosen count boards words c run e maybe.Nothing
-  chooses-nothing run k d w p T l =
+  pub chooses-nothing : (k : ℕ) → Tried k → 6 ≤ k → ChosenIn count boards words c done way rows e maybe.Nothing
+  chooses-nothing k T l run d w p =
       let i : k ≡ 6 = omega (arith, T .within) in
       sym (T .same run d w p ∙ ap (λ j. choose (scenarioIn count boards words) (channelIn c) (drop j (classesFor (scenarioIn count boards words) e)) (stateOf run)) i ∙ choose-none (scenarioIn count boards words) (channelIn c) (stateOf run))

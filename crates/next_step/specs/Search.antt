@@ -36,3 +36,7 @@ module _ (count : ℕ) (boards words : List ℕ) (c : Channel) where
   abbrev pub Chosen : Run → ℕ → StepOrNone → Type 0
   Chosen run e r =
       stepOrNone r ≡ choose (scenarioIn count boards words) (channelIn c) (classesFor (scenarioIn count boards words) e) (stateOf run)
+
+  -- the same of every run with these parts
+  abbrev pub ChosenIn : List ℕ → List ℕ → List ℕ → ℕ → StepOrNone → Type 0
+  ChosenIn done way rows e r = OfRuns done way rows (λ run. Chosen run e r)

@@ -2,13 +2,13 @@
 ghost use mathlib.Core.Path.{_≡_};
 ghost use Prim.Native.Nat.{_<_};
 ghost use Rattle.board.specs.Masks.{Standing};
-ghost use Rattle.next_step.specs.Search.{classAt, Fits, Lowest, Chosen};
+ghost use Rattle.buffers.specs.Held.{HeldAnywhere};
+ghost use Rattle.next_step.specs.Search.{classAt, Fits, Lowest, ChosenIn};
 use buffers::HELD_WORDS;
 use candidates::Class;
 use channel::may_step;
 use channel_table::Channel;
 use relation::WIDTH;
-use run::Run;
 use step::StepOrNone;
 
 // Message m is of the class and its step is allowed, in every run with these parts: what is done, what is under way, and the
@@ -37,7 +37,7 @@ fn fits_class<'a>(
     may_step(words, masks, boards, count, c, done, way, rows, step)
 }
 
-// The step of the class on the lowest message that fits, by the same parts of a run.
+// The step of the class on the lowest message that fits, by the same parts of a run, and what its buffers hold together.
 fn lowest<'a>(
     words: &[u64],
     masks: &[u64],
@@ -47,14 +47,16 @@ fn lowest<'a>(
     done: &'a [u64; WIDTH],
     way: &'a [u64; WIDTH],
     rows: &'a [u64; HELD_WORDS],
+    held: &'a [u64; WIDTH],
     e: usize,
     class: Class,
 ) -> StepOrNone
     requires { ⌜ Standing count (now boards) (now words) (now masks) ⌝ }
+    requires { ⌜ HeldAnywhere (now rows) (now held) ⌝ }
     requires { ⌜ e < count ⌝ }
     ensures { λ r. ⌜ Lowest count (now (boards .entry)) (now (words .entry)) c (now (done .entry)) (now (way .entry)) (now (rows .entry)) e class r ⌝ }
 {
-    let among = candidates::candidates(words, done, way, rows, e, class);
+    let among = candidates::candidates(words, done, way, held, e, class);
     let mut m = candidates::next_in(&among, 0);
     while m < count {
         if fits_class(words, masks, boards, count, c, done, way, rows, e, class, m) {
@@ -84,26 +86,39 @@ fn class_at(k: usize) -> Class
     }
 }
 
-// The step that the schedule for e takes next in the run: of the first class with an allowed step, on the lowest message.
-pub fn choose(
+// The step that the schedule for e takes next, in every run with these parts: of the first class with an allowed step, on the lowest message.
+pub fn choose<'a>(
     words: &[u64],
     masks: &[u64],
     boards: &[u8],
     count: usize,
     c: Channel,
-    run: Run,
+    done: &'a [u64; WIDTH],
+    way: &'a [u64; WIDTH],
+    rows: &'a [u64; HELD_WORDS],
+    held: &'a [u64; WIDTH],
     e: usize,
 ) -> StepOrNone
     requires { ⌜ Standing count (now boards) (now words) (now masks) ⌝ }
+    requires { ⌜ HeldAnywhere (now rows) (now held) ⌝ }
     requires { ⌜ e < count ⌝ }
-    ensures { λ r. ⌜ Chosen count (now (boards .entry)) (now (words .entry)) c run e r ⌝ }
+    ensures { λ r. ⌜ ChosenIn count (now (boards .entry)) (now (words .entry)) c (now (done .entry)) (now (way .entry)) (now (rows .entry)) e r ⌝ }
 {
-    let done = run.done;
-    let way = run.way;
-    let rows = buffers::held_rows(run);
     for k in 0..CLASS_COUNT {
         let class = class_at(k);
-        let found = lowest(words, masks, boards, count, c, &done, &way, &rows, e, class);
+        let found = lowest(
+            words,
+            masks,
+            boards,
+            count,
+            c,
+            done,
+            way,
+            rows,
+            held,
+            e,
+            class,
+        );
         match found {
             StepOrNone::Step(_) => return found,
             StepOrNone::Nothing => {}

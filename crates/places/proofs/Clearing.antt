@@ -14,7 +14,7 @@ use Rattle.model.specs.Dispatcher.{Job, placesOf, placeWords}
 use Rattle.model.proofs.Bounded.{not-both}
 use Rattle.relation.specs.Rows.{has, cleared}
 use Rattle.queue.specs.Bridge.{PlacesOf}
-use Rattle.places.specs.Words.{FreeCleared, Put}
+use Rattle.places.specs.Words.{FreeCleared, ClearedBut, Put}
 use Rattle.places.proofs.Parts.{from, to, span, part-put}
 
 -- of the places below `place` the free ones are cleared
@@ -66,12 +66,14 @@ module _ (taken : ℕ) (words : List ℕ) where
         clearing-put (not-true r t) exit
         (rw (at, zeros) (part-put behind (omega (arith, c .kept)) place l (replicate scratchLeast 0) (length-replicate {A = ℕ} scratchLeast 0)))
 
-  pub clearing-all : (js : List Job) (place : ℕ) (behind : List ℕ) → Clearing taken words place behind → PlacesOf js taken → jobsMost ≤ place
-      → FreeCleared js words behind
-  clearing-all js place behind c P l =
-      record {
-        kept = c .kept;
-        rest = c .rest;
-        free = λ p h t. c .free p (omega (arith, c .within)) (P .bit p h ∙ not-true (among p (placesOf js)) t);
-        held = λ p h f. c .held p h (P .bit p h ∙ not-false (among p (placesOf js)) f);
-      }
+  pub clearing-all : (place : ℕ) (behind : List ℕ) → Clearing taken words place behind → jobsMost ≤ place → ClearedBut taken words behind
+  clearing-all place behind c l = record { cleared = λ js P. all js P }
+    where
+      all : (js : List Job) → PlacesOf js taken → FreeCleared js words behind
+      all js P =
+          record {
+            kept = c .kept;
+            rest = c .rest;
+            free = λ p h t. c .free p (omega (arith, c .within)) (P .bit p h ∙ not-true (among p (placesOf js)) t);
+            held = λ p h f. c .held p h (P .bit p h ∙ not-false (among p (placesOf js)) f);
+          }

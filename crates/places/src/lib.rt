@@ -4,9 +4,7 @@ ghost use Prim.Native.Nat.{_<_, _≤_};
 ghost use lib.ListN.{length};
 ghost use Rattle.model.specs.Limits.{jobsMost, jobWordsLeast};
 ghost use Rattle.relation.specs.Rows.{has};
-ghost use Rattle.queue.specs.Bridge.{queueIn};
-ghost use Rattle.places.specs.Words.{FreeCleared};
-use queue::Queue;
+ghost use Rattle.places.specs.Words.{ClearedBut};
 
 // Bit p of the word, which stands for place p, is set.
 fn is_taken(taken: u64, place: usize) -> bool
@@ -16,12 +14,11 @@ fn is_taken(taken: u64, place: usize) -> bool
     (taken >> place) & 1 == 1
 }
 
-// The words of the places that no job of the queue is in become zero, whatever they held.
-pub fn clear_free(words: &mut [u64], queue: Queue)
+// The words of the places that are not taken become zero, whatever they held. Bit p of the word is place p.
+pub fn clear_free(words: &mut [u64], taken: u64)
     requires { ⌜ jobWordsLeast ≤ length (now words) ⌝ }
-    ensures { λ _. ⌜ FreeCleared (queueIn queue) (now (words .entry)) (now (words .exit)) ⌝ }
+    ensures { λ _. ⌜ ClearedBut taken (now (words .entry)) (now (words .exit)) ⌝ }
 {
-    let taken = queue.places();
     for place in 0..model::JOBS_MOST {
         if !is_taken(taken, place) {
             let from = place * model::SCRATCH_LEAST;

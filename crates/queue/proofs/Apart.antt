@@ -19,23 +19,25 @@ use Rattle.model.specs.Bounded.{among, lowest}
 use Rattle.model.specs.Taps.{eachOnce}
 use Rattle.model.specs.Dispatcher as model
 use Rattle.model.specs.Dispatcher.{placesOf}
-use Rattle.model.proofs.Bounded.{and-left, and-right, not-both, lowest-hit, lowest-miss, lowest-same}
+use Rattle.model.proofs.Bounded.{and-left, and-right, not-both, lowest-hit, lowest-miss, lowest-same, lowest-some}
 use Rattle.model.proofs.Ahead.{among-snoc, among-here, among-there, among-not, once-parts, once-make}
 use Rattle.relation.specs.Rows.{has}
 use Rattle.relation.proofs.Bits.{has-zero, has-or, has-power}
 use Rattle.queue.specs.declared.Job.{Job}
 use Rattle.queue.specs.declared.Queue.{Queue}
 use Rattle.queue.specs.declared.Taken.{Taken}
-use Rattle.queue.specs.Bridge.{jobIn, jobsIn, apartFrom, emptyQueue, queueIn, Counted, PlacesOf, MayStand, TakenIn, isFreeIn, freePlaceIn}
+use Rattle.queue.specs.declared.Place.{Place}
+use Rattle.queue.specs.declared.Place.the-variants as place
+use Rattle.queue.specs.Bridge.{jobIn, jobsIn, apartFrom, emptyQueue, queueIn, Counted, PlacesOf, MayStand, TakenIn, isFreeIn, placeIn, freePlaceIn, SparePlace}
 use Rattle.queue.proofs.Jobs.{jobs-more}
 
-swaps : (a b : Bool) → (a || b) ≡ (b || a)
+pub swaps : (a b : Bool) → (a || b) ≡ (b || a)
 swaps true true = refl
 swaps true false = refl
 swaps false true = refl
 swaps false false = refl
 
-among-first : (n k : ℕ) (l : List ℕ) → among n (k ∷ l) ≡ (eqb n k || among n l)
+pub among-first : (n k : ℕ) (l : List ℕ) → among n (k ∷ l) ≡ (eqb n k || among n l)
 unfolding among
 among-first n k l = refl
 
@@ -216,6 +218,22 @@ pub free-nowhere : (js : List model.Job) (bits place : ℕ) → NoneFree bits pl
 free-nowhere js bits place p P l =
     let e : place ≡ jobsMost = omega (arith, p .within) in
     sym (ap (λ n. lowest n (λ p. not (has bits p))) (sym e) ∙ p .nowhere) ∙ free-as js bits P
+
+module _ (js : List model.Job) (v : Place) (found : placeIn v ≡ freePlaceIn js) where
+  pub spare-at : (p : ℕ) → v ≡ place.At p → SparePlace js p
+  spare-at p i =
+      let e : freePlaceIn js ≡ some p = sym found ∙ ap placeIn i in
+      record { below = lowest-some jobsMost (isFreeIn js) p e .below; lowest = λ k f. let both : some p ≡ some k = sym e ∙ f in cc }
+
+  pub spare-none : v ≡ place.Nothing → SparePlace js 0
+  spare-none i =
+      record {
+        below = omega arith;
+        lowest = λ k f.
+            let both : none ≡ some k = sym (ap placeIn i) ∙ found ∙ f in
+            let z : _≡_ {A = ℕ} 0 1 = cc in
+            absurd (omega arith);
+      }
 
 -- ---- a place may be taken
 module _ (taken place : ℕ) where

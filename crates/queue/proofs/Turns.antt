@@ -1,15 +1,15 @@
 -- A job behind the last, a job that leaves, and a turn of the queue. Assumes nothing.
 use mathlib.Core.Path.{_≡_, refl, sym, _∙_, ap}
-use mathlib.Core.Bool.{Bool, true, false, not, _||_}
+use mathlib.Core.Bool.{Bool, true, false, not, cond, _&&_, _||_}
 use mathlib.Core.List.{List, [], _∷_, _++_}
 use mathlib.Core.Option.{Option, none, some}
-use Prim.Native.Nat.{ℕ, zero, suc, _+_, _-_, _*_, _^_, _<_, _≤_}
+use Prim.Native.Nat.{ℕ, zero, suc, _+_, _-_, _*_, _%_, _^_, _<_, _≤_}
 use native.Mathlib.Numerals.{add-one}
 use native.Mathlib.Omega.{arith}
 use borrow.Author.Tests.{eq-eqb, leb-false, not-true}
-use lib.Dec.{eqb}
+use lib.Dec.{eqb, ltb}
 use lib.ListN.{length, getD, take, drop, set, length-append, length-drop}
-use lib.Seq.{take-nil, take-suc-set, take-take, getD-take, getD-drop, drop-cons, paste, paste-zero, paste-suc, take-paste, drop-paste, length-take-le}
+use lib.Seq.{take-nil, take-suc-set, take-take, getD-take, getD-drop, drop-cons, paste, paste-zero, paste-suc, take-paste, drop-paste, length-paste, length-take-le}
 use Rattle.model.specs.Limits.{jobsMost}
 use Rattle.model.specs.Bounded.{among}
 use Rattle.model.specs.Taps.{eachOnce}
@@ -17,14 +17,12 @@ use Rattle.model.specs.Dispatcher as model
 use Rattle.model.specs.Dispatcher.{placesOf, isLast, turned}
 use Rattle.model.proofs.Bounded.{not-both, or-left}
 use Rattle.model.proofs.Accepted.{or-false}
-use Rattle.model.proofs.Ahead.{among-not, once-parts, once-make, once-snoc}
+use Rattle.model.proofs.Ahead.{among-not, among-snoc, once-parts, once-make, once-snoc}
 use Rattle.model.proofs.Queue.{once-most}
 use Rattle.queue.specs.declared.Job.{Job}
 use Rattle.queue.specs.declared.Queue.{Queue}
-use Rattle.queue.specs.declared.Head.{Head}
-use Rattle.queue.specs.declared.Head.the-variants as head
-use Rattle.queue.specs.Bridge.{jobIn, jobsIn, apartFrom, queueIn, Counted, isFreeIn, headIn, headOf}
-use Rattle.queue.proofs.Apart.{places-snoc, once-whole, apart-once}
+use Rattle.queue.specs.Bridge.{jobIn, jobsIn, apartFrom, queueIn, Counted, PlacesOf, isFreeIn, headOf, FirstPlace}
+use Rattle.queue.proofs.Apart.{swaps, among-first, places-snoc, once-whole, apart-once}
 use Rattle.queue.proofs.Jobs.{jobs-append, jobs-take, jobs-drop, counted-length}
 
 -- each job of a queue has a place of its own
@@ -183,51 +181,87 @@ module _ (q₀ : Queue) (count at : ℕ) (C : Counted q₀ count) (h : at < leng
     pub moved-all : count - 1 ≤ i → queueIn (record { jobs = q .jobs; held = count - 1 }) ≡ take at (queueIn q₀) ++ drop (at + 1) (queueIn q₀)
     moved-all l = ap (apartFrom []) (moved-up l) ∙ once-whole (take at (queueIn q₀) ++ drop (at + 1) (queueIn q₀)) (rw add-one (once-cut (queueIn q₀) at (each q₀)))
 
+    pub moved-counted : count - 1 ≤ i → Counted (record { jobs = q .jobs; held = count - 1 }) (count - 1)
+    moved-counted l =
+        record {
+          first = moved-all l ∙ sym (moved-up l);
+          most = omega (arith, C .most);
+          room =
+              ap length (m .moved)
+              ∙ length-paste (q₀ .jobs) at (drop (suc at) (q₀ .jobs)) (i - at) (omega (arith, inside, C .most, C .room)) (omega (arith, inside, C .most, rest-long, m .from, m .to))
+              ∙ C .room;
+        }
+
 -- ---- a turn
-module _ (q : Queue) (v : Head) (found : headIn v ≡ headOf (queueIn q)) where
-  pub turned-none : v ≡ head.Nothing → queueIn q ≡ turned (queueIn q)
-  unfolding turned
-  turned-none i = go (queueIn q) (sym found ∙ ap headIn i)
-    where
-      go : (js : List model.Job) → headOf js ≡ none → js ≡ turned js
-      go [] e = refl
-      go (j ∷ js) e = let z : _≡_ {A = ℕ} 0 1 = cc in absurd (omega arith)
-
-  module _ (job : Job) (i : v ≡ head.Job job) where
-    pub comes-apart : queueIn q ≡ jobIn job ∷ drop 1 (queueIn q)
-    comes-apart = go (queueIn q) (sym found ∙ ap headIn i)
-      where
-        go : (js : List model.Job) → headOf js ≡ some (jobIn job) → js ≡ jobIn job ∷ drop 1 js
-        go [] e = let z : _≡_ {A = ℕ} 0 1 = cc in absurd (omega arith)
-        go (j ∷ js) e = let k : j ≡ jobIn job = cc in ap (λ (k : model.Job). k ∷ js) k
-
-    pub some-held : 0 < length (queueIn q)
-    some-held = rw comes-apart (omega arith)
-
-    module _ (rest : Queue) (closed : queueIn rest ≡ take 0 (queueIn q) ++ drop (0 + 1) (queueIn q)) where
-      pub turned-last : (r : Bool) → r ≡ isLast (jobIn job) → r ≡ true → queueIn rest ≡ turned (queueIn q)
-      unfolding turned
-      turned-last r e t = closed ∙ sym (ap turned comes-apart ∙ rw (sym e ∙ t))
-
-      pub turned-again : (r : Bool) (next : Queue) → r ≡ isLast (jobIn job) → r ≡ false
-          → queueIn next ≡ queueIn rest ++ (record { number = job .number; place = job .place; code = job .code; count = job .count; turns = job .turns + 1 } ∷ [])
-          → queueIn next ≡ turned (queueIn q)
-      unfolding turned
-      turned-again r next e f n =
-          n ∙ rw closed
-          (ap (λ k. drop 1 (queueIn q) ++ (record { number = job .number; place = job .place; code = job .code; count = job .count; turns = k } ∷ [])) (add-one (job .turns))
-          ∙ sym (ap turned comes-apart ∙ rw (sym e ∙ f)))
-
 -- a job that is not at its last turn has one more
 pub turn-fits : (job : Job) (r : Bool) → r ≡ isLast (jobIn job) → r ≡ false → job .count < 2 ^ 16 → job .turns + 1 < 2 ^ 32
 unfolding isLast
 turn-fits job r e f h = omega (arith, leb-false (2 * job .count) (job .turns) (sym e ∙ f))
 
--- behind the head that left, its place is free
-pub head-free : (q rest : Queue) (v : Head) (job : Job) → headIn v ≡ headOf (queueIn q) → v ≡ head.Job job
-    → queueIn rest ≡ take 0 (queueIn q) ++ drop (0 + 1) (queueIn q) → (job .place < jobsMost) × (isFreeIn (queueIn rest) (job .place) ≡ true)
-unfolding placesOf
-head-free q rest v job found i closed =
-    let h : eachOnce jobsMost (placesOf (jobIn job ∷ drop 1 (queueIn q))) ≡ true = ap (λ js. eachOnce jobsMost (placesOf js)) (sym (comes-apart q v found job i)) ∙ each q in
-    let o = once-parts jobsMost (job .place) (placesOf (drop 1 (queueIn q))) h in
-    (o .below, rw closed (ap not (o .fresh)))
+module _ (q : Queue) (job : Job) (first : headOf (queueIn q) ≡ some (jobIn job)) where
+  comes-apart : queueIn q ≡ jobIn job ∷ drop 1 (queueIn q)
+  comes-apart = go (queueIn q) first
+    where
+      go : (js : List model.Job) → headOf js ≡ some (jobIn job) → js ≡ jobIn job ∷ drop 1 js
+      go [] e = let z : _≡_ {A = ℕ} 0 1 = cc in absurd (omega arith)
+      go (j ∷ js) e = let k : j ≡ jobIn job = cc in ap (λ (k : model.Job). k ∷ js) k
+
+  pub some-held : 0 < length (queueIn q)
+  some-held = rw comes-apart (omega arith)
+
+  module _ (rest : Queue) (count : ℕ) (closed : (queueIn rest ≡ take 0 (queueIn q) ++ drop (0 + 1) (queueIn q)) × Counted rest (count - 1)) where
+    pub turned-last : (r : Bool) → r ≡ isLast (jobIn job) → r ≡ true → queueIn rest ≡ turned (queueIn q)
+    unfolding turned
+    turned-last r e t = closed .0 ∙ sym (ap turned comes-apart ∙ rw (sym e ∙ t))
+
+    abbrev again : Job
+    again = record { number = job .number; turns = job .turns + 1; count = job .count; place = job .place; code = job .code }
+
+    -- behind the head that left, its place is free
+    head-free : (job .place < jobsMost) × (isFreeIn (queueIn rest) (job .place) ≡ true)
+    unfolding placesOf
+    head-free =
+        let h : eachOnce jobsMost (placesOf (jobIn job ∷ drop 1 (queueIn q))) ≡ true = ap (λ js. eachOnce jobsMost (placesOf js)) (sym comes-apart) ∙ each q in
+        let o = once-parts jobsMost (job .place) (placesOf (drop 1 (queueIn q))) h in
+        (o .below, rw (closed .0) (ap not (o .fresh)))
+
+    pub turned-again : 1 ≤ count → (r : Bool) → r ≡ isLast (jobIn job) → r ≡ false → queueIn (record { jobs = set (rest .jobs) (count - 1) again; held = count }) ≡ turned (queueIn q)
+    unfolding turned
+    turned-again held r e f =
+        let whole : count ≡ count - 1 + 1 = omega arith in
+        ap (λ k. queueIn (record { jobs = set (rest .jobs) (count - 1) again; held = k })) whole
+        ∙ lasts rest (count - 1) (closed .1) again head-free
+        ∙ rw (closed .0)
+        (ap (λ k. drop 1 (queueIn q) ++ (record { number = job .number; place = job .place; code = job .code; count = job .count; turns = k } ∷ [])) (add-one (job .turns))
+        ∙ sym (ap turned comes-apart ∙ rw (sym e ∙ f)))
+
+-- the head, where there is one, is the first job of the array
+head-is-first : (jobs : List Job) (held : ℕ) (other : Job) (j : model.Job) → headOf (apartFrom [] (jobsIn (take held jobs))) ≡ some j
+    → jobIn (getD jobs 0 other) ≡ j
+unfolding jobsIn apartFrom
+head-is-first [] zero other j e = let z : _≡_ {A = ℕ} 0 1 = cc in absurd (omega arith)
+head-is-first [] (suc n) other j e = let z : _≡_ {A = ℕ} 0 1 = cc in absurd (omega arith)
+head-is-first (k ∷ ks) zero other j e = let z : _≡_ {A = ℕ} 0 1 = cc in absurd (omega arith)
+head-is-first (k ∷ ks) (suc n) other j e = go (ltb (k .place) jobsMost && not (among (k .place) [])) e
+  where
+    go : (b : Bool) → headOf (cond b (jobIn k ∷ apartFrom (k .place ∷ []) (jobsIn (take n ks))) []) ≡ some j → jobIn k ≡ j
+    go true e = cc
+    go false e = let z : _≡_ {A = ℕ} 0 1 = cc in absurd (omega arith)
+
+pub first-is : (q : Queue) (other : Job) → FirstPlace (queueIn q) (getD (q .jobs) 0 other .place % jobsMost)
+first-is q other =
+    record { below = omega arith; head = λ j e. ap (λ (k : model.Job). k .place % jobsMost) (head-is-first (q .jobs) (q .held) other j e) }
+
+-- the places are the same behind a turn that does not answer
+pub turned-places : (js : List model.Job) (j : model.Job) (bits : ℕ) → headOf js ≡ some j → isLast j ≡ false → PlacesOf js bits → PlacesOf (turned js) bits
+unfolding turned placesOf
+turned-places [] j bits e f P = let z : _≡_ {A = ℕ} 0 1 = cc in absurd (omega arith)
+turned-places (k ∷ js) j bits e f P =
+    let i : k ≡ j = cc in
+    let more : model.Job = record { number = k .number; place = k .place; code = k .code; count = k .count; turns = suc (k .turns) } in
+    rw (ap isLast i ∙ f)
+    (record {
+      bit = λ p h.
+          P .bit p h ∙ among-first p (k .place) (placesOf js) ∙ swaps (eqb p (k .place)) (among p (placesOf js))
+          ∙ sym (among-snoc p (placesOf js) (k .place)) ∙ ap (among p) (sym (places-snoc js more));
+    })

@@ -3,7 +3,7 @@ use mathlib.Core.Path.{_≡_}
 use mathlib.Core.Bool.{Bool, not, cond, _&&_}
 use mathlib.Core.List.{List, [], _∷_}
 use mathlib.Core.Option.{Option, none, some}
-use Prim.Native.Nat.{ℕ, zero, suc, _<_, _≤_}
+use Prim.Native.Nat.{ℕ, zero, suc, _%_, _<_, _≤_}
 use lib.Dec.{eqb, ltb}
 use lib.ListN.{length, take, replicate}
 use Rattle.model.specs.Limits.{jobsMost}
@@ -69,6 +69,11 @@ abbrev pub placeIn : Place → Option ℕ
 placeIn (place.At p) = some p
 placeIn place.Nothing = none
 
+-- the lowest free place, where there is one; one of the eight in any case
+pub record SparePlace (js : List model.Job) (p : ℕ) : Type 0 where
+  pub below : p < jobsMost
+  pub lowest : (k : ℕ) → freePlaceIn js ≡ some k → p ≡ k
+
 -- the head of the queue
 abbrev pub headOf : List model.Job → Option model.Job
 headOf [] = none
@@ -77,6 +82,11 @@ headOf (j ∷ js) = some j
 abbrev pub headIn : Head → Option model.Job
 headIn (head.Job j) = some (jobIn j)
 headIn head.Nothing = none
+
+-- the place of the head, where there is one; one of the eight in any case
+pub record FirstPlace (js : List model.Job) (p : ℕ) : Type 0 where
+  pub below : p < jobsMost
+  pub head : (j : model.Job) → headOf js ≡ some j → p ≡ j .place % jobsMost
 
 -- where the first job with the number stands; as many as there are, if none has it
 unfoldable pub positionOf : ℕ → List model.Job → ℕ

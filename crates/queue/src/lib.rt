@@ -2,12 +2,13 @@
 ghost use mathlib.Core.Path.{_≡_};
 ghost use mathlib.Core.Bool.{true};
 ghost use mathlib.Core.List.{[], _∷_, _++_};
-ghost use Prim.Native.Nat.{_+_, _<_};
+ghost use mathlib.Core.Option.{some};
+ghost use Prim.Native.Nat.{_+_, _-_, _<_};
 ghost use lib.ListN.{length, take, drop};
 ghost use Rattle.model.specs.Limits.{jobsMost};
 ghost use Rattle.model.specs.Bounded.{among};
 ghost use Rattle.model.specs.Dispatcher.{numbersIn, isLast, turned, without};
-ghost use Rattle.queue.specs.Bridge.{jobIn, emptyQueue, queueIn, Counted, MayStand, TakenIn, PlacesOf, isFreeIn, placeIn, freePlaceIn, headIn, headOf, positionOf};
+ghost use Rattle.queue.specs.Bridge.{jobIn, emptyQueue, queueIn, Counted, MayStand, TakenIn, PlacesOf, isFreeIn, placeIn, freePlaceIn, SparePlace, headIn, headOf, FirstPlace, positionOf};
 use model::JOBS_MOST;
 
 // A job held: its number and place, the code that it was admitted with, the messages that its walk meets, and the turns that it had.
@@ -29,9 +30,9 @@ pub struct Queue {
 }
 
 // How many jobs are held, and their places: bit p is place p.
-struct Taken {
-    count: usize,
-    places: u64,
+pub struct Taken {
+    pub count: usize,
+    pub places: u64,
 }
 
 // A place, if one is free.
@@ -87,7 +88,7 @@ impl Queue {
     }
 
     // How many jobs are held, and where.
-    fn taken(self) -> Taken
+    pub fn taken(self) -> Taken
         ensures { λ r. ⌜ TakenIn self r ⌝ }
     {
         let mut places = 0;
@@ -136,34 +137,55 @@ impl Queue {
         Place::Nothing
     }
 
+    // The lowest free place, where there is one: one of the eight in any case.
+    pub fn spare_place(self) -> usize
+        ensures { λ r. ⌜ SparePlace (queueIn self) r ⌝ }
+    {
+        let found = self.free_place();
+        match found {
+            Place::At(place) => place,
+            Place::Nothing => 0,
+        }
+    }
+
     // The head of the queue.
-    pub fn head(self) -> Head
+    pub fn head(self, count: usize) -> Head
+        requires { ⌜ Counted self count ⌝ }
         ensures { λ r. ⌜ headIn r ≡ headOf (queueIn self) ⌝ }
     {
-        if self.count() == 0 {
+        if count == 0 {
             return Head::Nothing;
         }
         let job = self.jobs[0];
         Head::Job(job)
     }
 
+    // The place of the head, where a job is held: one of the eight in any case.
+    pub fn first_place(self) -> usize
+        ensures { λ r. ⌜ FirstPlace (queueIn self) r ⌝ }
+    {
+        let first = self.jobs[0];
+        first.place as usize % JOBS_MOST
+    }
+
     // A job goes behind the last, into a free place.
-    pub fn behind_last(mut self, job: Job) -> Self
+    pub fn behind_last(mut self, job: Job, count: usize) -> Self
+        requires { ⌜ Counted self count ⌝ }
         requires { ⌜ (job .place < jobsMost) × (isFreeIn (queueIn self) (job .place) ≡ true) ⌝ }
         ensures { λ r. ⌜ queueIn r ≡ queueIn self ++ (jobIn job ∷ []) ⌝ }
     {
-        let count = self.count();
         self.jobs[count] = job;
         self.held = (count + 1) as u32;
         self
     }
 
     // The job at `at` leaves, and those behind it move up.
-    fn closed_up(mut self, at: usize) -> Self
+    fn closed_up(mut self, at: usize, count: usize) -> Self
+        requires { ⌜ Counted self count ⌝ }
         requires { ⌜ at < length (queueIn self) ⌝ }
-        ensures { λ r. ⌜ queueIn r ≡ take at (queueIn self) ++ drop (at + 1) (queueIn self) ⌝ }
+        ensures { λ r. ⌜ (queueIn r ≡ take at (queueIn self) ++ drop (at + 1) (queueIn self)) × Counted r (count - 1) ⌝ }
     {
-        let last = self.count() - 1;
+        let last = count - 1;
         for i in at..last {
             let behind = self.jobs[i + 1];
             self.jobs[i] = behind;
@@ -173,19 +195,20 @@ impl Queue {
     }
 
     // The queue behind a turn: its head leaves on its last turn, and else goes behind the last with one turn more.
-    pub fn turned(self) -> Self
+    pub fn turned(self, head: Job, count: usize) -> Self
+        requires { ⌜ (headOf (queueIn self) ≡ some (jobIn head)) × Counted self count ⌝ }
         ensures { λ r. ⌜ queueIn r ≡ turned (queueIn self) ⌝ }
     {
-        let found = self.head();
-        let Head::Job(mut job) = found else {
-            return self;
-        };
-        let rest = self.closed_up(0);
-        if job.is_last() {
+        let mut rest = self.closed_up(0, count);
+        if head.is_last() {
             return rest;
         }
-        job.turns = job.turns + 1;
-        rest.behind_last(job)
+        let mut again = head;
+        again.turns = head.turns + 1;
+        let last = count - 1;
+        rest.jobs[last] = again;
+        rest.held = count as u32;
+        rest
     }
 
     // Where the job with the number stands; as many as are held, if none has it.
@@ -215,6 +238,7 @@ impl Queue {
         ensures { λ r. ⌜ queueIn r ≡ without number (queueIn self) ⌝ }
     {
         let at = self.position(number);
-        self.closed_up(at)
+        let count = self.count();
+        self.closed_up(at, count)
     }
 }

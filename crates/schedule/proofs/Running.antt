@@ -27,8 +27,10 @@ use Rattle.step.specs.declared.StepOrNone.the-variants as maybe
 use Rattle.step.specs.Steps.{stepIn, messageIn, stepOrNone}
 use Rattle.run.specs.State.{stateOf, DoneBehind, WayBehind, HeldBehind, Starts, Reaches, TargetOf, Follows}
 use Rattle.run.proofs.States.{reaches, next-follows, boards-kept}
-use Rattle.next_step.specs.Search.{Chosen}
-use Rattle.schedule.specs.Schedule.{Scheduled}
+use Rattle.buffers.specs.Held.{HeldIn, PutsRow, HeldAnywhere}
+use Rattle.buffers.proofs.Rows.{row-put}
+use Rattle.next_step.specs.Search.{ChosenIn}
+use Rattle.schedule.specs.Schedule.{GathersBehind, Scheduled}
 use Rattle.next_step.proofs.Searching.{chosen-inside}
 
 pub two-bytes : (trace : List ℕ) (i k m : ℕ) (s : code.Step) → k ≡ kindOf (stepIn s) → m ≡ messageIn s
@@ -136,73 +138,86 @@ module _ (S : Scenario) (c : Channel) (e : ℕ) (trace : List ℕ) where
       ended s i now R (ap (λ f. scheduleFrom S c e f s) z)
 
 -- The loop of the schedule: i steps were taken and written, and the run's state is the one behind them.
-module _ (count : ℕ) (boards words : List ℕ) (c : channel.Channel) (e : ℕ) (trace : List ℕ) where
+module _ (count : ℕ) (boards words masks : List ℕ) (c : channel.Channel) (e : ℕ) (trace : List ℕ) where
   abbrev S : Scenario
   S = scenarioIn count boards words
 
-  pub record Goes (end : ℕ) (now : List ℕ) (run : Run) (i : ℕ) : Type 0 where
+  -- with the buffers in rows too, for the search
+  pub record Goes (end : ℕ) (now : List ℕ) (run : Run) (rows held : List ℕ) (i : ℕ) : Type 0 where
+    pub standing : Standing count boards words masks
     pub whole : end ≡ 3 * count
     pub within : i ≤ end
     pub wide : length (run .buffers) ≡ boardsMost
+    pub laid : HeldIn run rows
+    pub gathered : HeldAnywhere rows held
     pub room : 2 * (3 * count) ≤ length now
     pub same-length : length now ≡ length trace
     pub running : Running S (channelIn c) e trace (stateOf run) i now
 
-  pub goes-start : (run : Run) → 2 * (3 * count) ≤ length trace → Starts run → Goes (3 * count) trace run 0
-  goes-start run l h =
+  pub goes-start : (run : Run) (rows held : List ℕ) → Standing count boards words masks → 2 * (3 * count) ≤ length trace → Starts run → HeldIn run rows → HeldAnywhere rows held
+      → Goes (3 * count) trace run rows held 0
+  goes-start run rows held s l h laid anywhere =
       record {
+        standing = s;
         whole = refl;
         within = omega arith;
         wide = h .boards;
+        laid = laid;
+        gathered = anywhere;
         room = l;
         same-length = refl;
         running = subst⁻¹ (λ (s : State). Running S (channelIn c) e trace s 0 trace) (h .state) (running-starts S (channelIn c) e trace l);
       }
 
-  pub next-fits : (masks : List ℕ) (end : ℕ) (now : List ℕ) (run : Run) (i : ℕ) → Goes end now run i → i < end → Standing count boards words masks → Fits w64 (i + 1)
-  next-fits masks end now run i G l s = omega (arith, G .whole, s .few)
+  pub next-fits : (end : ℕ) (now : List ℕ) (run : Run) (rows held : List ℕ) (i : ℕ) → Goes end now run rows held i → i < end → Fits w64 (i + 1)
+  next-fits end now run rows held i G l = omega (arith, G .whole, G .standing .few)
 
   -- the step chosen is on a message of the scenario
-  module _ (run : Run) (r : StepOrNone) (s : code.Step) (h : Chosen count boards words c run e r) (i : r ≡ maybe.Step s) where
+  module _ (end : ℕ) (now : List ℕ) (run : Run) (rows held : List ℕ) (k : ℕ) (G : Goes end now run rows held k) (r : StepOrNone) (s : code.Step)
+      (h : ChosenIn count boards words c (run .done) (run .way) rows e r) (i : r ≡ maybe.Step s) where
     taken : choose S (channelIn c) (classesFor S e) (stateOf run) ≡ some (stepIn s)
-    taken = sym h ∙ ap stepOrNone i
+    taken = sym (h run refl refl (G .laid)) ∙ ap stepOrNone i
 
     pub step-inside : messageIn s < count
     step-inside = chosen-inside S (channelIn c) (classesFor S e) (stateOf run) (stepIn s) taken
 
-    pub step-reaches : (masks : List ℕ) → Standing count boards words masks → Reaches boards s
-    step-reaches masks t = reaches count boards words masks s t step-inside
+    pub step-reaches : Reaches boards s
+    step-reaches = reaches count boards words masks s (G .standing) step-inside
 
-    pub step-few : (masks : List ℕ) → Standing count boards words masks → messageIn s < messagesMost
-    step-few masks t = step-reaches masks t .few
+    pub step-few : messageIn s < messagesMost
+    step-few = step-reaches .few
 
-    pub goes-on : (end : ℕ) (now later : List ℕ) (k b : ℕ) (other : Buffer) (done way held : List ℕ) → Goes end now run k
+    pub goes-on : (later : List ℕ) (b : ℕ) (other : Buffer) (done way own behind all : List ℕ)
         → later ≡ set (set now (2 * k) (kindOf (stepIn s))) (2 * k + 1) (messageIn s)
-        → DoneBehind (run .done) s done → WayBehind (run .way) s way → HeldBehind (getD (run .buffers) b other .held) s held → TargetOf boards s b → k < end
-        → Goes end later (record { done = done; way = way; buffers = set (run .buffers) b (record { held = held }) }) (k + 1)
-    goes-on end now later k b other done way held G w p q h target l =
-        let behind : Run = record { done = done; way = way; buffers = set (run .buffers) b (record { held = held }) } in
-        let v : Follows boards run (stepIn s) behind = next-follows run s boards b other done way held p q h target (G .wide) in
+        → DoneBehind (run .done) s done → WayBehind (run .way) s way → HeldBehind (getD (run .buffers) b other .held) s own → TargetOf boards s b
+        → PutsRow rows b own behind → GathersBehind held behind own all → b < boardsMost → k < end
+        → Goes end later (record { done = done; way = way; buffers = set (run .buffers) b (record { held = own }) }) behind all (k + 1)
+    goes-on later b other done way own behind all w p q h target put gathers few l =
+        let last : Run = record { done = done; way = way; buffers = set (run .buffers) b (record { held = own }) } in
+        let v : Follows boards run (stepIn s) last = next-follows run s boards b other done way own p q h target (G .wide) in
         let R = running-goes-on S (channelIn c) e trace (stateOf run) k now (stepIn s) (G .running) taken (omega (arith, G .whole)) in
         let kept : length later ≡ length now = ap length w ∙ simp length-set in
         record {
+          standing = G .standing;
           whole = G .whole;
           within = omega arith;
-          wide = boards-kept run b (record { held = held }) (G .wide);
+          wide = boards-kept run b (record { held = own }) (G .wide);
+          laid = row-put run rows behind b own done way (G .laid) put few;
+          gathered = gathers rows b few (G .gathered) put;
           room = omega (arith, G .room);
           same-length = kept ∙ G .same-length;
           running =
-              subst⁻¹ (λ (t : List ℕ). Running S (channelIn c) e trace (stateOf behind) (k + 1) t) w
+              subst⁻¹ (λ (t : List ℕ). Running S (channelIn c) e trace (stateOf last) (k + 1) t) w
               (subst⁻¹ (λ (t : State). Running S (channelIn c) e trace t (k + 1) (set (set now (2 * k) (kindOf (stepIn s))) (2 * k + 1) (messageIn s))) (v count words) R);
         }
 
-  pub goes-stops : (end : ℕ) (now : List ℕ) (run : Run) (i : ℕ) (r : StepOrNone) → Goes end now run i → Chosen count boards words c run e r
-      → r ≡ maybe.Nothing → i < end → Scheduled S (channelIn c) e trace now i
-  goes-stops end now run i r G h n l =
-      running-stops S (channelIn c) e trace (stateOf run) i now (G .running) (sym h ∙ ap stepOrNone n) (omega (arith, G .whole))
+  pub goes-stops : (end : ℕ) (now : List ℕ) (run : Run) (rows held : List ℕ) (i : ℕ) (r : StepOrNone) → Goes end now run rows held i
+      → ChosenIn count boards words c (run .done) (run .way) rows e r → r ≡ maybe.Nothing → i < end → Scheduled S (channelIn c) e trace now i
+  goes-stops end now run rows held i r G h n l =
+      running-stops S (channelIn c) e trace (stateOf run) i now (G .running) (sym (h run refl refl (G .laid)) ∙ ap stepOrNone n) (omega (arith, G .whole))
 
-  pub goes-ends : (end : ℕ) (now : List ℕ) (run : Run) (i : ℕ) → Goes end now run i → end ≤ i → Scheduled S (channelIn c) e trace now (3 * count)
-  goes-ends end now run i G l =
+  pub goes-ends : (end : ℕ) (now : List ℕ) (run : Run) (rows held : List ℕ) (i : ℕ) → Goes end now run rows held i → end ≤ i → Scheduled S (channelIn c) e trace now (3 * count)
+  goes-ends end now run rows held i G l =
       let k : i ≡ 3 * count = omega (arith, G .whole, G .within) in
       subst (λ (j : ℕ). Scheduled S (channelIn c) e trace now j) k
       (running-ends S (channelIn c) e trace (stateOf run) i now (G .running) (omega arith))

@@ -1,7 +1,7 @@
 -- `channel::may_step` meets its contract. Assumes nothing.
 use borrow.Author.Needs.{needs}
 use Rattle.run.proofs.States.{reaches}
-use Rattle.channel.proofs.StepTests.{by-buffer}
+use Rattle.channel.proofs.StepTests.{by-buffer, held-up-in}
 use Rattle.channel.proofs.may_step.Statement.{statement}
 use Rattle.channel.proofs.may_step.Tie as tie
 
@@ -11,11 +11,17 @@ board-at-requires c κs = search reaches
 buffer-at-requires : tie.Need-buffer-at-requires
 buffer-at-requires c κs = search needs
 
+held-up-requires : tie.Need-held-up-requires
+held-up-requires c κs = search needs
+
+returns : tie.Need-returns
+returns c = search held-up-in
+
 allowed-requires : tie.Need-allowed-requires
 allowed-requires c κs = search needs
 
-returns : tie.Need-returns
-returns c = search by-buffer
+returns-2 : tie.Need-returns-2
+returns-2 c = search by-buffer
 
 pub may-step-spec : {M : Type 1} → statement M
-may-step-spec = tie.close (tie.spec board-at-requires buffer-at-requires allowed-requires returns)
+may-step-spec = tie.close (tie.spec board-at-requires buffer-at-requires held-up-requires returns allowed-requires returns-2)

@@ -6,13 +6,10 @@ use Rattle.next_step.proofs.choose.Statement.{statement}
 use Rattle.next_step.proofs.choose.Tie as tie
 
 abbrev Inv-loop : tie.InvT-loop
-Inv-loop words masks boards count c e done way rows k₀ k = Tried count boards words c done way rows e k
+Inv-loop words masks boards count c done way rows held e k₀ k = Tried count boards words c done way rows e k
 
 abbrev μ-loop : tie.MeasureT-loop
-μ-loop words masks boards count c e done way rows k₀ k = 6 - k
-
-held-rows-requires : tie.Need-held-rows-requires Inv-loop μ-loop
-held-rows-requires c κs = search needs
+μ-loop words masks boards count c done way rows held e k₀ k = 6 - k
 
 loop-holds : tie.Need-loop-holds Inv-loop μ-loop
 loop-holds c = search tried-none
@@ -50,7 +47,6 @@ choose-spec =
     (tie.spec
     Inv-loop
     μ-loop
-    held-rows-requires
     loop-holds
     class-at-requires
     lowest-requires

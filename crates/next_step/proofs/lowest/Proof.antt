@@ -6,10 +6,10 @@ use Rattle.next_step.proofs.lowest.Statement.{statement}
 use Rattle.next_step.proofs.lowest.Tie as tie
 
 abbrev Inv-loop : tie.InvT-loop
-Inv-loop words masks boards count c done way rows e class among m₀ m = Passed count boards words c done way rows e class m
+Inv-loop words masks boards count c done way rows held e class among m₀ m = Passed count boards words c done way rows e class m
 
 abbrev μ-loop : tie.MeasureT-loop
-μ-loop words masks boards count c done way rows e class among m₀ m = count - m
+μ-loop words masks boards count c done way rows held e class among m₀ m = count - m
 
 candidates-requires : tie.Need-candidates-requires Inv-loop μ-loop
 candidates-requires c κs = search needs

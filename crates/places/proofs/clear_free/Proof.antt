@@ -13,9 +13,6 @@ Inv-loop words₀ taken place₀ words place = Clearing taken words₀ place wor
 abbrev μ-loop : tie.MeasureT-loop
 μ-loop words₀ taken place₀ words place = jobsMost - place
 
-places-requires : tie.Need-places-requires Inv-loop μ-loop
-places-requires c κs = search needs
-
 loop-holds : tie.Need-loop-holds Inv-loop μ-loop
 loop-holds c = search clearing-none
 
@@ -64,7 +61,6 @@ clear-free-spec =
     (tie.spec
     Inv-loop
     μ-loop
-    places-requires
     loop-holds
     is-taken-requires
     mul-from

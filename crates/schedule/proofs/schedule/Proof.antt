@@ -1,18 +1,25 @@
 -- `schedule::schedule` meets its contract. Assumes nothing.
 use borrow.Author.Needs.{needs}
 use Prim.Native.Nat.{_-_}
+use native.Mathlib.Omega.{arith}
 use Rattle.schedule.proofs.Running.{Goes, goes-start, next-fits, step-few, step-reaches, goes-on, goes-stops, goes-ends}
 use Rattle.schedule.proofs.schedule.Statement.{statement}
 use Rattle.schedule.proofs.schedule.Tie as tie
 
 abbrev Inv-loop : tie.InvT-loop
-Inv-loop words masks boards count c e trace₀ run₀ i₀ i-end trace run i = Goes count boards words c e trace₀ i-end trace run i
+Inv-loop words masks boards count c e trace₀ run₀ rows₀ held₀ i₀ i-end trace run rows held i = Goes count boards words masks c e trace₀ i-end trace run rows held i
 
 abbrev μ-loop : tie.MeasureT-loop
-μ-loop words masks boards count c e trace₀ run₀ i₀ i-end trace run i = i-end - i
+μ-loop words masks boards count c e trace₀ run₀ rows₀ held₀ i₀ i-end trace run rows held i = i-end - i
 
 start-requires : tie.Need-start-requires Inv-loop μ-loop
 start-requires c κs = search needs
+
+held-rows-requires : tie.Need-held-rows-requires Inv-loop μ-loop
+held-rows-requires c κs = search needs
+
+held-anywhere-requires : tie.Need-held-anywhere-requires Inv-loop μ-loop
+held-anywhere-requires c κs = search needs
 
 mul-i-end : tie.Need-mul-i-end Inv-loop μ-loop
 mul-i-end c = search needs
@@ -39,7 +46,10 @@ write-step-requires : tie.Need-write-step-requires Inv-loop μ-loop
 write-step-requires c κs = (search needs, search step-few)
 
 target-of-requires : tie.Need-target-of-requires Inv-loop μ-loop
-target-of-requires c κs = search step-reaches
+target-of-requires c κs =
+    let k = c .before .before .before .before .before .before .before in
+    let l = k .before .before .before .before .before .before .before in
+    step-reaches _ _ _ _ _ _ _ _ _ _ _ _ _ (l .loop .inv) (k .choose .result) _ (k .choose .ensures) (search needs)
 
 mul-buffer : tie.Need-mul-buffer Inv-loop μ-loop
 mul-buffer c = search needs
@@ -56,20 +66,36 @@ way-behind-requires c κs = search step-few
 held-behind-requires : tie.Need-held-behind-requires Inv-loop μ-loop
 held-behind-requires c κs = search step-few
 
-mul-t21 : tie.Need-mul-t21 Inv-loop μ-loop
-mul-t21 c = search needs
+put-row-requires : tie.Need-put-row-requires Inv-loop μ-loop
+put-row-requires c κs = search needs
+
+gather-requires : tie.Need-gather-requires Inv-loop μ-loop
+gather-requires c κs = search needs
+
+mul-t29 : tie.Need-mul-t29 Inv-loop μ-loop
+mul-t29 c = search needs
 
 element-set-from-run : tie.Need-element-set-from-run Inv-loop μ-loop
 element-set-from-run c = search needs
 
 add-i : tie.Need-add-i Inv-loop μ-loop
-add-i c = search next-fits
+add-i c =
+    let t = c .before .before .before .before .before .before .before .before .before .before .before .before .before .before .before .before .before .before .before .before .before .before .before .before .before .before in
+    next-fits _ _ _ _ _ _ _ _ _ _ _ _ _ (t .before .loop .inv) (t .loop-test .taken)
 
 loop-less : tie.Need-loop-less Inv-loop μ-loop
-loop-less c = search needs
+loop-less c =
+    let t = c .before .before .before .before .before .before .before .before .before .before .before .before .before .before .before .before .before .before .before .before .before .before .before .before .before .before in
+    let more = t .loop-test .taken in
+    omega arith
 
 loop-again : tie.Need-loop-again Inv-loop μ-loop
-loop-again c = search goes-on
+loop-again c =
+    let k = c .before .before .before .before .before .before .before .before .before .before .before .before .before .before .before .before .before .before .before .before in
+    let t = k .before .before .before .before .before .before in
+    goes-on _ _ _ _ _ _ _ _ _ _ _ _ _ (t .before .loop .inv) (k .choose .result) _ (k .choose .ensures) (c .before .before .before .before .before .before .before .before .before .before .before .before .before .before .before .before .before .before .chosen .given .1) _ _ _ _ _ _ _ _
+    (c .before .before .before .before .before .before .before .before .before .before .before .before .before .before .before .write-step .ensures) (c .before .before .before .before .before .before .before .before .before .done-behind .ensures) (c .before .before .before .before .before .before .before .way-behind .ensures) (c .before .before .before .before .before .held-behind .ensures)
+    (c .before .before .before .before .before .before .before .before .before .before .before .before .target-of .ensures) (c .before .before .before .put-row .ensures) (c .gather .ensures) (c .before .before .before .before .before .before .before .before .before .before .before .before .target-of .ensures .below) (t .loop-test .taken)
 
 mul-result : tie.Need-mul-result Inv-loop μ-loop
 mul-result c = search needs
@@ -87,6 +113,8 @@ schedule-spec =
     Inv-loop
     μ-loop
     start-requires
+    held-rows-requires
+    held-anywhere-requires
     mul-i-end
     loop-holds
     choose-requires
@@ -101,7 +129,9 @@ schedule-spec =
     done-behind-requires
     way-behind-requires
     held-behind-requires
-    mul-t21
+    put-row-requires
+    gather-requires
+    mul-t29
     element-set-from-run
     add-i
     loop-less

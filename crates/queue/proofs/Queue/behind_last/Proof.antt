@@ -4,14 +4,11 @@ use borrow.Author.Needs.{needs}
 use Rattle.queue.proofs.Queue.behind_last.Statement.{statement}
 use Rattle.queue.proofs.Queue.behind_last.Tie as tie
 
-count-requires : tie.Need-count-requires
-count-requires c κs = search needs
-
 mul-job : tie.Need-mul-job
 mul-job c = search needs
 
 element-set-from-job : tie.Need-element-set-from-job
-element-set-from-job c = room-left _ _ (c .count .ensures) (c .before .args .job) (c .before .pre)
+element-set-from-job c = room-left _ _ (c .pre .0) (c .args .job) (c .pre .1)
 
 add-self : tie.Need-add-self
 add-self c = search needs
@@ -20,8 +17,8 @@ cast-self : tie.Need-cast-self
 cast-self c = search needs
 
 returns : tie.Need-returns
-returns c = lasts _ _ (c .count .ensures) (c .before .args .job) (c .before .pre)
+returns c = lasts _ _ (c .pre .0) (c .args .job) (c .pre .1)
 
 pub behind-last-spec : {M : Type 1} → statement M
 behind-last-spec =
-    tie.close (tie.spec count-requires mul-job element-set-from-job add-self cast-self returns)
+    tie.close (tie.spec mul-job element-set-from-job add-self cast-self returns)

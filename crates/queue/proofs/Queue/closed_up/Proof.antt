@@ -1,21 +1,18 @@
 -- `Queue::closed_up` meets its contract. Assumes nothing.
 use Prim.Native.Nat.{_-_}
-use Rattle.queue.proofs.Turns.{inside, Moved, moved-none, moved-one, moved-all}
+use Rattle.queue.proofs.Turns.{inside, Moved, moved-none, moved-one, moved-all, moved-counted}
 use borrow.Author.Needs.{needs}
 use Rattle.queue.proofs.Queue.closed_up.Statement.{statement}
 use Rattle.queue.proofs.Queue.closed_up.Tie as tie
 
 abbrev Inv-loop : tie.InvT-loop
-Inv-loop at self₀ last i₀ self i = Moved self₀ self at last i
+Inv-loop at count self₀ last i₀ self i = Moved self₀ self at last i
 
 abbrev μ-loop : tie.MeasureT-loop
-μ-loop at self₀ last i₀ self i = last - i
-
-count-requires : tie.Need-count-requires Inv-loop μ-loop
-count-requires c κs = search needs
+μ-loop at count self₀ last i₀ self i = last - i
 
 sub-last : tie.Need-sub-last Inv-loop μ-loop
-sub-last c = let i = inside _ _ _ (c .count .ensures) (c .before .pre) in search needs
+sub-last c = let i = inside _ _ _ (c .pre .0) (c .pre .1) in search needs
 
 loop-holds : tie.Need-loop-holds Inv-loop μ-loop
 loop-holds c = search moved-none
@@ -48,7 +45,7 @@ cast-self : tie.Need-cast-self Inv-loop μ-loop
 cast-self c = search needs
 
 returns : tie.Need-returns Inv-loop μ-loop
-returns c = search moved-all
+returns c = (search moved-all, search moved-counted)
 
 pub closed-up-spec : {M : Type 1} → statement M
 closed-up-spec =
@@ -56,7 +53,6 @@ closed-up-spec =
     (tie.spec
     Inv-loop
     μ-loop
-    count-requires
     sub-last
     loop-holds
     add-behind

@@ -4,9 +4,6 @@ use borrow.Author.Needs.{needs}
 use Rattle.queue.proofs.Queue.head.Statement.{statement}
 use Rattle.queue.proofs.Queue.head.Tie as tie
 
-count-requires : tie.Need-count-requires
-count-requires c κs = search needs
-
 returns : tie.Need-returns
 returns c = search head-none
 
@@ -17,4 +14,4 @@ returns-2 : tie.Need-returns-2
 returns-2 c = search head-some
 
 pub head-spec : {M : Type 1} → statement M
-head-spec = tie.close (tie.spec count-requires returns element-copy-out-job returns-2)
+head-spec = tie.close (tie.spec returns element-copy-out-job returns-2)

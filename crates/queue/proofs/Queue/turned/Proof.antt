@@ -1,53 +1,55 @@
 -- `Queue::turned` meets its contract. Assumes nothing.
-use Rattle.queue.proofs.Turns.{turned-none, some-held, turned-last, turned-again, turn-fits, head-free}
+use Rattle.queue.proofs.Turns.{inside, some-held, turned-last, turned-again, turn-fits}
 use borrow.Author.Needs.{needs}
 use Rattle.queue.proofs.Queue.turned.Statement.{statement}
 use Rattle.queue.proofs.Queue.turned.Tie as tie
 
-head-requires : tie.Need-head-requires
-head-requires c κs = search needs
-
-enum-known-found : tie.Need-enum-known-found
-enum-known-found c = search needs
-
-enum-told : tie.Need-enum-told
-enum-told c = search needs
-
-returns : tie.Need-returns
-returns c = search turned-none
-
 closed-up-requires : tie.Need-closed-up-requires
-closed-up-requires c κs = search some-held
+closed-up-requires c κs = (search needs, search some-held)
 
 is-last-requires : tie.Need-is-last-requires
 is-last-requires c κs = search needs
 
+returns : tie.Need-returns
+returns c =
+    let closed = c .before .before in
+    let s = closed .before in
+    turned-last (s .args .self) (s .args .head) (s .pre .0) (closed .closed-up .result) _ (closed .closed-up .ensures) _ (c .before .is-last .ensures) (c .if1 .taken)
+
+add-again : tie.Need-add-again
+add-again c = let more = turn-fits _ _ (c .before .before .is-last .ensures) (c .before .if1 .left) (search needs) in search needs
+
+sub-last : tie.Need-sub-last
+sub-last c =
+    let s = c .before .before .before .before in
+    inside (s .args .self) _ 0 (s .pre .1) (some-held (s .args .self) (s .args .head) (s .pre .0))
+
+mul-again : tie.Need-mul-again
+mul-again c = search needs
+
+element-set-from-again : tie.Need-element-set-from-again
+element-set-from-again c = search needs
+
+cast-rest : tie.Need-cast-rest
+cast-rest c = search needs
+
 returns-2 : tie.Need-returns-2
-returns-2 c = search turned-last
-
-add-job : tie.Need-add-job
-add-job c = record { fits = turn-fits _ _ (c .before .before .is-last .ensures) (c .before .if1 .left) (search needs) }
-
-behind-last-requires : tie.Need-behind-last-requires
-behind-last-requires c κs =
+returns-2 c =
     let closed = c .before .before .before in
-    let found = closed .before .before in
-    head-free (found .before .before .before .args .self) (closed .closed-up .result) _ _ (found .before .before .head .ensures) (found .found .given .1) (closed .closed-up .ensures)
-
-returns-3 : tie.Need-returns-3
-returns-3 c = search turned-again
+    let s = closed .before in
+    turned-again (s .args .self) (s .args .head) (s .pre .0) (closed .closed-up .result) _ (closed .closed-up .ensures)
+    (inside (s .args .self) _ 0 (s .pre .1) (some-held (s .args .self) (s .args .head) (s .pre .0))) _ (c .before .before .is-last .ensures) (c .before .if1 .left)
 
 pub turned-spec : {M : Type 1} → statement M
 turned-spec =
     tie.close
     (tie.spec
-    head-requires
-    enum-known-found
-    enum-told
-    returns
     closed-up-requires
     is-last-requires
-    returns-2
-    add-job
-    behind-last-requires
-    returns-3)
+    returns
+    add-again
+    sub-last
+    mul-again
+    element-set-from-again
+    cast-rest
+    returns-2)

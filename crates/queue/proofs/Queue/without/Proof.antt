@@ -7,11 +7,14 @@ use Rattle.queue.proofs.Queue.without.Tie as tie
 position-requires : tie.Need-position-requires
 position-requires c κs = search needs
 
+count-requires : tie.Need-count-requires
+count-requires c κs = search needs
+
 closed-up-requires : tie.Need-closed-up-requires
-closed-up-requires c κs = search position-below
+closed-up-requires c κs = (search needs, search position-below)
 
 returns : tie.Need-returns
 returns c = search without-as
 
 pub without-spec : {M : Type 1} → statement M
-without-spec = tie.close (tie.spec position-requires closed-up-requires returns)
+without-spec = tie.close (tie.spec position-requires count-requires closed-up-requires returns)

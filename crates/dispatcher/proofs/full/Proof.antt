@@ -1,8 +1,8 @@
--- `Dispatcher::full` meets its contract. Assumes nothing.
+-- `dispatcher::full` meets its contract. Assumes nothing.
 use Rattle.dispatcher.proofs.Replies.{full-too-short, full-of-jobs}
 use borrow.Author.Needs.{needs}
-use Rattle.dispatcher.proofs.Dispatcher.full.Statement.{statement}
-use Rattle.dispatcher.proofs.Dispatcher.full.Tie as tie
+use Rattle.dispatcher.proofs.full.Statement.{statement}
+use Rattle.dispatcher.proofs.full.Tie as tie
 
 refused-requires : tie.Need-refused-requires
 refused-requires c κs = search needs

@@ -1,17 +1,18 @@
--- `candidates::undone` meets its contract. The loop keeps `Filled`: the words passed are complements. Assumes nothing.
+-- `candidates::unsent` meets its contract. The loop keeps `Filled`: the words passed are the sends that they have not. Assumes nothing.
 use mir.Syntax.{w64}
 use borrow.Author.Needs.{needs, elem-fits}
 use mathlib.Core.Path.{ap}
 use Prim.Native.Nat.{ℕ, _-_, _^_}
 use native.Mathlib.Omega.{arith}
+use lib.Bits.{bitAnd}
 use Rattle.relation.specs.Width.{width, wordBits}
-use Rattle.relation.proofs.Words.{flipped}
-use Rattle.candidates.proofs.Skipped.{Filled, filled-start, filled-more, flipped-all}
-use Rattle.candidates.proofs.undone.Statement.{statement}
-use Rattle.candidates.proofs.undone.Tie as tie
+use Rattle.relation.proofs.Words.{evenBits}
+use Rattle.candidates.proofs.Skipped.{Filled, filled-start, filled-more, sendsOut, unsent-all}
+use Rattle.candidates.proofs.unsent.Statement.{statement}
+use Rattle.candidates.proofs.unsent.Tie as tie
 
 abbrev Inv-loop : tie.InvT-loop
-Inv-loop rest₀ i₀ rest i = Filled (flipped rest₀) rest₀ rest i
+Inv-loop rest₀ i₀ rest i = Filled (sendsOut rest₀) rest₀ rest i
 
 abbrev μ-loop : tie.MeasureT-loop
 μ-loop rest₀ i₀ rest i = width - i
@@ -40,15 +41,15 @@ loop-less c = search needs
 loop-again : tie.Need-loop-again Inv-loop μ-loop
 loop-again c =
     let p = c .before .loop .inv in
-    filled-more _ _ _ _ _ p (ap (λ (w : ℕ). 2 ^ wordBits - 1 - w) (p .kept (c .before .loop .i) (omega arith))) (c .loop-test .taken)
+    filled-more _ _ _ _ _ p (ap (λ (w : ℕ). bitAnd (2 ^ wordBits - 1 - w) evenBits) (p .kept (c .before .loop .i) (omega arith))) (c .loop-test .taken)
 
 returns : tie.Need-returns Inv-loop μ-loop
 returns c =
     let s = c .before .before in
-    flipped-all _ _ _ (c .before .loop .inv) (c .loop-test .left) (λ j. elem-fits w64 w64 (s .args .done) (s .good .0 .0) j (s .good .0 .1 .1) tt .fits)
+    unsent-all _ _ _ (c .before .loop .inv) (c .loop-test .left) (λ j. elem-fits w64 w64 (s .args .done) (s .good .0 .0) j (s .good .0 .1 .1) tt .fits)
 
-pub undone-spec : {M : Type 1} → statement M
-undone-spec =
+pub unsent-spec : {M : Type 1} → statement M
+unsent-spec =
     tie.close
     (tie.spec
     Inv-loop

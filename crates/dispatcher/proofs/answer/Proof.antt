@@ -1,10 +1,8 @@
--- `Dispatcher::answer` meets its contract. Assumes nothing.
-use mathlib.Core.Path.{refl}
-use Rattle.dispatcher.proofs.Room.{races-room, boards-room}
+-- `dispatcher::answer` meets its contract. Assumes nothing.
 use Rattle.dispatcher.proofs.Replies.{answer-serves}
 use borrow.Author.Needs.{needs}
-use Rattle.dispatcher.proofs.Dispatcher.answer.Statement.{statement}
-use Rattle.dispatcher.proofs.Dispatcher.answer.Tie as tie
+use Rattle.dispatcher.proofs.answer.Statement.{statement}
+use Rattle.dispatcher.proofs.answer.Tie as tie
 
 cast-place : tie.Need-cast-place
 cast-place c = search needs
@@ -14,18 +12,6 @@ mul-from c = search needs
 
 add-to : tie.Need-add-to
 add-to c = search needs
-
-mul-boards : tie.Need-mul-boards
-mul-boards c = search needs
-
-element-copy-out-boards : tie.Need-element-copy-out-boards
-element-copy-out-boards c = search needs
-
-mul-race : tie.Need-mul-race
-mul-race c = search needs
-
-element-copy-out-race : tie.Need-element-copy-out-race
-element-copy-out-race c = search needs
 
 mul-conclude : tie.Need-mul-conclude
 mul-conclude c = search needs
@@ -51,8 +37,11 @@ conclude-requires c κs = search needs
 turned-requires : tie.Need-turned-requires
 turned-requires c κs = search needs
 
+places-requires : tie.Need-places-requires
+places-requires c κs = search needs
+
 clear-free-requires : tie.Need-clear-free-requires
-clear-free-requires c κs = search needs
+clear-free-requires c κs = let long = c .before .before .before .before .before .before .before .before .before .before .before .before .before .before .pre .1 .1 .0 in search needs
 
 same-length : tie.Need-same-length
 same-length c = search needs
@@ -63,11 +52,12 @@ same-length-2 c = search needs
 returns : tie.Need-returns
 returns c =
     let cleared = c .before .before in
-    let t = cleared .before .before in
-    let k = t .before .before .before .before in
-    let s = k .before .before .before .before .before .before .before .before .before .before .before .before .before in
-    answer-serves (s .args .t1) (s .args .job) _ (s .pre .0 .0) (s .pre .1 .0) (races-room (s .args .t1) _ (s .good .0)) (boards-room (s .args .t1) _ (s .good .0)) _ _
-    (t .turned .result) (t .turned .ensures) _ (cleared .clear-free .ensures) (s .pre .0 .1) _ _ _ (k .conclude .ensures) (s .pre .1 .1) _ refl
+    let p = cleared .before .before in
+    let t = p .before in
+    let k = t .before .before .before in
+    let s = k .before .before .before .before .before .before .before .before .before in
+    answer-serves (s .args .queue) (s .args .job) (s .args .race) _ _ (s .pre .1 .0 .0) (s .pre .1 .1 .0) (t .turned .result) (t .turned .ensures) _ _ (p .places .ensures)
+    (cleared .clear-free .ensures) (s .pre .1 .0 .1) _ _ (k .conclude .result) (k .conclude .ensures) (s .pre .1 .1 .1)
 
 pub answer-spec : {M : Type 1} → statement M
 answer-spec =
@@ -76,10 +66,6 @@ answer-spec =
     cast-place
     mul-from
     add-to
-    mul-boards
-    element-copy-out-boards
-    mul-race
-    element-copy-out-race
     mul-conclude
     sub-conclude
     part-conclude-start
@@ -88,6 +74,7 @@ answer-spec =
     cast-conclude-2
     conclude-requires
     turned-requires
+    places-requires
     clear-free-requires
     same-length
     same-length-2

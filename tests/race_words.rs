@@ -14,7 +14,7 @@ use std::process::{Command, Stdio};
 use texts::Random;
 
 const CODES: u32 = 6;
-const WORDS: usize = 4;
+const WORDS: usize = reference::ROW_WORDS;
 
 fn printed(program: &str, text: &[u8]) -> String {
     let mut child = Command::new(program).stdin(Stdio::piped()).stdout(Stdio::piped()).spawn().expect("the program starts");

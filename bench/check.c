@@ -31,7 +31,8 @@ static void insert(uint64_t *words, size_t x, size_t y, size_t from, size_t to) 
 /* ------------------------------------------------------------------ the sheet file */
 
 typedef struct {
-    uint8_t kind[ROWS], one[ROWS], two[ROWS];
+    uint8_t kind[ROWS];
+    uint16_t one[ROWS], two[ROWS];
     uint16_t start[SHEETS];
     size_t count;
 } sheet;
@@ -129,8 +130,8 @@ static refusal read(const uint8_t *text, size_t len, sheet *s, uint64_t *words, 
         }
         if (!placed) return (refusal){6, line};
         s->kind[row] = kind;
-        s->one[row] = (uint8_t)one;
-        s->two[row] = (uint8_t)two;
+        s->one[row] = (uint16_t)one;
+        s->two[row] = (uint16_t)two;
         at = next;
     }
     s->count = row;
@@ -274,7 +275,11 @@ static int ready(const walk *w, const masks *k, const run *r, size_t x) {
 }
 
 static int has(const uint64_t *row, size_t x) { return row[x / 64] >> (x % 64) & 1; }
-static int is_empty(const uint64_t *row) { return (row[0] | row[1] | row[2] | row[3]) == 0; }
+static int is_empty(const uint64_t *row) {
+    uint64_t any = 0;
+    for (size_t i = 0; i < W; i++) any |= row[i];
+    return any == 0;
+}
 
 static int may_send(const walk *w, const masks *k, channel c, const run *r, size_t m) {
     if (!ready(w, k, r, 2 * m) || (c.eager && !is_empty(r->held[w->boards[2 * m]]))) return 0;
@@ -337,8 +342,8 @@ static int choose(const walk *w, const masks *k, channel c, const run *r, size_t
     EACH(may_consume(w, k, r, m))
     *kind = 1;
     if (may_deliver(w, k, c, r, e)) return *message = e, 1;
-    memcpy(row, r->way, sizeof row);
-    EACH(test(w->words, 2 * e, 2 * m + 1) && may_deliver(w, k, c, r, m))
+    for (size_t i = 0; i < W; i++) row[i] = r->way[i] & w->words[2 * e * W + i] >> 1; /* whose receive is before e's send */
+    EACH(may_deliver(w, k, c, r, m))
     *kind = 0;
     unsent(r, row);
     needed(w, e, row);

@@ -3,8 +3,8 @@
 #include "check.h"
 #include <string.h>
 
-enum { W = 4, ROWS = 512, SHEETS = 32, BOARDS = 16, MESSAGES = 128, EVENTS = 2 * MESSAGES, LEVELS = 8, CALLS = 1024, CHOICES = 8 };
-enum { NUMBER_MOST = 255, WORDS = EVENTS * W, TRACE = 6 * MESSAGES };
+enum { W = 8, ROWS = 512, SHEETS = 32, BOARDS = 16, MESSAGES = 256, EVENTS = 2 * MESSAGES, LEVELS = 8, CALLS = 1024, CHOICES = 8 };
+enum { NUMBER_MOST = 511, WORDS = EVENTS * W, TRACE = 6 * MESSAGES };
 
 typedef struct { uint32_t number, line; } refusal; /* number 0: none */
 

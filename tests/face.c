@@ -15,7 +15,7 @@
 #include <unistd.h>
 
 #define H "kind one two\n"
-#define NUMBER_OVER "256" /* one over the largest number of a field */
+#define NUMBER_OVER "512" /* one over the largest number of a field */
 enum { WORDS = CHANNEL_CHECK_SCRATCH_WORDS, BYTES = CHANNEL_CHECK_TRACE_BYTES, PAINT = 0xa5, CODES = 6 };
 enum { MESSAGES = BYTES / 6, EVENTS = 2 * MESSAGES, LAST = EVENTS - 1 };
 

@@ -32,9 +32,9 @@ pub enum Step {
 }
 
 /// The limits that request (n) moves: messages, the largest number of a field, the words of a row; and what follows from them.
-pub const MESSAGES: usize = 128;
-pub const NUMBER_MOST: usize = 255;
-pub const ROW_WORDS: usize = 4;
+pub const MESSAGES: usize = 256;
+pub const NUMBER_MOST: usize = 511;
+pub const ROW_WORDS: usize = 8;
 pub const EVENTS: usize = 2 * MESSAGES;
 pub const TRACE_LEAST: usize = 2 * 3 * MESSAGES;
 pub const SCRATCH_LEAST: usize = EVENTS * ROW_WORDS;

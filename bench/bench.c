@@ -6,12 +6,20 @@
 #include <stdlib.h>
 #include <string.h>
 
+enum { ROWS = 512 };
 static char text[16384];
 static size_t len;
+static int rows;
 
-static void line(const char *kind, int one, int two) { len += (size_t)sprintf(text + len, "%s %d %d\n", kind, one, two); }
+/* a row, as long as the file may have one more */
+static void line(const char *kind, int one, int two) {
+    if (rows++ < ROWS) len += (size_t)sprintf(text + len, "%s %d %d\n", kind, one, two);
+}
 
-static void begin(void) { len = (size_t)sprintf(text, "kind one two\nS 0 0\n"); }
+static void begin(void) {
+    len = (size_t)sprintf(text, "kind one two\nS 0 0\n");
+    rows = 1;
+}
 
 /* The last two race, and all the others are consumed beside them: the longest trace. */
 static void longest_trace(int n) {
@@ -48,7 +56,7 @@ static void most_rows(int n) {
     for (int i = 40; i < n; i++) line("M", 15, 15);
 }
 
-/* As many P rows as the file has room for, each behind the last on one of two boards. */
+/* As many P rows as the file has room for, each behind the last on one of two boards: the later messages first. */
 static void dense(int n) {
     begin();
     for (int m = 0; m < n; m++) line("M", 0, 1);
@@ -65,13 +73,13 @@ static void chain_twice(int n) {
     for (int m = 1; m < n; m++) line("P", 2 * m - 1, 2 * m);
 }
 
-/* Calls of a sheet with one message and 376 P rows, all of one order: as many calls as there may be messages. */
+/* Calls of a sheet with one message and P rows, all of one order, as many as the file has room for. */
 static void order_rows(int n) {
     begin();
     for (int i = 0; i < n; i++) line("C", 1, 0);
     line("S", 1, 0);
     line("M", 3, 3);
-    for (int i = 0; i < 376; i++) line("P", 0, 1);
+    for (int i = 0; i < 504 - n; i++) line("P", 0, 1);
 }
 
 /* 40 blocks of three messages and a few P rows each; n is not used. */

@@ -3,7 +3,8 @@
 #include "check.h"
 #include <string.h>
 
-enum { W = 4, ROWS = 512, SHEETS = 32, BOARDS = 16, MESSAGES = 128, EVENTS = 2 * MESSAGES, LEVELS = 8, CALLS = 1024, CHOICES = 8 };
+enum { W = 8, ROWS = 512, SHEETS = 32, BOARDS = 16, MESSAGES = 256, EVENTS = 2 * MESSAGES, LEVELS = 8, CALLS = 1024, CHOICES = 8 };
+enum { NUMBER_MOST = 511, WORDS = EVENTS * W, TRACE = 6 * MESSAGES };
 
 typedef struct { uint32_t number, line; } refusal; /* number 0: none */
 
@@ -30,7 +31,8 @@ static void insert(uint64_t *words, size_t x, size_t y, size_t from, size_t to) 
 /* ------------------------------------------------------------------ the sheet file */
 
 typedef struct {
-    uint8_t kind[ROWS], one[ROWS], two[ROWS];
+    uint8_t kind[ROWS];
+    uint16_t one[ROWS], two[ROWS];
     uint16_t start[SHEETS];
     size_t count;
 } sheet;
@@ -64,7 +66,7 @@ static inline int number_up_to(const uint8_t *text, size_t from, size_t to, size
     return value <= most ? (int)value : -1;
 }
 
-static int number(const uint8_t *text, size_t from, size_t to) { return number_up_to(text, from, to, 3, 255); }
+static int number(const uint8_t *text, size_t from, size_t to) { return number_up_to(text, from, to, 3, NUMBER_MOST); }
 
 static int named(const uint8_t *text, size_t from, size_t to, const char *name) {
     size_t n = strlen(name);
@@ -128,8 +130,8 @@ static refusal read(const uint8_t *text, size_t len, sheet *s, uint64_t *words, 
         }
         if (!placed) return (refusal){6, line};
         s->kind[row] = kind;
-        s->one[row] = (uint8_t)one;
-        s->two[row] = (uint8_t)two;
+        s->one[row] = (uint16_t)one;
+        s->two[row] = (uint16_t)two;
         at = next;
     }
     s->count = row;
@@ -273,7 +275,11 @@ static int ready(const walk *w, const masks *k, const run *r, size_t x) {
 }
 
 static int has(const uint64_t *row, size_t x) { return row[x / 64] >> (x % 64) & 1; }
-static int is_empty(const uint64_t *row) { return (row[0] | row[1] | row[2] | row[3]) == 0; }
+static int is_empty(const uint64_t *row) {
+    uint64_t any = 0;
+    for (size_t i = 0; i < W; i++) any |= row[i];
+    return any == 0;
+}
 
 static int may_send(const walk *w, const masks *k, channel c, const run *r, size_t m) {
     if (!ready(w, k, r, 2 * m) || (c.eager && !is_empty(r->held[w->boards[2 * m]]))) return 0;
@@ -336,8 +342,8 @@ static int choose(const walk *w, const masks *k, channel c, const run *r, size_t
     EACH(may_consume(w, k, r, m))
     *kind = 1;
     if (may_deliver(w, k, c, r, e)) return *message = e, 1;
-    memcpy(row, r->way, sizeof row);
-    EACH(test(w->words, 2 * e, 2 * m + 1) && may_deliver(w, k, c, r, m))
+    for (size_t i = 0; i < W; i++) row[i] = r->way[i] & w->words[2 * e * W + i] >> 1; /* whose receive is before e's send */
+    EACH(may_deliver(w, k, c, r, m))
     *kind = 0;
     unsent(r, row);
     needed(w, e, row);
@@ -446,15 +452,15 @@ trace_check_answer careful_trace_check(const uint8_t *text, size_t text_len, uin
     sheet s;
     walk w;
     if (code > 5) return told(4, 1, 0);
-    if (scratch_len < 1024) return told(4, 2, 0);
+    if (scratch_len < WORDS) return told(4, 2, 0);
     trace_check_answer a = told(4, 12, 0);
-    if (trace_len % 2 == 0 && trace_len <= 768) {
+    if (trace_len % 2 == 0 && trace_len <= TRACE) {
         refusal r = read(text, text_len, &s, scratch, 0);
         w.words = scratch;
         if (!r.number) r = expand(&s, &w, 0);
         a = r.number ? told(4, r.number, r.line) : replay(&w, channels[code], trace, trace_len);
     }
-    memset(scratch, 0, 1024 * 8);
+    memset(scratch, 0, WORDS * 8);
     return a;
 }
 
@@ -476,9 +482,9 @@ static channel_check_answer judge(const uint8_t *text, size_t len, uint32_t code
 channel_check_answer careful_check(const uint8_t *text, size_t text_len, uint32_t code, uint64_t *scratch, size_t scratch_len,
                                    uint8_t *trace, size_t trace_len) {
     if (code > 5) return (channel_check_answer){2, 1, 0, 0};
-    if (scratch_len < 1024 || trace_len < 768) return (channel_check_answer){2, 2, 0, 0};
+    if (scratch_len < WORDS || trace_len < TRACE) return (channel_check_answer){2, 2, 0, 0};
     channel_check_answer a = judge(text, text_len, code, scratch, trace);
-    memset(scratch, 0, 1024 * 8);
+    memset(scratch, 0, WORDS * 8);
     return a;
 }
 
@@ -513,9 +519,9 @@ static choice_check_answer judge_lists(const uint8_t *text, size_t len, uint32_t
 choice_check_answer careful_choice_check(const uint8_t *text, size_t text_len, uint32_t code, uint64_t *scratch, size_t scratch_len,
                                          uint8_t *trace, size_t trace_len) {
     if (code > 5) return (choice_check_answer){2, 1, 0, 0, 0, 0};
-    if (scratch_len < 1024 || trace_len < 768) return (choice_check_answer){2, 2, 0, 0, 0, 0};
+    if (scratch_len < WORDS || trace_len < TRACE) return (choice_check_answer){2, 2, 0, 0, 0, 0};
     choice_check_answer a = judge_lists(text, text_len, code, scratch, trace);
-    memset(scratch, 0, 1024 * 8);
+    memset(scratch, 0, WORDS * 8);
     return a;
 }
 
@@ -525,7 +531,7 @@ choice_check_answer careful_choice_check(const uint8_t *text, size_t text_len, u
 static refusal watch(const uint8_t *text, size_t len, uint32_t code, uint64_t *scratch, size_t scratch_len, walk *w) {
     sheet s;
     if (code > 5) return (refusal){1, 0};
-    if (scratch_len < 1024) return (refusal){2, 0};
+    if (scratch_len < WORDS) return (refusal){2, 0};
     refusal r = read(text, len, &s, scratch, 0);
     w->words = scratch;
     if (!r.number) r = expand(&s, w, 0);
@@ -533,7 +539,7 @@ static refusal watch(const uint8_t *text, size_t len, uint32_t code, uint64_t *s
 }
 
 static void leave(refusal r, uint64_t *scratch) {
-    if (r.number == 0 || r.number > 2) memset(scratch, 0, 1024 * 8);
+    if (r.number == 0 || r.number > 2) memset(scratch, 0, WORDS * 8);
 }
 
 monitor_answer careful_monitor_open(const uint8_t *text, size_t text_len, uint32_t code, uint64_t *scratch, size_t scratch_len) {
@@ -652,15 +658,15 @@ static cure_sheet_answer cure(const uint8_t *text, size_t len, uint64_t *scratch
 
 cure_sheet_answer careful_cure_sheet(const uint8_t *text, size_t text_len, uint64_t *scratch, size_t scratch_len, uint8_t *output,
                                      size_t output_len) {
-    if (scratch_len < 1024 || output_len < 8192) return (cure_sheet_answer){1, 2, 0};
+    if (scratch_len < WORDS || output_len < 8192) return (cure_sheet_answer){1, 2, 0};
     cure_sheet_answer a = cure(text, text_len, scratch, output);
-    memset(scratch, 0, 1024 * 8);
+    memset(scratch, 0, WORDS * 8);
     return a;
 }
 
 /* ------------------------------------------------------------------ the dispatcher */
 
-enum { PLACES = 8, SHEET = 8192, WORDS = 1024 };
+enum { PLACES = 8, SHEET = 8192 };
 
 dispatcher careful_dispatcher_empty(void) { return (dispatcher){0}; }
 
@@ -773,7 +779,7 @@ dispatcher_answer careful_dispatcher_turn(dispatcher state, const uint8_t *sheet
     (void)sheets, (void)sheets_len, (void)lengths, (void)lengths_len, (void)codes, (void)codes_len;
     dispatcher_answer a = {0, 0, 0, {0, 0, 0, 0}, state};
     dispatcher *d = &a.next;
-    if (words_len < PLACES * WORDS || trace_len < 768) return *saying(&a, 5, 2, 0);
+    if (words_len < PLACES * WORDS || trace_len < TRACE) return *saying(&a, 5, 2, 0);
     unsigned taken = places_of(&d->queue);
     if (d->queue.held == 0) {
         clear_free(taken, words);
@@ -911,9 +917,9 @@ static channel_check_answer judge_permitted(const uint8_t *text, size_t len, uin
 channel_check_answer careful_permitted_check(const uint8_t *text, size_t text_len, uint32_t code, uint64_t *scratch, size_t scratch_len,
                                              uint8_t *trace, size_t trace_len, const uint8_t *table, size_t table_len) {
     if (code > 5) return (channel_check_answer){2, 1, 0, 0};
-    if (scratch_len < 1024 || trace_len < 768) return (channel_check_answer){2, 2, 0, 0};
+    if (scratch_len < WORDS || trace_len < TRACE) return (channel_check_answer){2, 2, 0, 0};
     channel_check_answer a = judge_permitted(text, text_len, code, scratch, trace, table, table_len);
-    memset(scratch, 0, 1024 * 8);
+    memset(scratch, 0, WORDS * 8);
     return a;
 }
 
@@ -977,8 +983,8 @@ static taps_check_answer taps(const uint8_t *text, size_t len, uint64_t *scratch
 
 taps_check_answer careful_taps_check(const uint8_t *text, size_t text_len, uint64_t *scratch, size_t scratch_len, const uint16_t *first,
                                      size_t first_len, const uint16_t *second, size_t second_len, uint16_t *output, size_t output_len) {
-    if (scratch_len < 1024 || output_len < 512) return (taps_check_answer){2, 2, 0};
+    if (scratch_len < WORDS || output_len < 512) return (taps_check_answer){2, 2, 0};
     taps_check_answer a = taps(text, text_len, scratch, first, first_len, second, second_len, output);
-    memset(scratch, 0, 1024 * 8);
+    memset(scratch, 0, WORDS * 8);
     return a;
 }

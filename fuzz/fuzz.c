@@ -212,10 +212,10 @@ static void try_table(const uint8_t *text, size_t len, uint32_t code, size_t wor
     free(exact_table), free(c.text), free(c.scratch), free(c.trace);
 }
 
-/* a list in memory of exact size, from bytes */
+/* a list in memory of exact size, from bytes: the high ones are the last events that a sheet may have, and the highest is none */
 static uint16_t *list_of(const uint8_t *bytes, size_t count) {
     uint16_t *list = malloc(2 * count);
-    for (size_t i = 0; i < count; i++) list[i] = bytes[i] == 255 ? 65535 : bytes[i];
+    for (size_t i = 0; i < count; i++) list[i] = (uint16_t)(bytes[i] == 255 ? 65535 : bytes[i] < 224 ? bytes[i] : CHANNEL_CHECK_EVENTS - 256 + bytes[i]);
     return list;
 }
 

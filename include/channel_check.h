@@ -33,7 +33,7 @@ extern "C" {
 /* ------------------------------------------------------------------ what every call is about */
 
 /* The limits of a sheet: the messages of a block, and of all that a sheet calls; their events; boards; channels; the bytes of its text. */
-#define CHANNEL_CHECK_MESSAGES 128
+#define CHANNEL_CHECK_MESSAGES 256
 #define CHANNEL_CHECK_EVENTS (2 * CHANNEL_CHECK_MESSAGES)
 #define CHANNEL_CHECK_BOARDS 16
 #define CHANNEL_CHECK_CHANNELS 6

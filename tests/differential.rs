@@ -174,7 +174,7 @@ fn wander(r: &mut Random, text: &[u8], s: &Scenario, code: u32) {
 // ---------------------------------------------------------------- all texts
 
 const CODES: usize = 6;
-const LIMITS: [&str; 4] = ["512 rows", "128 messages", "1,024 calls", "level 8"];
+const LIMITS: [&str; 4] = ["512 rows", "the most messages", "1,024 calls", "level 8"];
 
 /// What was seen: a run in which some kind of answer never came has tried less than it says.
 #[derive(Default)]
@@ -217,7 +217,7 @@ impl Seen {
     }
 
     fn limits_of(&mut self, s: &Scenario) {
-        let at = [s.rows == 512, s.messages.len() == 128, s.calls == 1024, s.deepest == 8];
+        let at = [s.rows == reference::ROWS, s.messages.len() == reference::MESSAGES, s.calls == 1024, s.deepest == 8];
         at.iter().zip(self.limits.iter_mut()).for_each(|(hit, n)| *n += u64::from(*hit));
     }
 

@@ -2,7 +2,7 @@
 //! the numbers, every answer with its trace, and every word lent. Besides, eight jobs of the most messages, all the numbers there are, and
 //! dispatchers of random bytes.
 
-use crate::reference::{self, Answer, Scenario, SCRATCH_LEAST, TRACE_LEAST};
+use crate::reference::{self, Answer, Scenario, EVENTS, MESSAGES, SCRATCH_LEAST, TRACE_LEAST};
 use crate::texts::{self, Random};
 use crate::{bytes, fail};
 use std::collections::VecDeque;
@@ -11,9 +11,6 @@ const PLACES: usize = 8;
 const SLOT: usize = 8192;
 const WORDS: usize = PLACES * SCRATCH_LEAST;
 const NUMBERS: u32 = 65536;
-const EVENTS: usize = 256;
-/// the most messages of a sheet
-const MESSAGES: usize = EVENTS / 2;
 
 #[repr(C)]
 #[derive(Clone, Copy, Debug, PartialEq)]
@@ -417,7 +414,7 @@ fn fixed(c: &Counter, text: &[u8]) -> Lent {
     Lent { sheets, lengths, codes: vec![0; PLACES], words: c.last.clone(), trace: vec![0; TRACE_LEAST] }
 }
 
-/// Eight jobs of the most messages: the last is answered on turn 2,056, and none before its own turn 257.
+/// Eight jobs of the most messages: the last is answered on turn 8 (2n + 1), and none before its own turn 2n + 1.
 fn full(seen: &mut Seen) {
     let text = ["kind one two\nS 0 0\n".to_string(), "M 0 1\n".repeat(MESSAGES)].concat().into_bytes();
     let mut c = Counter::new();

@@ -15,7 +15,9 @@
 #include <unistd.h>
 
 #define H "kind one two\n"
+#define NUMBER_OVER "512" /* one over the largest number of a field */
 enum { WORDS = CHANNEL_CHECK_SCRATCH_WORDS, BYTES = CHANNEL_CHECK_TRACE_BYTES, PAINT = 0xa5, CODES = 6 };
+enum { MESSAGES = BYTES / 6, EVENTS = 2 * MESSAGES, LAST = EVENTS - 1 };
 
 static int failures, calls;
 static int seen[3][12]; /* by word, and by refusal */
@@ -111,20 +113,22 @@ static char made[16384];
 
 static void begin(const char *head) { strcpy(made, head); }
 static void repeat(const char *line, int times) { while (times-- > 0) strcat(made, line); }
+static void order(int x, int y) { sprintf(made + strlen(made), "P %d %d\n", x, y); }
 
 /* ------------------------------------------------------------------ free and locked */
 
-/* 126 messages on a board of their own, then two that race: send and deliver the last, all of the others, send the first */
+/* all messages but two on a board of their own, then two that race: send and deliver the last, all of the others, send the first */
 static void longest(void) {
     uint8_t steps[BYTES], *at = steps;
     begin(H "S 0 0\n");
-    repeat("M 3 3\n", 126);
-    repeat("M 0 1\nM 2 1\nP 253 255\n", 1);
-    *at++ = 0, *at++ = 127, *at++ = 1, *at++ = 127;
-    for (uint8_t m = 0; m < 126; m++)
-        for (uint8_t kind = 0; kind < 3; kind++) *at++ = kind, *at++ = m;
-    *at++ = 0, *at++ = 126;
-    is_locked(named("a long trace", made), "0245", 127, 253, 381, steps);
+    repeat("M 3 3\n", MESSAGES - 2);
+    repeat("M 0 1\nM 2 1\n", 1);
+    order(LAST - 2, LAST);
+    *at++ = 0, *at++ = MESSAGES - 1, *at++ = 1, *at++ = MESSAGES - 1;
+    for (int m = 0; m < MESSAGES - 2; m++)
+        for (uint8_t kind = 0; kind < 3; kind++) *at++ = kind, *at++ = (uint8_t)m;
+    *at++ = 0, *at++ = MESSAGES - 2;
+    is_locked(named("a long trace", made), "0245", MESSAGES - 1, LAST - 2, 3 * MESSAGES - 3, steps);
     is_free(named("a long trace", made), "13");
 }
 
@@ -150,12 +154,12 @@ static void limits(void) {
     repeat("B 0 0\n", 511);
     is_free(named("512 rows", made), "012345");
     begin(H "S 31 0\nM 15 15\nS 0 0\nC 31 0\n");
-    repeat("M 0 1\n", 127);
-    is_free(named("sheet 31, board 15, 128 messages", made), "012345");
+    repeat("M 0 1\n", MESSAGES - 1);
+    is_free(named("sheet 31, board 15, the most messages", made), "012345");
     begin(H "S 0 0\n");
-    repeat("M 0 1\n", 128);
-    repeat("P 253 255\n", 1);
-    is_free(named("event 255, lazy", made), "13");
+    repeat("M 0 1\n", MESSAGES);
+    order(LAST - 2, LAST);
+    is_free(named("the last event, lazy", made), "13");
     begin(H "S 0 0\n");
     repeat("C 1 0\n", 31);
     repeat("C 2 0\nS 1 0\n", 1);
@@ -176,7 +180,7 @@ static const struct { const char *name, *text; uint32_t number, line; } refused[
     {"4 without its end", "kind one two", 4, 1},
     {"4 empty line", "\n", 4, 1},
     {"5 leading zero", H "S 0 0\nM 0 01\n", 5, 3},
-    {"5 over 255", H "S 0 0\nM 256 0\n", 5, 3},
+    {"5 a number too large", H "S 0 0\nM " NUMBER_OVER " 0\n", 5, 3},
     {"5 no digit", H "S 0 0\nM 0 -1\n", 5, 3},
     {"5 empty field", H "S 0 0\nM 0 \n", 5, 3},
     {"5 fourth field", H "S 0 0\nM 0 1 0\n", 5, 3},
@@ -189,7 +193,7 @@ static const struct { const char *name, *text; uint32_t number, line; } refused[
     {"5 unused field of C", H "S 0 0\nC 0 1\n", 5, 3},
     {"5 no line end", H "S 0 0\nM 0 1", 5, 3},
     {"5 an empty row", H "S 0 0\n\n", 5, 3},
-    {"5 ahead of 6 on a row", H "M 16 256\n", 5, 2},
+    {"5 ahead of 6 on a row", H "M 16 " NUMBER_OVER "\n", 5, 2},
     {"6 on a row ahead of 5 behind", H "M 0 1\nX\n", 6, 2},
     {"6 message before S", H "M 0 1\nS 0 0\n", 6, 2},
     {"6 block before S", H "B 0 0\nS 0 0\n", 6, 2},
@@ -242,8 +246,8 @@ static void at_lengths(void) {
     repeat("B 0 0\n", 512);
     is_refused(named("5 row 513", made), 5, 514);
     begin(H "S 0 0\n");
-    repeat("M 0 1\n", 129);
-    is_refused(named("6 message 129", made), 6, 131);
+    repeat("M 0 1\n", MESSAGES + 1);
+    is_refused(named("6 a message too many", made), 6, MESSAGES + 3);
     begin(H "S 0 0\n");
     repeat("C 1 0\n", 32);
     repeat("S 1 0\n", 1);
@@ -251,7 +255,7 @@ static void at_lengths(void) {
     repeat("S 2 0\n", 1);
     is_refused(named("9 calls", made), 9, 36);
     begin(H "S 0 0\nC 1 0\nC 1 0\nM 0 0\nS 1 0\n");
-    repeat("M 0 1\n", 64);
+    repeat("M 0 1\n", MESSAGES / 2);
     is_refused(named("10 messages", made), 10, 5);
     depth_and_calls(0, 8, 86);
     depth_and_calls(1, 9, 85);
@@ -540,7 +544,7 @@ static void cures(void) {
     cure_refuses((sheet){"8,192 bytes are read", made, 8192}, 5, 514);
     cure_refuses((sheet){"3 length 8,193", strcat(made, "\n"), 8193}, 3, 0);
     begin(H "S 0 0\nC 1 0\nC 1 0\nM 0 0\nS 1 0\n");
-    repeat("M 0 1\n", 64);
+    repeat("M 0 1\n", MESSAGES / 2);
     cure_refuses(named("10 messages", made), 10, 5);
     begin(H "S 0 0\n");
     repeat("C 1 0\n", 32);
@@ -751,7 +755,7 @@ static void permissions(void) {
     permits("6 ahead of 19", H "S 0 0\nM 2 1\nM 16 0\n", MASTER, (channel_check_answer){2, 6, 4, 0}, "");
     permits("11 ahead of 19", H "S 0 0\nM 2 1\nM 0 0\nP 3 2\n", MASTER, (channel_check_answer){2, 11, 5, 0}, "");
     begin(H "S 0 0\nC 1 0\nC 1 0\nM 0 0\nS 1 0\n");
-    repeat("M 2 1\n", 64);
+    repeat("M 2 1\n", MESSAGES / 2);
     permits("10 ahead of 19", made, MASTER, (channel_check_answer){2, 10, 5, 0}, "");
     permit(named("1 ahead of 18", two), gap, 6, WORDS, BYTES, (channel_check_answer){2, 1, 0, 0}, "");
     permit(named("2 for the scratch", two), gap, 0, WORDS - 1, BYTES, (channel_check_answer){2, 2, 0, 0}, "");
@@ -819,21 +823,21 @@ static void taps_refuse(sheet s, list first, list second, uint32_t number, uint3
     taps_say(s, first, second, (taps_check_answer){2, number, line}, NULL);
 }
 
-/* 256 events, both lists full: the messages from the last to the first, and the same with its first two exchanged */
+/* all events, both lists full: the messages from the last to the first, and the same with its first two exchanged */
 static void full_lists(void) {
-    static uint16_t down[256], other[256], long_list[70000];
+    static uint16_t down[EVENTS], other[EVENTS], long_list[70000];
     begin(H "S 0 0\n");
-    repeat("M 0 1\n", 128);
-    sheet s = named("256 events", made);
-    for (uint16_t i = 0; i < 256; i++) down[i] = other[i] = (uint16_t)((127 - i / 2) * 2 + i % 2);
-    other[0] = 252, other[2] = 254;
-    taps_fit(s, (list){down, 256}, (list){down, 256}, (list){down, 256});
-    taps_fit(s, (list){down, 256}, none_seen, (list){down, 256});
-    taps_fit(s, none_seen, (list){down, 256}, (list){down, 256});
-    taps_clash(s, (list){down, 256}, (list){other, 256}, 252);
-    for (size_t i = 0; i < 70000; i++) long_list[i] = (uint16_t)(i % 256);
-    taps_refuse(s, (list){long_list, 257}, none_seen, 20, 1);
-    taps_refuse(s, (list){long_list, 256}, (list){long_list, 70000}, 20, 2);
+    repeat("M 0 1\n", MESSAGES);
+    sheet s = named("all events", made);
+    for (int i = 0; i < EVENTS; i++) down[i] = other[i] = (uint16_t)((MESSAGES - 1 - i / 2) * 2 + i % 2);
+    other[0] = LAST - 3, other[2] = LAST - 1;
+    taps_fit(s, (list){down, EVENTS}, (list){down, EVENTS}, (list){down, EVENTS});
+    taps_fit(s, (list){down, EVENTS}, none_seen, (list){down, EVENTS});
+    taps_fit(s, none_seen, (list){down, EVENTS}, (list){down, EVENTS});
+    taps_clash(s, (list){down, EVENTS}, (list){other, EVENTS}, LAST - 3);
+    for (size_t i = 0; i < 70000; i++) long_list[i] = (uint16_t)(i % EVENTS);
+    taps_refuse(s, (list){long_list, EVENTS + 1}, none_seen, 20, 1);
+    taps_refuse(s, (list){long_list, EVENTS}, (list){long_list, 70000}, 20, 2);
     taps_refuse(s, (list){long_list, 70000}, (list){long_list, 70000}, 20, 1);
 }
 
@@ -861,7 +865,7 @@ static void taps(void) {
     taps_refuse(two, LIST(0, 0), LIST(65535), 20, 1);
     taps_refuse(two, LIST(3, 0), LIST(1, 2, 1), 20, 2);
     taps_refuse(two, LIST(65535), none_seen, 20, 1);
-    taps_refuse(two, none_seen, LIST(256), 20, 2);
+    taps_refuse(two, none_seen, LIST(EVENTS), 20, 2);
     taps_refuse(two, LIST(0, 1, 2, 3, 0), none_seen, 20, 1);
     full_lists();
     for (size_t i = 0; i < sizeof refused / sizeof *refused; i++) {
@@ -874,7 +878,7 @@ static void taps(void) {
     repeat("\n\n", 1);
     taps_refuse((sheet){"3 length 8,193", made, 8193}, LIST(0), none_seen, 3, 0);
     begin(H "S 0 0\nC 1 0\nC 1 0\nM 0 0\nS 1 0\n");
-    repeat("M 0 1\n", 64);
+    repeat("M 0 1\n", MESSAGES / 2);
     taps_refuse(named("10 messages", made), LIST(0), none_seen, 10, 5);
     begin(H "S 0 0\n");
     repeat("C 1 0\n", 32);

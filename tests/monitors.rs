@@ -1,11 +1,10 @@
 //! Lists of steps and switches through the monitor's calls, held to the plain reference's own step rules: words, states field by field,
 //! scratch. And monitors of random bits, of which only the refusals, the scratch and what is handed back unchanged are promised.
 
-use crate::reference::{self, Refusal, Scenario, State, Step, SCRATCH_LEAST};
+use crate::reference::{self, Refusal, Scenario, State, Step, MESSAGES, ROW_WORDS as WIDTH, SCRATCH_LEAST};
 use crate::texts::Random;
 use crate::{bytes, fail, length, Buffers, BESIDE};
 
-const WIDTH: usize = 4;
 const BOARDS: usize = 16;
 
 #[repr(C)]
@@ -139,7 +138,7 @@ fn next_call(r: &mut Random, s: &Scenario, state: &State, code: u32) -> Call {
     let steps = state.steps(s, code);
     match r.below(8) {
         0 => Call::Switch(*r.pick(&[0, 1, 2, 3, 4, 5, 5, 6, u32::MAX])),
-        1 => Call::Step(*r.pick(&[0, 1, 2, 3, 255, u32::MAX]), *r.pick(&[0, 1, 2, 127, 128, 255, u32::MAX])),
+        1 => Call::Step(*r.pick(&[0, 1, 2, 3, 255, u32::MAX]), *r.pick(&[0, 1, 2, MESSAGES as u32 - 1, MESSAGES as u32, 2 * MESSAGES as u32 - 1, u32::MAX])),
         _ if steps.is_empty() => Call::Switch(r.below(6) as u32),
         _ => {
             let pair = bytes(&[*r.pick(&steps)]);
@@ -199,9 +198,9 @@ fn forge(r: &mut Random, seen: &mut Seen, text: &[u8], sheet: &Result<Scenario, 
     let mut m = ZERO;
     let sparse = r.one_in(2);
     let mut word = || if sparse { 1u64 << (r.next() % 64) & r.next() } else { r.next() << 32 | r.next() >> 8 };
-    m.done = [word(), word(), word(), word()];
-    m.way = [word(), word(), word(), word()];
-    m.buffers.iter_mut().for_each(|b| b.held = [word(), word(), word(), word()]);
+    m.done = std::array::from_fn(|_| word());
+    m.way = std::array::from_fn(|_| word());
+    m.buffers.iter_mut().for_each(|b| b.held = std::array::from_fn(|_| word()));
     m.code = *r.pick(&[0, 1, 2, 3, 4, 5, 6, u32::MAX]);
     let sends = |row: &[u64; WIDTH]| row.iter().map(|w| (w & 0x5555_5555_5555_5555).count_ones()).sum::<u32>();
     let to = r.below(6) as u32;

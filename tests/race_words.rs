@@ -14,7 +14,7 @@ use std::process::{Command, Stdio};
 use texts::Random;
 
 const CODES: u32 = 6;
-const WORDS: usize = 4;
+const WORDS: usize = reference::ROW_WORDS;
 
 fn printed(program: &str, text: &[u8]) -> String {
     let mut child = Command::new(program).stdin(Stdio::piped()).stdout(Stdio::piped()).spawn().expect("the program starts");
@@ -47,10 +47,11 @@ fn main() {
         let mut expected = String::new();
         for code in 0..CODES {
             for e in 0..s.messages.len() {
-                let [a, b, c, d] = words(&s, code, e);
-                expected += &format!("{} {} {} {} {} {}\n", code, e, a, b, c, d);
+                let row = words(&s, code, e);
+                let numbers: Vec<String> = row.iter().map(u64::to_string).collect();
+                expected += &format!("{} {} {}\n", code, e, numbers.join(" "));
                 compared += WORDS;
-                raced += [a, b, c, d].iter().filter(|w| **w != 0).count();
+                raced += row.iter().filter(|w| **w != 0).count();
             }
         }
         if printed(program, &sheet) != expected {

@@ -31,8 +31,14 @@ pub enum Step {
     Consume(usize),
 }
 
-pub const TRACE_LEAST: usize = 768;
-pub const SCRATCH_LEAST: usize = 1024;
+/// The limits that request (n) moves: messages, the largest number of a field, the words of a row; and what follows from them.
+pub const MESSAGES: usize = 256;
+pub const NUMBER_MOST: usize = 511;
+pub const ROW_WORDS: usize = 8;
+pub const EVENTS: usize = 2 * MESSAGES;
+pub const TRACE_LEAST: usize = 2 * 3 * MESSAGES;
+pub const SCRATCH_LEAST: usize = EVENTS * ROW_WORDS;
+pub const ROWS: usize = 512;
 
 // ---------------------------------------------------------------- the sheet file
 
@@ -44,7 +50,7 @@ fn number(field: &[u8]) -> Option<usize> {
         return None;
     }
     let value = field.iter().fold(0usize, |n, b| n * 10 + usize::from(b - b'0'));
-    (value <= 255).then_some(value)
+    (value <= NUMBER_MOST).then_some(value)
 }
 
 /// The lines without their ends, and whether each has its end.
@@ -124,12 +130,12 @@ pub fn read(text: &[u8], choices: bool) -> Result<Vec<Row>, Refusal> {
     let mut orders = BTreeSet::new();
     for (i, line) in lines[1..].iter().enumerate() {
         let at = i as u32 + 2;
-        let r = row(columns, *line, choices).filter(|_| i < 512).ok_or((5, at))?;
+        let r = row(columns, *line, choices).filter(|_| i < ROWS).ok_or((5, at))?;
         let board = |x: usize| if x % 2 == 0 { open[x / 2].0 } else { open[x / 2].1 };
         let placed = match r {
             Row::Sheet(n) => n <= 31 && opened.insert(n),
             _ if opened.is_empty() => false,
-            Row::Message(a, b) => a <= 15 && b <= 15 && open.len() < 128,
+            Row::Message(a, b) => a <= 15 && b <= 15 && open.len() < MESSAGES,
             Row::Order(x, y) => x / 2 < open.len() && y / 2 < open.len() && x != y && board(x) == board(y),
             Row::Block => true,
             Row::Call(n) => n <= 31,
@@ -202,7 +208,7 @@ fn walk(rows: &[Row], sheet: usize, level: usize, w: &mut Walk) -> Result<(), Re
         match *r {
             Row::Sheet(_) => break,
             Row::Message(a, b) => {
-                if w.messages.len() == 128 {
+                if w.messages.len() == MESSAGES {
                     return Err((10, line));
                 }
                 w.messages.push((a, b, w.block));
@@ -751,7 +757,7 @@ pub fn cure(sheet: &Result<Scenario, Refusal>, scratch: usize, output: usize) ->
         return Err((2, 0));
     }
     let rows = cured_rows(sheet.as_ref().map_err(|refusal| *refusal)?);
-    if rows.len() > 512 {
+    if rows.len() > ROWS {
         return Err((15, 0));
     }
     Ok(["kind one two\n", &rows.concat()].concat().into_bytes())

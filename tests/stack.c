@@ -8,14 +8,14 @@
 #include <stdlib.h>
 #include <string.h>
 
-enum { SIZE = 1 << 20, PAINT = 0xc3 };
+enum { SIZE = 1 << 20, PAINT = 0xc3, MESSAGES = CHANNEL_CHECK_TRACE_BYTES / 6, EVENTS = 2 * MESSAGES };
 
 static char text[16384];
 static size_t len;
 static uint64_t scratch[CHANNEL_CHECK_SCRATCH_WORDS];
 static uint8_t trace[CHANNEL_CHECK_TRACE_BYTES], output[CURE_SHEET_OUTPUT_BYTES];
 static const char table[] = "from to verdict\n65535 32768 1\n65535 32767 0\n"; /* all may send to board 15 alone */
-static uint16_t down[CHANNEL_CHECK_SCRATCH_WORDS / 4], course[TAPS_CHECK_OUTPUT_NUMBERS]; /* all events, the last first */
+static uint16_t down[EVENTS], course[TAPS_CHECK_OUTPUT_NUMBERS]; /* all events, the last first */
 static uint32_t code;
 static channel_check_answer answer;
 static uint8_t sheets[DISPATCHER_PLACES * DISPATCHER_SHEET_BYTES];
@@ -88,11 +88,11 @@ static void choosing(int refused) {
     line("P", 25, 27);
 }
 
-/* 128 messages, and a race of the last two */
+/* the most messages, and a race of the last two */
 static void messages(int refused) {
     line("S", 0, 0);
-    for (int m = 0; m < 128 + refused; m++) line("M", m % 13, m < 126 ? (m + 1) % 13 : 15);
-    line("P", 253, 255);
+    for (int m = 0; m < MESSAGES + refused; m++) line("M", m % 13, m < MESSAGES - 2 ? (m + 1) % 13 : 15);
+    line("P", EVENTS - 3, EVENTS - 1);
 }
 
 static size_t deepest, counter; /* of the calls on one sheet, and of the dispatcher's */

@@ -1,7 +1,7 @@
 //! Two lists of events through `taps_check`, held to the plain reference: lists cut from orders of the sheet, with a pair exchanged or an event
 //! too many. On small sheets all orders of the events are gone through, the lowest first: fit exactly if some one obeys, and it is the first.
 
-use crate::reference::{self, Refusal, Scenario, Tapped, NUMBERS_LEAST, SCRATCH_LEAST};
+use crate::reference::{self, Refusal, Scenario, Tapped, EVENTS, NUMBERS_LEAST, SCRATCH_LEAST};
 use crate::texts::{self, Random};
 use crate::{fail, length, Buffers, BESIDE};
 
@@ -20,7 +20,7 @@ extern "C" {
     ) -> Numbers;
 }
 
-const KINDS: [&str; 8] = ["fit", "clash", "2", "the sheet's", "20 for list 1", "20 for list 2", "orders of 256 events that fit", "clashes of 256 events"];
+const KINDS: [&str; 8] = ["fit", "clash", "2", "the sheet's", "20 for list 1", "20 for list 2", "orders of all events that fit", "clashes of all events"];
 
 /// What was seen: answers by kind, and small sheets gone through whole that fit and that clash.
 #[derive(Default)]
@@ -72,7 +72,7 @@ fn cut(r: &mut Random, order: &[u16]) -> Vec<u16> {
         list.swap(i, j);
     }
     if r.one_in(16) {
-        let wrong = *r.pick(&[order.len() as u16, list.first().copied().unwrap_or(0), 255, 256, u16::MAX]);
+        let wrong = *r.pick(&[order.len() as u16, list.first().copied().unwrap_or(0), EVENTS as u16 - 1, EVENTS as u16, u16::MAX]);
         let at = r.below(list.len() + 1);
         list.insert(at, wrong);
     }
@@ -158,7 +158,7 @@ pub fn try_taps(r: &mut Random, seen: &mut Seen, any: &[u8]) {
     seen.kinds[kind] += 1;
     let Ok(s) = &sheet else { return };
     if kind < 2 {
-        seen.kinds[6 + kind] += u64::from(s.messages.len() == 128);
+        seen.kinds[6 + kind] += u64::from(s.messages.len() == reference::MESSAGES);
         if s.messages.len() <= 3 || (s.messages.len() == 4 && r.one_in(20)) {
             go_through(seen, &text, s, lists, &answer);
         }

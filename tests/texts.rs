@@ -1,5 +1,7 @@
 //! The generator of sheet files for the differential test: sheets that fit, sheets at every limit, damaged ones, and noise.
 
+use crate::reference::{MESSAGES, NUMBER_MOST, ROWS};
+
 pub struct Random(u64);
 
 impl Random {
@@ -101,22 +103,23 @@ fn small(r: &mut Random) -> Rows {
 fn many_messages(r: &mut Random, out: &mut Rows) {
     let boards = 1 + r.below(16);
     if r.one_in(2) {
-        let messages = *r.pick(&[60, 127, 128, 128, 128, 129]);
-        let orders = *r.pick(&[0, 1, 10, 100, 383]);
+        let messages = *r.pick(&[60, MESSAGES - 1, MESSAGES, MESSAGES, MESSAGES, MESSAGES + 1]);
+        let orders = *r.pick(&[0, 1, 10, 100, ROWS - 1 - MESSAGES]);
         block(r, out, messages, boards, orders);
     } else {
         let part = *r.pick(&[8, 16, 32]);
-        for i in 0..128 / part {
-            let (messages, orders) = (part + usize::from(i == 0 && r.one_in(6)), r.below(2 * part));
+        let room = ROWS * part / MESSAGES - part;
+        for i in 0..MESSAGES / part {
+            let (messages, orders) = (part + usize::from(i == 0 && r.one_in(6)), r.below(room));
             block(r, out, messages, boards, orders);
             out.push(('B', 0, 0));
         }
     }
 }
 
-/// A chain over the boards, so that the order of 256 events is deep, with at most one race at its end.
+/// A chain over the boards, so that the order of all events is deep, with at most one race at its end.
 fn chained(r: &mut Random, out: &mut Rows) {
-    let (n, boards) = (*r.pick(&[64, 127, 128]), 2 + r.below(15));
+    let (n, boards) = (*r.pick(&[64, MESSAGES - 1, MESSAGES]), 2 + r.below(15));
     for m in 0..n {
         out.push(('M', m % boards, (m + 1) % boards));
         if m > 0 && !r.one_in(100) {
@@ -163,7 +166,7 @@ fn called_messages(r: &mut Random, out: &mut Rows) {
         block(r, out, 1, 3, 1);
     }
     out.push(('S', 1, 0));
-    let messages = *r.pick(&[32, 42, 43, 63, 64]);
+    let messages = *r.pick(&[MESSAGES / 4, MESSAGES / 3, MESSAGES / 3 + 1, MESSAGES / 2 - 1, MESSAGES / 2]);
     let boards = 1 + r.below(16);
     let orders = *r.pick(&[0, 2, 40]);
     block(r, out, messages, boards, orders);
@@ -188,7 +191,7 @@ fn all_sheets(r: &mut Random, out: &mut Rows) {
 /// Rows at the limit of a file.
 fn many_rows(r: &mut Random, out: &mut Rows) {
     let most = *r.pick(&[511, 512, 512, 513]);
-    let messages = r.below(128);
+    let messages = r.below(MESSAGES);
     block(r, out, messages, 16, messages);
     out.truncate(most);
     while out.len() < most {
@@ -199,7 +202,7 @@ fn many_rows(r: &mut Random, out: &mut Rows) {
 /// A few messages that matter behind many that do not, so that theirs are the high events, in the later words of a row.
 fn shifted(r: &mut Random, out: &mut Rows) {
     let messages = 2 + r.below(12);
-    out.extend(std::iter::repeat(('M', 15, 15)).take(r.below(129 - messages)));
+    out.extend(std::iter::repeat(('M', 15, 15)).take(r.below(MESSAGES + 1 - messages)));
     out.push(('B', 0, 0));
     let (boards, orders) = (2 + r.below(6), r.below(2 * messages));
     block(r, out, messages, boards, orders);
@@ -237,8 +240,8 @@ fn damage_rows(r: &mut Random, rows: &mut Rows) {
             rows.swap(at, to);
         }
         3 => rows[at].0 = *r.pick(&['S', 'M', 'P', 'B', 'C', 'A', 's']),
-        4 => rows[at].1 = *r.pick(&[0, 1, 15, 16, 31, 32, 127, 128, 255, 256, 1000]),
-        _ => rows[at].2 = *r.pick(&[0, 1, 15, 16, 31, 32, 127, 128, 255, 256, 1000]),
+        4 => rows[at].1 = *r.pick(&[0, 1, 15, 16, 31, 32, MESSAGES - 1, MESSAGES, NUMBER_MOST, NUMBER_MOST + 1, 1000]),
+        _ => rows[at].2 = *r.pick(&[0, 1, 15, 16, 31, 32, MESSAGES - 1, MESSAGES, NUMBER_MOST, NUMBER_MOST + 1, 1000]),
     }
 }
 
@@ -361,7 +364,7 @@ fn near_limits(r: &mut Random) -> Rows {
     let mut out = vec![('S', 0, 0), ('A', 1, 2), ('A', 2, 1)];
     out.push(('S', 1, 0));
     if r.one_in(2) {
-        out.extend(std::iter::repeat(('M', 0, 1)).take(*r.pick(&[63, 64, 64, 65, 126, 127])));
+        out.extend(std::iter::repeat(('M', 0, 1)).take(*r.pick(&[MESSAGES / 2 - 1, MESSAGES / 2, MESSAGES / 2, MESSAGES / 2 + 1, MESSAGES - 2, MESSAGES - 1])));
         out.extend([('S', 2, 0), ('M', 2, 1), ('M', 0, 1), ('P', 1, 3)]);
     } else {
         let calls = *r.pick(&[510, 511, 511, 512]);
@@ -465,7 +468,7 @@ pub fn table(r: &mut Random) -> Vec<u8> {
     text
 }
 
-/// A text for two taps: mostly small sheets, some of 128 messages with few orders or many.
+/// A text for two taps: mostly small sheets, some of the most messages with few orders or many.
 pub fn tap_text(r: &mut Random) -> Vec<u8> {
     let mut rows = vec![('S', 0, 0)];
     match r.below(24) {
@@ -473,7 +476,7 @@ pub fn tap_text(r: &mut Random) -> Vec<u8> {
         1 => chained(r, &mut rows),
         2 => {
             let (boards, orders) = (1 + r.below(16), *r.pick(&[0, 10, 100]));
-            block(r, &mut rows, 128, boards, orders);
+            block(r, &mut rows, MESSAGES, boards, orders);
         }
         _ => rows = small(r),
     }

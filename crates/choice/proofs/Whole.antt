@@ -44,7 +44,7 @@ module _ (text : List ℕ) (code : ℕ) (scratch trace : List ℕ) where
       refuses benchRefusal (omega arith)
       (rw (lt-ltb code channels h, lt-ltb (length trace) traceLeast l, or-true (ltb (length scratch) scratchLeast)))
 
-  -- the first words of the scratch were used and the rest not, and then the first 1,024 cleared
+  -- the first words of the scratch were used and the rest not, and then the first `scratchLeast` cleared
   scratch-behind : (used : List ℕ) (n : ℕ) → length used ≡ n → n ≤ scratchLeast
       → cleared scratchLeast (used ++ drop n scratch) ≡ scratchBehind (readWith true text) scratch
   unfolding scratchBehind cleared Reads

@@ -93,7 +93,7 @@ digits-good n l =
       few = leb-true (length (digitsOf n)) 3 (and-right (a && b && c) d g);
     }
 
--- a row that a sheet file may hold: a letter, and numbers 0 to 255
+-- a row that a sheet file may hold: a letter, and numbers of a sheet file
 pub record Plain (r : Written) : Type 0 where
   pub noSpace : eqb (r .letter) space ≡ false
   pub noLineEnd : eqb (r .letter) lineEnd ≡ false

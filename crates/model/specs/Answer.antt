@@ -64,7 +64,7 @@ answerFor (refusal number line) code = refused number line
 unfoldable pub answerOf : List ℕ → ℕ → ℕ → ℕ → Answer
 answerOf text code scratchLength traceLength = answerFor (acceptedOf text code scratchLength traceLength) code
 
--- the first 1,024 scratch words are zero and the rest are unchanged
+-- the first `scratchLeast` words of the scratch are zero and the rest are unchanged
 abbrev pub scratchCleared : List ℕ → List ℕ
 scratchCleared words = replicate scratchLeast 0 ++ drop scratchLeast words
 

@@ -17,7 +17,7 @@ use Rattle.model.specs.Answer.{sheetOf, Numbers, lockedWord, answerFor, 
 use Rattle.model.specs.Verdict.{Verdict}
 
 -- What every call is lent: the sheets, 8,192 bytes a place, of which the first `lengths p` are the sheet of place p; a code a place; and
--- the words, 1,024 a place.
+-- the words, `scratchLeast` a place.
 pub record Lent : Type 0 where
   pub sheets : List ℕ
   pub lengths : List ℕ
@@ -361,7 +361,7 @@ pub record JobServed (a : Entry) (n p : ℕ) (after : List Entry) : Type 0 where
   -- answered or cancelled it leaves
   pub leaves : (mid : List Entry) (e : Entry) (rest : List Entry) → after ≡ mid ++ (e ∷ rest)
       → (says answeredWord n e || says cancelledWord n e) ≡ true → counted (isTurnOf n) rest + counted (says cancelledWord n) rest ≡ 0
-  -- not cancelled, it is answered within 2,056 unrefused turns
+  -- not cancelled, it is answered within `turnsMost` unrefused turns
   pub within : counted (says cancelledWord n) after ≡ 0 → turnsMost ≤ counted isUnrefusedTurn after → counted (says answeredWord n) after ≡ 1
   -- while its words are lent as the last call left them, the answer is exactly the check's: its numbers, the bytes of the trace, and point 3
   pub answer : (mid : List Entry) (e : Entry) (rest : List Entry) → after ≡ mid ++ (e ∷ rest) → says answeredWord n e ≡ true

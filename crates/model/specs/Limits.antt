@@ -2,7 +2,7 @@
 -- Assumes nothing.
 use Prim.Native.Nat.{ℕ, _+_, _*_}
 
--- The sheet file: at most 8,192 bytes and 512 rows; numbers 0 to 255; sheets 0 to 31; boards 0 to 15.
+-- The sheet file: at most 8,192 bytes and 512 rows; numbers 0 to 511; sheets 0 to 31; boards 0 to 15.
 abbrev pub textMost : ℕ
 textMost = 8192
 
@@ -10,7 +10,7 @@ abbrev pub rowsMost : ℕ
 rowsMost = 512
 
 abbrev pub numberMost : ℕ
-numberMost = 255
+numberMost = 511
 
 abbrev pub sheets : ℕ
 sheets = 32
@@ -18,9 +18,9 @@ sheets = 32
 abbrev pub boards : ℕ
 boards = 16
 
--- A block, and a walk, has at most 128 messages.
+-- A block, and a walk, has at most 256 messages.
 abbrev pub messagesMost : ℕ
-messagesMost = 128
+messagesMost = 256
 
 -- Level 8 is allowed, and a call made there is not; a walk makes at most 1,024 calls.
 abbrev pub levels : ℕ
@@ -40,11 +40,11 @@ listsMost = 256
 abbrev pub channels : ℕ
 channels = 6
 
--- The relation "before" has a row for each event, of four words with 64 events each.
+-- The relation "before" has a row for each event, of eight words with 64 events each.
 abbrev pub rowWords : ℕ
-rowWords = 4
+rowWords = 8
 
--- The buffers lent: the relation alone is in the scratch, 1,024 words (request (d)); a trace of 768 bytes, two for each of three steps a
+-- The buffers lent: the relation alone is in the scratch, 4,096 words (requests (d), (n)); a trace of 1,536 bytes, two for each of three steps a
 -- message.
 abbrev pub scratchLeast : ℕ
 scratchLeast = 2 * messagesMost * rowWords
@@ -81,10 +81,10 @@ jobsMost = 8
 abbrev pub jobNumbers : ℕ
 jobNumbers = 65536
 
--- its words: 1,024 a place
+-- its words: 4,096 a place
 abbrev pub jobWordsLeast : ℕ
 jobWordsLeast = jobsMost * scratchLeast
 
--- a job of n messages is answered on its turn 2n + 1, so within 2,056 turns of all jobs
+-- a job of n messages is answered on its turn 2n + 1, so within 4,104 turns of all jobs
 abbrev pub turnsMost : ℕ
 turnsMost = jobsMost * (2 * messagesMost + 1)

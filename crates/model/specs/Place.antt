@@ -33,7 +33,7 @@ outside = blockNext []
 abbrev pub withMessage : List ℕ → ℕ → ℕ → List ℕ
 withMessage events a b = events ++ (a ∷ b ∷ [])
 
--- `M a b` may stand here: boards 0 to 15, and no message 129 of the block
+-- `M a b` may stand here: boards 0 to 15, and the block has fewer messages than it may have
 unfoldable pub messageFits : List ℕ → ℕ → ℕ → Bool
 messageFits events a b = ltb a boards && ltb b boards && ltb (length events) (2 * messagesMost)
 

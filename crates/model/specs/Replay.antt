@@ -45,7 +45,7 @@ module _ (S : Scenario) (c : Channel) where
   unfoldable pub replay : List ℕ → Replay
   replay trace = replayFrom 0 start (stepsIn trace)
 
--- an even length of at most 768 bytes (else refusal 12)
+-- an even length of at most `traceLeast` bytes (else refusal 12)
 unfoldable pub isTrace : ℕ → Bool
 isTrace n = eqb (n % 2) 0 && leb n traceLeast
 

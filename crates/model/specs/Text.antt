@@ -69,7 +69,7 @@ wellBegun (d ∷ e ∷ ds) = not (eqb d 48)
 unfoldable pub numberUpTo : ℕ → List ℕ → Option ℕ
 numberUpTo most f = cond (wellBegun f && digitsOnly f && leb (decimal 0 f) most) (some (decimal 0 f)) none
 
--- a number of a sheet file, 0 to 255
+-- a number of a sheet file, 0 to `numberMost`
 abbrev pub numberOf : List ℕ → Option ℕ
 numberOf f = numberUpTo numberMost f
 

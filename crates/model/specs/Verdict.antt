@@ -64,7 +64,7 @@ PointThree text code scratchLength traceLength r trace =
 pub record Checked (text : List ℕ) (code : ℕ) (scratch scratchExit trace traceExit : List ℕ) (r : Numbers) : Type 0 where
   -- the answer is the paper's
   pub answer : r ≡ numbersOf (answerOf text code (length scratch) (length trace))
-  -- refusals 1 and 2 touch neither buffer; behind every other call the first 1,024 scratch words are zero and the rest unchanged
+  -- refusals 1 and 2 touch neither buffer; behind every other call the first `scratchLeast` words of the scratch are zero and the rest unchanged
   pub scratchLeft : scratchExit ≡ scratchBehind (acceptedOf text code (length scratch) (length trace)) scratch
   -- the trace changes only on locked, in the bytes of the steps counted
   pub traceLeft : traceExit ≡ traceAfter (answerOf text code (length scratch) (length trace)) trace

@@ -6,14 +6,14 @@ pub const TEXT_MOST: usize = 8192;
 
 pub const ROWS_MOST: usize = 512;
 
-pub const NUMBER_MOST: usize = 255;
+pub const NUMBER_MOST: usize = 511;
 
 pub const SHEETS: usize = 32;
 
 pub const BOARDS: usize = 16;
 
 // Messages of a block and of a walk, and their events.
-pub const MESSAGES_MOST: usize = 128;
+pub const MESSAGES_MOST: usize = 256;
 
 pub const EVENTS_MOST: usize = 2 * MESSAGES_MOST;
 
@@ -26,7 +26,7 @@ pub const CALLS_MOST: usize = 1024;
 pub const CHOICES_MOST: usize = 8;
 
 // The words of a row of the relation "before".
-pub const ROW_WORDS: usize = 4;
+pub const ROW_WORDS: usize = 8;
 
 // The channels, and the buffers lent: the relation alone is in the scratch.
 pub const CHANNELS: usize = 6;

@@ -20,7 +20,7 @@ use Rattle.verdict.specs.Parts.{numbersFor, Decides}
 use Rattle.permitted.specs.Parts.{sheetWith}
 use Rattle.permitted.proofs.Well.{WellNamed, with-well}
 
--- the first words of the scratch were used and the rest not, and then the first 1,024 cleared
+-- the first words of the scratch were used and the rest not, and then the first `scratchLeast` cleared
 scratch-left : (text table scratch used : List ℕ) (n : ℕ) → length used ≡ n → n ≤ scratchLeast
     → cleared scratchLeast (used ++ drop n scratch) ≡ scratchBehind (sheetWith text table) scratch
 unfolding scratchBehind cleared

@@ -99,7 +99,7 @@ not-sheet k a b h = rw (ne-eqb k (code "S") h) (go (eqb k (code "M")) (eqb k (co
     go false false false true = refl
     go false false false false = refl
 
--- a message that fits is no message 129
+-- a message that fits is not one too many
 room : (bs : List ℕ) (m a b : ℕ) → m ≤ messagesMost → length bs ≡ 2 * messagesMost → messageFits (take (2 * m) bs) a b ≡ true → m < messagesMost
 unfolding messageFits
 room bs m a b few long h =

@@ -38,7 +38,7 @@ fn open_sheet(row: usize, n: u16, start: &mut [u16; SHEETS]) -> bool
     true
 }
 
-// `M a b`: boards 0 to 15, and no message 129 of the block.
+// `M a b`: boards 0 to 15, and no message too many for the block.
 fn add_message(messages: usize, boards: &mut [u8; EVENTS_MOST], a: u16, b: u16) -> bool
     requires { ⌜ (messages ≤ messagesMost) × (length (now boards) ≡ 2 * messagesMost) ⌝ }
     ensures { λ r. ⌜ r ≡ messageFits (take (2 * messages) (now (boards .entry))) a b ⌝ }

@@ -33,7 +33,7 @@ module _ (text boards words : List ℕ) (r : Expanded) (p : SheetIn text boards 
     pub boards-long : 2 * messagesMost ≡ length boards
     boards-long = sym (sheet-fits .boardsLong)
 
--- the first words of the scratch were used and the rest not, and then the first 1,024 cleared
+-- the first words of the scratch were used and the rest not, and then the first `scratchLeast` cleared
 pub scratch-behind : (text scratch used : List ℕ) (n : ℕ) → length used ≡ n → n ≤ scratchLeast
     → cleared scratchLeast (used ++ drop n scratch) ≡ scratchBehind (sheetOf text) scratch
 unfolding scratchBehind cleared

@@ -36,7 +36,7 @@ unfoldable pub inBlock : List ℕ → ℕ → ℕ → Bool
 inBlock kind count i = ltb i count && (eqb (getD kind i 0) (code "M") || eqb (getD kind i 0) (code "P"))
 
 -- The M and P rows at the head are met, the first of all being row i, and the next block is open behind them: the row there, and the
--- walk. Refusal 10 at message 129.
+-- walk. Refusal 10 at the first message too many.
 unfoldable pub blockWalked : List Row → ℕ → Progress Store → Out (ℕ × Progress Store)
 blockWalked [] i s = ok (i, blockOpened storeOps s)
 blockWalked (sheet n ∷ rs) i s = ok (i, blockOpened storeOps s)

@@ -50,7 +50,7 @@ pub fn in_block(kind: &[u8], rows: usize, row: usize) -> bool
     row < rows && (kind[row] == b'M' || kind[row] == b'P')
 }
 
-// The rows of one block from a row on: each is met, with refusal 10 at message 129; then the block is closed, and the next is open.
+// The rows of one block from a row on: each is met, with refusal 10 at the first message too many; then the block is closed, and the next is open.
 pub fn walk_block(
     kind: &[u8],
     one: &[u16],

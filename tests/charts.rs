@@ -1,8 +1,9 @@
 //! Holds the charts of `channel_tool chart` to what its other commands print: `steps` (the answer, the steps, what each jammed board waits for),
-//! `taps` with two empty lists (the course, and where each event is) and `replay` (the verdict on a trace). Of each chart, every row, arrow, disc and
-//! box must stand where these say; no two labels may overlap or leave the page. The sheets are those of examples/, random ones, and the largest.
-//! usage: charts PROGRAM MESSAGES FOLDER [SHEETS [SEED]], where MESSAGES is the most that a sheet may have. The largest sheet's charts are left in
-//! the folder, to be rendered.
+//! `taps` with two empty lists (the course, and where each event is) and `replay` (the verdict on a trace). Of each chart, every row, arrow, disc,
+//! box and number must stand where these say; no two labels may overlap or leave the page. The sheets are those of examples/, random ones, and two of the
+//! most messages on all boards.
+//! usage: charts PROGRAM MESSAGES FOLDER [SHEETS [SEED]], where MESSAGES is the most that a sheet may have. Charts of the two largest sheets are left
+//! in the folder, to be rendered.
 
 #[path = "texts.rs"]
 #[allow(dead_code)] // files with choices are for the other test
@@ -69,7 +70,7 @@ struct Facts {
     course: Vec<usize>,
     steps: Vec<(usize, usize)>,
     jams: Vec<String>,
-    barred: Option<String>,
+    not_allowed: Option<String>,
     free: bool,
 }
 
@@ -136,7 +137,7 @@ impl Places {
 /// The words of the rows, from the top down.
 fn rows(facts: &Facts) -> Vec<String> {
     let mut out: Vec<String> = facts.steps.iter().enumerate().map(|(i, (k, m))| format!("{} {} {}", i, STEPS[*k], m)).collect();
-    if let Some(words) = &facts.barred {
+    if let Some(words) = &facts.not_allowed {
         let (index, told) = words.strip_prefix("step ").expect("a step").split_once(" is not allowed: ").expect("its words");
         out.push(format!("{} {}", index, told));
     }
@@ -154,7 +155,7 @@ fn check_words(svg: &str, all: &[Mark], facts: &Facts) -> Result<(), String> {
         return Err(format!("the jams above the boards are not {:?}", facts.jams));
     }
     let mut ends = facts.jams.clone();
-    ends.extend(facts.barred.clone());
+    ends.extend(facts.not_allowed.clone());
     if texts("w") != ends {
         return Err(format!("the words at the ends of the lines are not {:?}", ends));
     }
@@ -234,6 +235,46 @@ fn check_events(all: &[Mark], facts: &Facts, p: &Places) -> Result<(), String> {
     if drawn != boxes { Err(format!("the boxes are {:?}, not {:?}", drawn, boxes)) } else { Ok(()) }
 }
 
+/// Each number beside a board's line, on the side that the arrow does not take, and in each box; and that there is no other. The numbers between the
+/// rows are those of the boards.
+fn check_numbers(all: &[Mark], facts: &Facts, p: &Places) -> Result<(), String> {
+    let mut expected = Vec::new();
+    let beside = |x: usize, y: usize, right: bool, pale: bool, m: usize| match (right, pale) {
+        (true, false) => ("s", x + 10, y + 4, m),
+        (true, true) => ("p", x + 10, y + 4, m),
+        (false, false) => ("e", x - 10, y + 4, m),
+        (false, true) => ("f", x - 10, y + 4, m),
+    };
+    for m in 0..facts.boards.len() / 2 {
+        let (from, to) = (p.boards[&facts.boards[2 * m]], p.boards[&facts.boards[2 * m + 1]]);
+        for (e, x, right) in [(2 * m, from, to < from), (2 * m + 1, to, from < to)] {
+            let done = facts.row(2 * (e % 2), m);
+            let y = done.map_or_else(|| p.events[&e], |r| p.steps[&r]);
+            expected.push(beside(x, y, right, done.is_none() && !facts.free, m));
+        }
+        match (facts.row(1, m), facts.row(2, m)) {
+            (Some(r), Some(_)) => expected.push(beside(to, p.steps[&r], from < to, false, m)),
+            (Some(r), None) => expected.push(("b", to, p.steps[&r] + 4, m)),
+            (None, _) => {}
+        }
+    }
+    let rows: Vec<usize> = p.steps.values().map(|y| y + 4).collect();
+    let mut drawn = Vec::new();
+    for t in all.iter().filter(|t| t.name == "text" && t.numbers[0] != 12) {
+        let Ok(number) = t.words.parse::<usize>() else { continue };
+        if t.class == "b" && !rows.contains(&t.numbers[1]) {
+            if p.boards.get(&number) != Some(&t.numbers[0]) {
+                return Err(format!("board {} is not at {}", number, t.numbers[0]));
+            }
+        } else {
+            drawn.push((t.class.as_str(), t.numbers[0], t.numbers[1], number));
+        }
+    }
+    expected.sort();
+    drawn.sort();
+    if drawn != expected { Err(format!("the numbers are {:?}, not {:?}", drawn, expected)) } else { Ok(()) }
+}
+
 /// The place of a text: its sides, by the letters' width of a monospaced font, rounded up.
 fn sides(t: &Mark) -> [f64; 4] {
     let size = match t.class.as_str() {
@@ -266,6 +307,10 @@ fn check_labels(svg: &str, all: &[Mark]) -> Result<(), String> {
                 return Err(format!("`{}` and `{}` overlap", t.words, u.words));
             }
         }
+        let crossed = |x: &&Mark| x.name == "path" && x.class == "x" && (x.numbers[0] as f64) < a[2] + 8.0 && a[0] - 8.0 < x.numbers[2] as f64;
+        if t.class == "w" && all.iter().any(|x| crossed(&x)) {
+            return Err(format!("a cross is over `{}`", t.words));
+        }
         let fits = |b: &&Mark| b.name == "rect" && b.class == "n" && b.numbers[0] as f64 <= a[0] && a[2] <= (b.numbers[0] + b.numbers[2]) as f64;
         if t.class == "w" && !all.iter().any(|b| fits(&b)) {
             return Err(format!("`{}` has no box around it", t.words));
@@ -274,13 +319,23 @@ fn check_labels(svg: &str, all: &[Mark]) -> Result<(), String> {
     Ok(())
 }
 
-/// The jammed boards, and they alone, have the jam's colour in head and foot and a hatched line.
+/// Columns and rows are evenly spaced. The jammed boards, and they alone, have the jam's colour in head and foot and a hatched line.
 fn check_boards(all: &[Mark], facts: &Facts, p: &Places) -> Result<(), String> {
     let mut used = facts.boards.clone();
     used.sort();
     used.dedup();
     if p.boards.keys().copied().collect::<Vec<_>>() != used {
         return Err(format!("the boards are not {:?}", used));
+    }
+    let columns: Vec<usize> = p.boards.values().copied().collect();
+    let apart = |pair: &[usize]| pair[1].checked_sub(pair[0]);
+    if columns.windows(2).any(|c| apart(c) < Some(80) || apart(c) != apart(&columns[..2])) {
+        return Err(format!("the columns are at {:?}", columns));
+    }
+    let mut rows: Vec<usize> = p.steps.values().chain(p.events.values()).copied().collect();
+    rows.sort();
+    if rows.windows(2).any(|r| apart(r) == Some(0) || (r[1] - r[0]) % 20 != 0) {
+        return Err(format!("the rows are at {:?}", rows));
     }
     let jammed: Vec<usize> = facts.jams.iter().map(|j| numbers(j)[0]).collect();
     for (board, x) in &p.boards {
@@ -304,6 +359,7 @@ fn check(svg: &str, facts: &Facts) -> Result<(), String> {
     check_boards(&all, facts, &p)?;
     check_arrows(&all, facts, &p)?;
     check_events(&all, facts, &p)?;
+    check_numbers(&all, facts, &p)?;
     check_labels(svg, &all)
 }
 
@@ -319,7 +375,7 @@ struct Count {
     free: usize,
     refused: usize,
     traces: usize,
-    barred: usize,
+    not_allowed: usize,
 }
 
 /// The chart of a trace in a file, held to what `replay` says of it.
@@ -329,10 +385,10 @@ fn try_trace(program: &str, file: &str, text: &[u8], code: usize, bytes: &[u8], 
     let (told, _) = run(program, &["replay", &c, file], text);
     let (svg, _) = run(program, &["chart", &c, file], text);
     let line = told.lines().next().unwrap_or("");
-    let barred = line.starts_with("step ").then(|| line.to_string());
-    let taken = if barred.is_some() { numbers(line)[0] } else { bytes.len() / 2 };
+    let not_allowed = line.starts_with("step ").then(|| line.to_string());
+    let taken = if not_allowed.is_some() { numbers(line)[0] } else { bytes.len() / 2 };
     let steps: Vec<(usize, usize)> = bytes.chunks(2).take(taken).map(|b| (b[0] as usize, b[1] as usize)).collect();
-    let verdict = if barred.is_some() { "step not allowed".to_string() } else { format!("trace {}", line) };
+    let verdict = if not_allowed.is_some() { "step not allowed".to_string() } else { format!("trace {}", line) };
     let facts = Facts {
         title: format!("{} on channel {}, {}", verdict, code, NAMES[code]),
         remark: format!("steps: {}", steps.len()),
@@ -340,11 +396,11 @@ fn try_trace(program: &str, file: &str, text: &[u8], code: usize, bytes: &[u8], 
         course: of.1.clone(),
         steps,
         jams: jams(&told),
-        barred,
+        not_allowed,
         free: false,
     };
     count.traces += 1;
-    count.barred += facts.barred.is_some() as usize;
+    count.not_allowed += facts.not_allowed.is_some() as usize;
     hold(&svg, &facts, &format!("a trace on channel {}", code), text);
 }
 
@@ -375,7 +431,7 @@ fn try_sheet(program: &str, folder: &str, text: &[u8], count: &mut Count) -> Vec
             course: of.1.clone(),
             steps,
             jams: jams(&told),
-            barred: None,
+            not_allowed: None,
             free,
         };
         hold(&svg, &facts, &format!("channel {}", code), text);
@@ -410,6 +466,29 @@ fn largest(messages: usize) -> String {
     out
 }
 
+/// As many messages as a sheet may have, between boards at random, in blocks of three: many boards jam.
+fn crowded(messages: usize, r: &mut Random) -> String {
+    let mut out = String::from("kind one two\nS 0 0\n");
+    for m in 0..messages {
+        out += &format!("M {} {}\n", r.below(16), r.below(16));
+        if m % 3 == 2 {
+            out += "B 0 0\n";
+        }
+    }
+    out
+}
+
+/// The charts of a sheet with as many messages as it may have. That on channel 0, which is locked, and that on channel 1, which is free, are kept.
+fn try_large(program: &str, folder: &str, name: &str, text: &str, count: &mut Count) {
+    let charts = try_sheet(program, folder, text.as_bytes(), count);
+    if charts.len() != CODES || !charts[0].contains("<title>locked") || !charts[1].contains("<title>free") {
+        fail(&format!("the {} sheet is refused, or not locked on 0 and free on 1", name));
+    }
+    for (code, svg) in charts[..2].iter().enumerate() {
+        std::fs::write(format!("{}/{}-{}.svg", folder, name, code), svg).expect("the chart is written");
+    }
+}
+
 fn main() {
     let arguments: Vec<String> = std::env::args().collect();
     let number = |i: usize, otherwise: u64| arguments.get(i).map_or(otherwise, |a| a.parse().expect("a number"));
@@ -425,15 +504,10 @@ fn main() {
     for i in 0..sheets {
         try_sheet(program, folder, &texts::text(&mut Random::new(seed, i)), &mut count);
     }
-    let charts = try_sheet(program, folder, largest(messages).as_bytes(), &mut count);
-    if charts.len() != CODES {
-        fail("the largest sheet is refused");
-    }
-    for (code, svg) in charts.iter().enumerate() {
-        std::fs::write(format!("{}/largest-{}.svg", folder, code), svg).expect("the chart is written");
-    }
-    if count.locked * count.free * count.refused * count.barred == 0 {
-        fail("no sheet was locked, free or refused, or no step barred");
+    try_large(program, folder, "largest", &largest(messages), &mut count);
+    try_large(program, folder, "crowded", &crowded(messages, &mut Random::new(seed, sheets)), &mut count);
+    if count.locked * count.free * count.refused * count.not_allowed == 0 {
+        fail("no sheet was locked, free or refused, or had no step that is not allowed");
     }
     println!(
         "charts: {} locked, {} free, {} refused, {} of traces, {} with a step not allowed; {} examples, {} random sheets, seed {}",
@@ -441,7 +515,7 @@ fn main() {
         count.free,
         count.refused,
         count.traces,
-        count.barred,
+        count.not_allowed,
         files.len(),
         sheets,
         seed

@@ -15,7 +15,17 @@ pub const BASE: u32 = 14;
 
 pub const ROW_HEIGHT: u32 = 20;
 
+// A board's head and foot.
+pub const HEAD_WIDTH: u32 = 72;
+
 pub const HEAD_HEIGHT: u32 = 26;
+
+// The bases of the title, of the line below it, and of the words of the first jammed board.
+pub const TITLE_BASE: u32 = 34;
+
+pub const REMARK_BASE: u32 = 58;
+
+pub const JAMS_BASE: u32 = 82;
 
 // The space at the page's sides.
 pub const MARGIN: u32 = 12;
@@ -55,12 +65,17 @@ fn span(columns: u32) -> u16 {
     CELL
 }
 
+// A board's bit in a set of boards.
+fn bit_of(board: u8) -> u32 {
+    1 << (board as u32 % BOARDS as u32)
+}
+
 // The boards that the sheet uses, a bit each.
 pub fn boards_used(boards: &[u8; EVENTS_MOST], messages: usize) -> u32 {
     let mut used = 0u32;
     for i in 0..EVENTS_MOST {
         if i / 2 < messages {
-            used |= 1 << (boards[i] % 16);
+            used |= bit_of(boards[i]);
         }
     }
     used
@@ -93,6 +108,12 @@ pub fn page_for(right: u16, rows: u16, jams: u16, jammed: u16) -> Page {
         rows,
         jammed,
     }
+}
+
+// The right side of what the page holds.
+pub fn right_of(page: Page) -> u32 {
+    let width = page.width as u32;
+    if width < MARGIN { 0 } else { width - MARGIN }
 }
 
 // The upper side of a row.

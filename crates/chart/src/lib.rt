@@ -19,12 +19,12 @@ use model::EVENTS_MOST;
 use rows::STEPS_MOST;
 use words::Verdict;
 
-// The words of a step that is not allowed: where they begin, right of its cross, and how many letters they have at most.
-const CROSS_RIGHT: u32 = 56;
+// The words of a step that is not allowed: how far from its cross they begin, or end, and how many letters they have at most.
+const CROSS_SPACE: u32 = 16;
 
 const STEP_LETTERS: u32 = 36;
 
-// The same of bytes that tell no step, right of their row's words.
+// The same of bytes that tell no step, which begin right of their row's words.
 const NO_STEP_LEFT: u32 = 230;
 
 const NO_STEP_LETTERS: u32 = 49;
@@ -41,8 +41,13 @@ fn take_course(text: &[u8], course: &mut [u16]) -> usize {
 // The words of a row, and a faint line behind what stands in it.
 fn begin_row(page: Page, class: u8, row: u16) {
     let top = layout::top_of(page, row) as u32;
-    let right = page.width as u32;
-    svg::line(svg::ROW, MARGIN, top + MIDDLE, right, top + MIDDLE);
+    svg::line(
+        svg::ROW,
+        MARGIN,
+        top + MIDDLE,
+        layout::right_of(page),
+        top + MIDDLE,
+    );
     svg::begin_text(class, MARGIN, top + BASE);
 }
 
@@ -112,16 +117,16 @@ fn draw_title(page: Page, subject: Subject) {
     report::print(b"; ");
     print_remark(subject);
     svg::end_title(width, height);
-    svg::begin_text(svg::TITLE, MARGIN, 34);
+    svg::begin_text(svg::TITLE, MARGIN, layout::TITLE_BASE);
     print_title(subject);
     svg::end_text();
-    svg::begin_text(svg::REMARK, MARGIN, 58);
+    svg::begin_text(svg::REMARK, MARGIN, layout::REMARK_BASE);
     print_remark(subject);
     svg::end_text();
 }
 
 // The verdict leaves a step that is not allowed.
-fn is_barred(verdict: Verdict) -> bool {
+fn is_not_allowed(verdict: Verdict) -> bool {
     if let Verdict::NotAllowed(_, _) = verdict {
         return true;
     }
@@ -139,7 +144,11 @@ fn is_free(verdict: Verdict) -> bool {
 fn row_behind(subject: Subject) -> u16 {
     let verdict = subject.verdict;
     let steps = (subject.steps % 8192) as u16;
-    if is_barred(verdict) { steps + 1 } else { steps }
+    if is_not_allowed(verdict) {
+        steps + 1
+    } else {
+        steps
+    }
 }
 
 // The row of the first event that is not done: in a free sheet the first of all, else behind the words of the jammed boards and a line.
@@ -152,19 +161,31 @@ fn first_row(subject: Subject, jams: u16) -> u16 {
 }
 
 // The step that is not allowed: its words, and a cross on its board's line where it tells one.
-fn draw_barred(page: Page, subject: Subject, boards: &[u8; EVENTS_MOST], columns: &[u16; BOARDS]) {
+fn draw_not_allowed(
+    page: Page,
+    subject: Subject,
+    boards: &[u8; EVENTS_MOST],
+    columns: &[u16; BOARDS],
+) {
     let verdict = subject.verdict;
     if let Verdict::NotAllowed(kind, message) = verdict {
         let row = (subject.steps % 8192) as u16;
         draw_step(page, kind, message, subject.steps as usize);
         if kind < 3 && (message as u32) < subject.messages {
             let x = messages::column_of_step(boards, columns, kind, message);
-            lines::begin_callout(page, x as u32 + CROSS_RIGHT, row, STEP_LETTERS);
+            let line = x as u32 + layout::LINE;
+            lines::begin_callout(
+                page,
+                line + CROSS_SPACE,
+                line - CROSS_SPACE,
+                row,
+                STEP_LETTERS,
+            );
             commands::print_not_allowed(row as u32, kind, message);
             svg::end_text();
             lines::draw_cross(page, x, row);
         } else {
-            lines::begin_callout(page, NO_STEP_LEFT, row, NO_STEP_LETTERS);
+            lines::begin_callout(page, NO_STEP_LEFT, NO_STEP_LEFT, row, NO_STEP_LETTERS);
             commands::print_not_allowed(row as u32, kind, message);
             svg::end_text();
         }
@@ -192,7 +213,7 @@ fn draw_marks(
     messages::draw_deliveries(page, boards, columns, taken, waits);
     messages::draw_events(page, free, boards, columns, taken, later, waits);
     lines::draw_jams(page, boards, columns, taken, waits, true);
-    draw_barred(page, subject, boards, columns);
+    draw_not_allowed(page, subject, boards, columns);
     draw_legend(page, free);
 }
 

@@ -2,6 +2,7 @@
 use crate::layout;
 use crate::layout::BASE;
 use crate::layout::HEAD_HEIGHT;
+use crate::layout::HEAD_WIDTH;
 use crate::layout::LINE;
 use crate::layout::MARGIN;
 use crate::layout::MIDDLE;
@@ -23,8 +24,8 @@ const AROUND: u32 = 8;
 // From a board's line to the ends of a cross.
 const CROSS: u32 = 9;
 
-// The words of the first jammed board, from the top of the page.
-const JAMS_TOP: u32 = 82;
+// The hatched line of a jammed board.
+const BAND_WIDTH: u32 = 16;
 
 fn draw_line(page: Page, x: u16) {
     let line = x as u32 + LINE;
@@ -44,7 +45,13 @@ pub fn draw_lines(page: Page, columns: &[u16; BOARDS]) {
 // A board's name in its head or foot.
 fn draw_name(jammed: bool, x: u16, y: u16, board: usize) {
     let frame = if jammed { svg::JAMMED } else { svg::HEAD };
-    svg::rect(frame, x as u32 + 4, y as u32, 72, HEAD_HEIGHT);
+    svg::rect(
+        frame,
+        x as u32 + LINE - HEAD_WIDTH / 2,
+        y as u32,
+        HEAD_WIDTH,
+        HEAD_HEIGHT,
+    );
     let class = if jammed { svg::JAMMED_NAME } else { svg::NAME };
     svg::begin_text(class, x as u32 + LINE, y as u32 + 17);
     words::print_board(board);
@@ -110,39 +117,54 @@ fn draw_under(page: Page, jam: Jam) {
     let top = layout::top_of(page, jam.from) as u32 + MIDDLE;
     let end = layout::top_of(page, row_of(page, jam)) as u32 + MIDDLE;
     if top < end {
-        svg::rect(svg::BAND, jam.x as u32 + 32, top, 16, end - top);
+        svg::rect(
+            svg::BAND,
+            jam.x as u32 + LINE - BAND_WIDTH / 2,
+            top,
+            BAND_WIDTH,
+            end - top,
+        );
     }
-    svg::begin_text(svg::JAM, MARGIN, JAMS_TOP + ROW_HEIGHT * jam.place as u32);
+    svg::begin_text(
+        svg::JAM,
+        MARGIN,
+        layout::JAMS_BASE + ROW_HEIGHT * jam.place as u32,
+    );
     words::print_jam(jam.board, jam.held, jam.event);
     svg::end_text();
 }
 
-// Where something stands that needs so much to the page's right side.
-fn placed(left: u32, right: u32, needed: u32) -> u32 {
-    if right < needed {
+// Where a box of a width stands: from `left` on, or up to `otherwise` where the page would end.
+fn placed(page: Page, left: u32, otherwise: u32, width: u32) -> u32 {
+    if left % 65536 + width % 65536 <= layout::right_of(page) {
         return left;
     }
-    let last = right - needed;
-    if last < left { last } else { left }
+    if otherwise < width {
+        0
+    } else {
+        otherwise - width
+    }
 }
 
-// A box for words, moved to the left where the page would end. What is printed next stands in it.
-pub fn begin_callout(page: Page, place: u32, row: u16, letters: u32) {
+// A box for words, from `left` on, or up to `otherwise` where the page would end. What is printed next stands in it.
+pub fn begin_callout(page: Page, left: u32, otherwise: u32, row: u16, letters: u32) {
     let width = letters % 128 * LETTER_TENTHS / 10 + 2 * AROUND;
-    let needed = width + MARGIN;
-    let from = placed(place % 65536, page.width as u32, needed);
+    let from = placed(page, left, otherwise, width) % 65536;
     let top = layout::top_of(page, row) as u32;
     svg::rect(svg::JAMMED, from, top, width, ROW_HEIGHT);
-    svg::begin_text(svg::CALLOUT, from % 65536 + AROUND, top + BASE);
+    svg::begin_text(svg::CALLOUT, from + AROUND, top + BASE);
 }
 
 // The words at the end of the board's line.
 fn draw_over(page: Page, jam: Jam) {
+    let letters = words::letters_of_jam(jam.board, jam.held, jam.event);
+    let right = layout::right_of(page);
     begin_callout(
         page,
         jam.x as u32 + LINE / 2,
+        right,
         row_of(page, jam),
-        words::letters_of_jam(jam.board, jam.held, jam.event),
+        letters,
     );
     words::print_jam(jam.board, jam.held, jam.event);
     svg::end_text();

@@ -14,14 +14,11 @@ abbrev μ-loop : tie.MeasureT-loop
 loop-holds : tie.Need-loop-holds Inv-loop μ-loop
 loop-holds c = search needs
 
-element-copy-out-used : tie.Need-element-copy-out-used Inv-loop μ-loop
-element-copy-out-used c = search needs
+element-copy-out-bit-of : tie.Need-element-copy-out-bit-of Inv-loop μ-loop
+element-copy-out-bit-of c = search needs
 
-cast-used : tie.Need-cast-used Inv-loop μ-loop
-cast-used c = search needs
-
-shl-used : tie.Need-shl-used Inv-loop μ-loop
-shl-used c = search needs
+bit-of-requires : tie.Need-bit-of-requires Inv-loop μ-loop
+bit-of-requires c κs = search needs
 
 add-i : tie.Need-add-i Inv-loop μ-loop
 add-i c = search needs
@@ -42,9 +39,8 @@ boards-used-spec =
     Inv-loop
     μ-loop
     loop-holds
-    element-copy-out-used
-    cast-used
-    shl-used
+    element-copy-out-bit-of
+    bit-of-requires
     add-i
     loop-less
     loop-again

@@ -1,15 +1,6 @@
 // `cure`: the loosest sheet that is free, as text.
-use libc::STDERR_FILENO;
 
-// The refusal goes to standard error, so that nothing of it can be taken for a sheet.
-fn print_refusal(number: u32, line: u32) {
-    io::write_all(STDERR_FILENO, b"refused ");
-    io::print_decimal(STDERR_FILENO, number as u64);
-    io::write_all(STDERR_FILENO, b" ");
-    io::print_decimal(STDERR_FILENO, line as u64);
-    io::write_all(STDERR_FILENO, b"\n");
-}
-
+// A refusal goes to standard error, so that nothing of it can be taken for a sheet.
 pub fn write(text: &[u8]) {
     let mut scratch = [0u64; model::SCRATCH_LEAST];
     let mut output = [0u8; model::SHEET_OUTPUT_LEAST];
@@ -18,6 +9,6 @@ pub fn write(text: &[u8]) {
         let end = a.one as usize % (model::SHEET_OUTPUT_LEAST + 1);
         report::print(&output[..end]);
     } else {
-        print_refusal(a.one, a.two);
+        commands::print_refusal(a.one, a.two);
     }
 }

@@ -31,26 +31,13 @@ fn held_on(trace: &[u8], boards: &[u8; EVENTS_MOST], board: usize) -> u8 {
     held
 }
 
-// The event, by what it is of its message.
-pub fn print_event(event: u16) {
-    report::print(b"event ");
-    report::print_decimal(event as u32);
-    if event % 2 == 0 {
-        report::print(b" (send of message ");
-    } else {
-        report::print(b" (receive of message ");
-    }
-    report::print_decimal(event as u32 / 2);
-    report::print(b")");
-}
-
 fn print_jam(board: usize, held: u8, event: u16) {
     report::print(b"board ");
     report::print_decimal((board % BOARDS) as u32);
     report::print(b" holds message ");
     report::print_decimal(held as u32);
     report::print(b" and waits for ");
-    print_event(event);
+    commands::print_event(event);
     report::print(b"\n");
 }
 

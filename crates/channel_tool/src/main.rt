@@ -51,6 +51,10 @@ fn print_usage() {
         STDERR_FILENO,
         b"       channel_tool taps LIST LIST < SHEET\n",
     );
+    io::write_all(
+        STDERR_FILENO,
+        b"       channel_tool chart CODE [TRACEFILE] < SHEET > CHART.svg\n",
+    );
 }
 
 // The words that name a channel code behind them.
@@ -73,6 +77,9 @@ fn answer_on(word: &[u8], code: u32) {
     } else if check::same(word, b"replay") {
         let n = io::read_full(STDIN_FILENO, &mut text);
         traces::print(&text[..n], code);
+    } else if check::same(word, b"chart") {
+        let n = io::read_full(STDIN_FILENO, &mut text);
+        chart::write(&text[..n], code);
     } else {
         print_usage();
     }

@@ -1,7 +1,6 @@
 // Why a step is forbidden, where its event is not ready: which event its board waits for.
 ghost use Prim.Native.Nat.{_*_, _<_};
 ghost use Rattle.scenario.specs.Contract.{Fit};
-use crate::jams;
 use expansion::Expanded;
 use monitor::Monitor;
 use relation::WIDTH;
@@ -19,7 +18,7 @@ fn print_wait(words: &[u64], boards: &[u8], count: usize, done: &[u64; WIDTH], x
         report::print(b"board ");
         report::print_decimal((board::board_of(boards, x) % model::BOARDS) as u32);
         report::print(b" waits for ");
-        jams::print_event((k % model::EVENTS_MOST) as u16);
+        commands::print_event((k % model::EVENTS_MOST) as u16);
         report::print(b"\n");
     }
 }

@@ -1,0 +1,55 @@
+-- `traces::print` is safe and ends. Assumes nothing.
+use native.Mathlib.Omega.{arith}
+use lib.ListN.{length-take}
+use borrow.Author.Needs.{needs}
+use Rattle.channel_tool.proofs.traces.print.Statement.{statement}
+use Rattle.channel_tool.proofs.traces.print.Tie as tie
+
+slice-aggregate-read-trace : tie.Need-slice-aggregate-read-trace
+slice-aggregate-read-trace c = search needs
+
+read-trace-requires : tie.Need-read-trace-requires
+read-trace-requires c κs = search needs
+
+enum-known-n : tie.Need-enum-known-n
+enum-known-n c = search needs
+
+add-end : tie.Need-add-end
+add-end c = search needs
+
+rem-end : tie.Need-rem-end
+rem-end c = search needs
+
+array-share-prefix-trace : tie.Need-array-share-prefix-trace
+array-share-prefix-trace c = search needs
+
+slice-aggregate-judge : tie.Need-slice-aggregate-judge
+slice-aggregate-judge c = simp length-take (omega arith)
+
+judge-requires : tie.Need-judge-requires
+judge-requires c κs = search needs
+
+enum-told : tie.Need-enum-told
+enum-told c = search needs
+
+returns : tie.Need-returns
+returns c = search needs
+
+returns-2 : tie.Need-returns-2
+returns-2 c = search needs
+
+pub print-spec : {M : Type 1} → statement M
+print-spec =
+    tie.close
+    (tie.spec
+    slice-aggregate-read-trace
+    read-trace-requires
+    enum-known-n
+    add-end
+    rem-end
+    array-share-prefix-trace
+    slice-aggregate-judge
+    judge-requires
+    enum-told
+    returns
+    returns-2)

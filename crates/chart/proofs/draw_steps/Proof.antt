@@ -1,0 +1,58 @@
+-- `draw_steps` is safe and ends. Assumes nothing.
+use Prim.Native.Nat.{_≤_, _-_}
+use borrow.Author.Needs.{needs}
+use Rattle.chart.proofs.draw_steps.Statement.{statement}
+use Rattle.chart.proofs.draw_steps.Tie as tie
+
+abbrev Inv-loop : tie.InvT-loop
+Inv-loop page trace i₀ i-end i = i ≤ i-end
+
+abbrev μ-loop : tie.MeasureT-loop
+μ-loop page trace i₀ i-end i = i-end - i
+
+loop-holds : tie.Need-loop-holds Inv-loop μ-loop
+loop-holds c = search needs
+
+mul-at : tie.Need-mul-at Inv-loop μ-loop
+mul-at c = search needs
+
+add-behind : tie.Need-add-behind Inv-loop μ-loop
+add-behind c = search needs
+
+shared-slice-read-draw-step : tie.Need-shared-slice-read-draw-step Inv-loop μ-loop
+shared-slice-read-draw-step c = search needs
+
+shared-slice-read-draw-step-2 : tie.Need-shared-slice-read-draw-step-2 Inv-loop μ-loop
+shared-slice-read-draw-step-2 c = search needs
+
+draw-step-requires : tie.Need-draw-step-requires Inv-loop μ-loop
+draw-step-requires c κs = search needs
+
+add-i : tie.Need-add-i Inv-loop μ-loop
+add-i c = search needs
+
+loop-less : tie.Need-loop-less Inv-loop μ-loop
+loop-less c = search needs
+
+loop-again : tie.Need-loop-again Inv-loop μ-loop
+loop-again c = search needs
+
+returns : tie.Need-returns Inv-loop μ-loop
+returns c = search needs
+
+pub draw-steps-spec : {M : Type 1} → statement M
+draw-steps-spec =
+    tie.close
+    (tie.spec
+    Inv-loop
+    μ-loop
+    loop-holds
+    mul-at
+    add-behind
+    shared-slice-read-draw-step
+    shared-slice-read-draw-step-2
+    draw-step-requires
+    add-i
+    loop-less
+    loop-again
+    returns)

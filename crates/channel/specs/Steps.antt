@@ -16,6 +16,10 @@ use Rattle.step.specs.Steps.{stepIn, eventIn}
 use Rattle.run.specs.State.{bufferOf, stateOf}
 use Rattle.buffers.specs.Held.{HeldIn}
 
+-- a buffer that holds this row
+abbrev pub bufferWith : List ℕ → Buffer
+bufferWith held = record { held = held }
+
 -- the scenario of `count` messages, event k being on board `getD on k 0`
 module _ (count : ℕ) (on words : List ℕ) where
   -- the step is allowed in the state of the run

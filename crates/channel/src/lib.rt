@@ -5,7 +5,7 @@ ghost use lib.ListN.{length};
 ghost use Rattle.relation.specs.Width.{width};
 ghost use Rattle.board.specs.Masks.{maskRows, Standing};
 ghost use Rattle.step.specs.Steps.{messageIn};
-ghost use Rattle.channel.specs.Steps.{Says, SaysStep, SaysIn, HeldUp};
+ghost use Rattle.channel.specs.Steps.{bufferWith, Says, SaysStep, SaysIn, HeldUp};
 use board::board_of;
 use buffers::HELD_WORDS;
 use channel_table::Channel;
@@ -25,12 +25,12 @@ fn may_send<'a>(
     c: Channel,
     done: &'a [u64; WIDTH],
     way: &'a [u64; WIDTH],
-    sender: Buffer,
+    sender: &'a [u64; WIDTH],
     m: usize,
 ) -> bool
     requires { ⌜ Standing count (now boards) (now words) (now masks) ⌝ }
     requires { ⌜ m < count ⌝ }
-    ensures { λ r. ⌜ SaysStep count (now (boards .entry)) (now (words .entry)) c (now (done .entry)) (now (way .entry)) sender (Step.Send m) r ⌝ }
+    ensures { λ r. ⌜ SaysStep count (now (boards .entry)) (now (words .entry)) c (now (done .entry)) (now (way .entry)) (bufferWith (now (sender .entry))) (Step.Send m) r ⌝ }
 {
     let send = 2 * m;
     let readiness = rules::readiness_of(words, masks, boards, count, done, send);
@@ -47,19 +47,19 @@ fn may_send<'a>(
 }
 
 // Message m may be delivered: it is under way, its board, the buffer's, is free, and the further condition holds.
-fn may_deliver(
+fn may_deliver<'a>(
     words: &[u64],
     masks: &[u64],
     boards: &[u8],
     count: usize,
     c: Channel,
-    way: &[u64; WIDTH],
-    receiver: Buffer,
+    way: &'a [u64; WIDTH],
+    receiver: &'a [u64; WIDTH],
     m: usize,
 ) -> bool
     requires { ⌜ Standing count (now boards) (now words) (now masks) ⌝ }
     requires { ⌜ m < count ⌝ }
-    ensures { λ r. ⌜ ((done : List ℕ) → SaysStep count (now (boards .entry)) (now (words .entry)) c done (now (way .entry)) receiver (Step.Deliver m) r) ⌝ }
+    ensures { λ r. ⌜ ((done : List ℕ) → SaysStep count (now (boards .entry)) (now (words .entry)) c done (now (way .entry)) (bufferWith (now (receiver .entry))) (Step.Deliver m) r) ⌝ }
 {
     let send = 2 * m;
     if !relation::test(way, 0, send) {
@@ -75,21 +75,21 @@ fn may_deliver(
 }
 
 // Message m may be consumed: it is in its target's buffer and its receive is ready.
-fn may_consume(
+fn may_consume<'a>(
     words: &[u64],
     masks: &[u64],
     boards: &[u8],
     count: usize,
-    done: &[u64; WIDTH],
-    receiver: Buffer,
+    done: &'a [u64; WIDTH],
+    receiver: &'a [u64; WIDTH],
     m: usize,
 ) -> bool
     requires { ⌜ Standing count (now boards) (now words) (now masks) ⌝ }
     requires { ⌜ m < count ⌝ }
-    ensures { λ r. ⌜ ((c : Channel) (way : List ℕ) → SaysStep count (now (boards .entry)) (now (words .entry)) c (now (done .entry)) way receiver (Step.Consume m) r) ⌝ }
+    ensures { λ r. ⌜ ((c : Channel) (way : List ℕ) → SaysStep count (now (boards .entry)) (now (words .entry)) c (now (done .entry)) way (bufferWith (now (receiver .entry))) (Step.Consume m) r) ⌝ }
 {
     let send = 2 * m;
-    if !relation::test(&receiver.held, 0, send) {
+    if !relation::test(receiver, 0, send) {
         return false;
     }
     let receive = send + 1;
@@ -101,7 +101,30 @@ fn may_consume(
     }
 }
 
-// The step is allowed, by the parts of a run that it reads: what is done, what is under way, and the buffer of its board.
+// The step is allowed, by the parts of a run that it reads: what is done, what is under way, and what the buffer of its board holds.
+fn allowed_by<'a>(
+    words: &[u64],
+    masks: &[u64],
+    boards: &[u8],
+    count: usize,
+    c: Channel,
+    done: &'a [u64; WIDTH],
+    way: &'a [u64; WIDTH],
+    held: &'a [u64; WIDTH],
+    step: Step,
+) -> bool
+    requires { ⌜ Standing count (now boards) (now words) (now masks) ⌝ }
+    requires { ⌜ messageIn step < count ⌝ }
+    ensures { λ r. ⌜ SaysStep count (now (boards .entry)) (now (words .entry)) c (now (done .entry)) (now (way .entry)) (bufferWith (now (held .entry))) step r ⌝ }
+{
+    match step {
+        Step::Send(m) => may_send(words, masks, boards, count, c, done, way, held, m),
+        Step::Deliver(m) => may_deliver(words, masks, boards, count, c, way, held, m),
+        Step::Consume(m) => may_consume(words, masks, boards, count, done, held, m),
+    }
+}
+
+// The same, of the buffer of its board. For single use: each call copies the buffer.
 pub fn allowed<'a>(
     words: &[u64],
     masks: &[u64],
@@ -117,26 +140,32 @@ pub fn allowed<'a>(
     requires { ⌜ messageIn step < count ⌝ }
     ensures { λ r. ⌜ SaysStep count (now (boards .entry)) (now (words .entry)) c (now (done .entry)) (now (way .entry)) buffer step r ⌝ }
 {
-    match step {
-        Step::Send(m) => may_send(words, masks, boards, count, c, done, way, buffer, m),
-        Step::Deliver(m) => may_deliver(words, masks, boards, count, c, way, buffer, m),
-        Step::Consume(m) => may_consume(words, masks, boards, count, done, buffer, m),
-    }
+    allowed_by(
+        words,
+        masks,
+        boards,
+        count,
+        c,
+        done,
+        way,
+        &buffer.held,
+        step,
+    )
 }
 
 // A send or a delivery on a board that is not free: most steps that a search tries are. Asked ahead of the rest, because it is soon told.
-fn held_up(masks: &[u64], eager: bool, buffer: Buffer, step: Step) -> bool
+fn held_up(masks: &[u64], eager: bool, held: &[u64; WIDTH], step: Step) -> bool
     requires { ⌜ maskRows * width ≤ length (now masks) ⌝ }
-    ensures { λ r. ⌜ HeldUp (now (masks .entry)) eager buffer step r ⌝ }
+    ensures { λ r. ⌜ HeldUp (now (masks .entry)) eager (bufferWith (now (held .entry))) step r ⌝ }
 {
     match step {
-        Step::Send(_) => !rules::board_free(masks, eager, buffer),
-        Step::Deliver(_) => !rules::board_free(masks, eager, buffer),
+        Step::Send(_) => !rules::board_free(masks, eager, held),
+        Step::Deliver(_) => !rules::board_free(masks, eager, held),
         Step::Consume(_) => false,
     }
 }
 
-// The same, of the buffers in rows.
+// The step is allowed, by the parts of a run, with its buffers in rows.
 pub fn may_step<'a>(
     words: &[u64],
     masks: &[u64],
@@ -154,10 +183,20 @@ pub fn may_step<'a>(
 {
     let board = board_at(boards, step);
     let buffer = buffers::buffer_at(rows, board);
-    if held_up(masks, c.eager, buffer, step) {
+    if held_up(masks, c.eager, &buffer.held, step) {
         return false;
     }
-    allowed(words, masks, boards, count, c, done, way, buffer, step)
+    allowed_by(
+        words,
+        masks,
+        boards,
+        count,
+        c,
+        done,
+        way,
+        &buffer.held,
+        step,
+    )
 }
 
 // The step is allowed in the run. For single use: each call copies the run. No step on an unknown message is allowed.

@@ -19,7 +19,6 @@ use channel_table::ToDeliver;
 use channel_table::ToSend;
 use relation::Found;
 use relation::WIDTH;
-use run::Buffer;
 use run::without;
 
 // An event is ready; or done already; or it waits for the lowest event before it on its board that is not yet done.
@@ -53,13 +52,13 @@ pub fn readiness_of(
     }
 }
 
-// An eager board sends, or takes a delivery, only while its buffer is empty.
-pub fn board_free(masks: &[u64], eager: bool, buffer: Buffer) -> bool
+// An eager board sends, or takes a delivery, only while its buffer holds nothing.
+pub fn board_free(masks: &[u64], eager: bool, held: &[u64; WIDTH]) -> bool
     requires { ⌜ maskRows * width ≤ length (now masks) ⌝ }
-    ensures { λ r. ⌜ r ≡ freeIn eager (now (masks .entry)) (buffer .held) ⌝ }
+    ensures { λ r. ⌜ r ≡ freeIn eager (now (masks .entry)) (now (held .entry)) ⌝ }
 {
     if eager {
-        none_of(masks, SENDS, &buffer.held)
+        none_of(masks, SENDS, held)
     } else {
         true
     }

@@ -17,11 +17,11 @@ held-up-requires c κs = search needs
 returns : tie.Need-returns
 returns c = search held-up-in
 
-allowed-requires : tie.Need-allowed-requires
-allowed-requires c κs = search needs
+allowed-by-requires : tie.Need-allowed-by-requires
+allowed-by-requires c κs = search needs
 
 returns-2 : tie.Need-returns-2
 returns-2 c = search by-buffer
 
 pub may-step-spec : {M : Type 1} → statement M
-may-step-spec = tie.close (tie.spec board-at-requires buffer-at-requires held-up-requires returns allowed-requires returns-2)
+may-step-spec = tie.close (tie.spec board-at-requires buffer-at-requires held-up-requires returns allowed-by-requires returns-2)

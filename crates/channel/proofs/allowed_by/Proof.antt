@@ -1,9 +1,9 @@
--- `channel::allowed` meets its contract. Assumes nothing.
+-- `channel::allowed_by` meets its contract. Assumes nothing.
 use borrow.Author.Needs.{needs}
 use Rattle.step.specs.declared.Step.the-variants.{Send, Deliver, Consume}
 use Rattle.channel.proofs.StepTests.{inside, step-sends, step-delivers, step-consumes}
-use Rattle.channel.proofs.allowed.Statement.{statement}
-use Rattle.channel.proofs.allowed.Tie as tie
+use Rattle.channel.proofs.allowed_by.Statement.{statement}
+use Rattle.channel.proofs.allowed_by.Tie as tie
 
 enum-known-step : tie.Need-enum-known-step
 enum-known-step c = search needs
@@ -32,8 +32,8 @@ returns-2 c = search step-delivers
 returns-3 : tie.Need-returns-3
 returns-3 c = search step-consumes
 
-pub allowed-spec : {M : Type 1} → statement M
-allowed-spec =
+pub allowed-by-spec : {M : Type 1} → statement M
+allowed-by-spec =
     tie.close
     (tie.spec
     enum-known-step

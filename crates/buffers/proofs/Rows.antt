@@ -7,7 +7,7 @@ use native.Mathlib.Nat.{zero-add, not-suc-le-zero}
 use native.Mathlib.Decide.{ℕ-discrete, decLt}
 use native.Mathlib.Omega.{arith}
 use lib.Bits.{bitAnd, bitOr}
-use lib.ListN.{length, getD, set, replicate, length-set, length-replicate, List·getD-eq-default}
+use lib.ListN.{length, getD, set, replicate, length-set, length-replicate, getD-replicate, List·getD-eq-default}
 use lib.Seq.{ext-getD, getD-set-same, getD-set-other}
 use Rattle.model.specs.Limits.{messagesMost}
 use Rattle.model.proofs.Lists.{replicate-at}
@@ -25,6 +25,7 @@ use Rattle.step.specs.declared.Step.the-variants.{Send, Deliver, Consume}
 use Rattle.step.specs.Steps.{messageIn}
 use Rattle.run.specs.State.{inRow, bufferOf, HeldBehind}
 use Rattle.run.proofs.Rows.{with-bit, without-bit}
+use Rattle.run.proofs.States.{start-run, starts}
 use Rattle.relation.proofs.Words.{alone-row}
 use Rattle.buffers.specs.Held.{HeldIn, RowsBehind}
 
@@ -79,6 +80,20 @@ laid-more run rows now b buffer p e j h =
 pub laid-all : (run : Run) (rows : List ℕ) (b : ℕ) → Laid run rows b → boardsMost ≤ b → length (run .buffers) ≡ boardsMost → HeldIn run rows
 laid-all run rows b p h l =
     record { boards = l; long = λ a g. p .long a (omega arith); words = λ a i g m. p .words a i (omega arith) m }
+
+-- at the start of a run all rows are empty
+pub start-laid : HeldIn start-run (replicate (boardsMost * width) 0)
+start-laid =
+    record {
+      boards = starts .boards;
+      long = λ b h. ap (λ (u : Buffer). length (u .held)) (empty b h) ∙ length-replicate {A = ℕ} width 0;
+      words = λ b i h l.
+          replicate-at (boardsMost * width) (b * width + i) 0
+          ∙ sym (ap (λ (u : Buffer). getD (u .held) i 0) (empty b h) ∙ replicate-at width i 0);
+    }
+  where
+    empty : (b : ℕ) → b < boardsMost → bufferOf start-run b ≡ record { held = replicate width 0 }
+    empty b h = getD-replicate boardsMost b (record { held = replicate width 0 }) (record { held = [] }) h
 
 -- a run with one buffer changed: that buffer, and the others as they were
 module _ (run : Run) (b : ℕ) (own : List ℕ) where

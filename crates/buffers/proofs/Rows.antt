@@ -1,4 +1,4 @@
--- The buffers of a run in rows, a row a board: laid out row by row, and read back. Assumes nothing.
+-- The buffers of a run in rows, a row a board: laid out row by row, changed step by step, and read. Assumes nothing.
 use mathlib.Core.Path.{_≡_, refl, sym, ap, _∙_, subst⁻¹}
 use mathlib.Core.Bool.{false}
 use mathlib.Core.List.{List, []}
@@ -8,7 +8,7 @@ use native.Mathlib.Decide.{ℕ-discrete, decLt}
 use native.Mathlib.Omega.{arith}
 use lib.Bits.{bitAnd, bitOr}
 use lib.ListN.{length, getD, set, replicate, length-set, length-replicate, getD-replicate, List·getD-eq-default}
-use lib.Seq.{ext-getD, getD-set-same, getD-set-other}
+use lib.Seq.{getD-set-same, getD-set-other}
 use Rattle.model.specs.Limits.{messagesMost}
 use Rattle.model.proofs.Lists.{replicate-at}
 use Rattle.relation.specs.Width.{width, wordBits}
@@ -194,22 +194,6 @@ module _ (s : Step) (n : ℕ) (rows : List ℕ) (b : ℕ) where
 
   pub unmarked-consumed : (m : ℕ) (now : List ℕ) → m ≡ messageIn s → s ≡ Consume n → now ≡ unmarked width rows b (2 * m) → RowsBehind rows b s now
   unmarked-consumed m now message i e = subst⁻¹ (λ t. RowsBehind rows b t now) i (e ∙ ap (λ (k : ℕ). unmarked width rows b (2 * k)) (message ∙ ap messageIn i))
-
--- the buffer read back from its row
-pub read-back : (rows held : List ℕ) (board : ℕ) → held ≡ joinedFrom width (replicate width 0) 0 rows board → board < boardsMost
-    → (run : Run) → HeldIn run rows → bufferOf run board ≡ record { held = held }
-read-back rows held board j l run p = ap (λ (w : List ℕ). record { held = w }) same
-  where
-    long : length held ≡ width
-    long = ap length j ∙ length-joined-from width (replicate width 0) 0 rows board
-
-    word : (i : ℕ) → i < width → getD held i 0 ≡ getD rows (board * width + i) 0
-    word i h = rw j (ap (λ (k : ℕ). getD (joinedFrom width (replicate width 0) 0 rows board) k 0) (sym (zero-add i)) ∙ joined-word (replicate width 0) 0 rows board i (omega arith) h (replicate-at width (0 * width + i) 0))
-
-    same : bufferOf run board .held ≡ held
-    same =
-        ext-getD 0 (bufferOf run board .held) held (p .long board l ∙ sym long) (λ i h. let g : i < width = omega (arith, p .long board l) in
-        sym (word i g ∙ p .words board i l g))
 
 -- an event is in a board's row if its buffer holds it
 pub row-holds : (run : Run) (rows : List ℕ) (b k : ℕ) → HeldIn run rows → b < boardsMost → k < wordBits * width

@@ -7,7 +7,6 @@ ghost use Rattle.relation.specs.Width.{width};
 ghost use Rattle.relation.specs.Rows.{joinedFrom};
 ghost use Rattle.board.specs.Boards.{boardsMost};
 ghost use Rattle.step.specs.Steps.{messageIn};
-ghost use Rattle.run.specs.State.{bufferOf};
 ghost use Rattle.buffers.specs.Held.{HeldIn, RowsBehind};
 use relation::WIDTH;
 use run::Buffer;
@@ -49,14 +48,4 @@ pub fn rows_behind(rows: &mut [u64; HELD_WORDS], target: usize, step: Step)
         Step::Deliver(_) => relation::mark(rows, target, send),
         Step::Consume(_) => relation::unmark(rows, target, send),
     }
-}
-
-// The buffer of a board, from its row.
-pub fn buffer_at(rows: &[u64; HELD_WORDS], board: usize) -> Buffer
-    requires { ⌜ board < boardsMost ⌝ }
-    ensures { λ r. ⌜ ((run : Run) → HeldIn run (now (rows .entry)) → bufferOf run board ≡ r) ⌝ }
-{
-    let mut held = [0u64; WIDTH];
-    relation::join_from(&mut held, 0, rows, board);
-    Buffer { held }
 }

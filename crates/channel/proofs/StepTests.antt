@@ -1,17 +1,17 @@
 -- A step is allowed: the tests of the code, one behind the other, are the model's. Assumes nothing.
 use mathlib.Core.Path.{_≡_, refl, sym, _∙_, ap, subst, subst⁻¹}
-use mathlib.Core.Bool.{Bool, true, false, and-false}
+use mathlib.Core.Bool.{Bool, true, false, not, and-false}
 use mathlib.Core.List.{List}
 use Prim.Native.Nat.{ℕ, _+_, _*_, _<_, _≤_}
 use native.Mathlib.Decide.{decLt}
 use native.Mathlib.Omega.{arith}
 use lib.ListN.{getD}
-use borrow.Author.Tests.{lt-ltb, le-ltb}
+use borrow.Author.Tests.{lt-ltb, le-ltb, not-true, not-false}
 use Rattle.model.specs.Limits.{messagesMost}
 use Rattle.model.specs.Order.{Event, sendOf, receiveOf, Scenario}
 use Rattle.model.specs.Channel as model
 use Rattle.model.specs.Run as model-run
-use Rattle.model.specs.Run.{State, send, deliver, consume, ready, allowed}
+use Rattle.model.specs.Run.{State, send, deliver, consume, ready, boardFree, allowed}
 use Rattle.model.specs.Waits.{readiness}
 use Rattle.model.specs.Schedule.{messageOfStep}
 use Rattle.model.proofs.Bounded.{not-both}
@@ -27,7 +27,7 @@ use Rattle.run.specs.declared.Buffer.{Buffer}
 use Rattle.run.specs.declared.Run.{Run}
 use Rattle.step.specs.declared.Step.{Step}
 use Rattle.step.specs.declared.Step.the-variants.{Send, Deliver, Consume}
-use Rattle.step.specs.Steps.{stepIn, messageIn}
+use Rattle.step.specs.Steps.{stepIn, messageIn, eventIn}
 use Rattle.run.specs.State.{inRow, stateOf, BoardAt}
 use Rattle.buffers.proofs.Rows.{row-holds}
 use Rattle.rules.specs.Tests.{freeIn}
@@ -35,10 +35,10 @@ use Rattle.rules.specs.declared.Readiness.{Readiness}
 use Rattle.rules.specs.declared.Readiness.the-variants.{Ready, Done, Waits}
 use Rattle.rules.specs.Rules.{BufferRow, readinessIn, SaysReadiness, SaysSendRule, SaysDeliverRule}
 use Rattle.rules.proofs.Conditions.{free-says}
-use Rattle.channel.specs.Steps.{Says, SaysRow, SaysStep, SaysIn}
+use Rattle.channel.specs.Steps.{heldUp, Says, SaysFree, SaysRow, SaysStep, SaysIn}
 
 module _ (count : ℕ) (on words masks : List ℕ) (standing : Standing count on words masks) (m : ℕ) (inside : m < count) where
-  module _ (c : Channel) (way held : List ℕ) (y : ℕ) where
+  module _ (c : Channel) (way : List ℕ) where
     module _ (done : List ℕ) where
       -- the send's readiness, as the model's question whether it is ready
       send-read : (r : Readiness) → SaysReadiness count on words done (2 * m) r → (run : Run) → run .done ≡ done
@@ -48,48 +48,35 @@ module _ (count : ℕ) (on words masks : List ℕ) (standing : Standing count on
           ∙ ap readyOf (subst (λ (x : Event). readiness (scenarioIn count on words) (stateOf run) x ≡ readinessIn r) (send-event m) (sym (h run d)))
 
       send-unready : (r : Readiness) → readyOf (readinessIn r) ≡ false → SaysReadiness count on words done (2 * m) r
-          → SaysRow count on words c done way held y (Send m) false
+          → SaysFree count on words c done way (Send m) false
       unfolding allowed
-      send-unready r f h run d w b = rw (lt-ltb m count inside, send-read r h run d, f)
+      send-unready r f h run d w free = rw (lt-ltb m count inside, send-read r h run d, f)
 
-      pub send-done : (r : Readiness) → r ≡ Done → SaysReadiness count on words done (2 * m) r → SaysRow count on words c done way held y (Send m) false
+      pub send-done : (r : Readiness) → r ≡ Done → SaysReadiness count on words done (2 * m) r → SaysFree count on words c done way (Send m) false
       send-done r e h = send-unready r (ap (λ (q : Readiness). readyOf (readinessIn q)) e) h
 
-      pub send-waits : (r : Readiness) (k : ℕ) → r ≡ Waits k → SaysReadiness count on words done (2 * m) r → SaysRow count on words c done way held y (Send m) false
+      pub send-waits : (r : Readiness) (k : ℕ) → r ≡ Waits k → SaysReadiness count on words done (2 * m) r → SaysFree count on words c done way (Send m) false
       send-waits r k e h = send-unready r (ap (λ (q : Readiness). readyOf (readinessIn q)) e) h
 
-      pub send-unfree : (t : Bool) → t ≡ false → t ≡ freeIn (c .eager) masks held y → SaysRow count on words c done way held y (Send m) false
+      pub send-ruled : (r : Readiness) (u : Bool) → SaysSendRule words masks (c .«to_send») way m u → r ≡ Ready → SaysReadiness count on words done (2 * m) r
+          → SaysFree count on words c done way (Send m) u
       unfolding allowed
-      send-unfree t f g run d w b =
-          rw (sym (free-says count on words masks standing (channelIn c) run (getD on (2 * m) 0) held y b) ∙ sym g ∙ f, and-false)
-
-      pub send-ruled : (r : Readiness) (t u : Bool) → SaysSendRule words masks (c .«to_send») way m u → r ≡ Ready → t ≡ true
-          → SaysReadiness count on words done (2 * m) r → t ≡ freeIn (c .eager) masks held y → SaysRow count on words c done way held y (Send m) u
-      unfolding allowed
-      send-ruled r t u k p q h g run d w b =
-          rw (lt-ltb m count inside, send-read r h run d ∙ ap (λ (q : Readiness). readyOf (readinessIn q)) p, ← free-says count on words masks standing (channelIn c) run (getD on (2 * m) 0) held y b, ← g, q)
+      send-ruled r u k p h run d w free =
+          rw (lt-ltb m count inside, send-read r h run d ∙ ap (λ (q : Readiness). readyOf (readinessIn q)) p, free)
           (k count on standing inside (channelIn c) run refl w)
 
     under : (run : Run) → run .way ≡ way → inRow (run .way) (2 * m) ≡ holds width way 0 (2 * m)
     under run w = ap (λ (l : List ℕ). inRow l (2 * m)) w
 
-    pub deliver-absent : (r : Bool) → r ≡ false → r ≡ holds width way 0 (2 * m) → (done : List ℕ) → SaysRow count on words c done way held y (Deliver m) false
+    pub deliver-absent : (r : Bool) → r ≡ false → r ≡ holds width way 0 (2 * m) → (done : List ℕ) → SaysFree count on words c done way (Deliver m) false
     unfolding allowed
-    deliver-absent r f e done run d w b = rw (lt-ltb m count inside, under run w, ← e, f)
+    deliver-absent r f e done run d w free = rw (lt-ltb m count inside, under run w, ← e, f)
 
-    pub deliver-unfree : (r t : Bool) → r ≡ true → t ≡ false → r ≡ holds width way 0 (2 * m) → t ≡ freeIn (c .eager) masks held y
-        → (done : List ℕ) → SaysRow count on words c done way held y (Deliver m) false
+    pub deliver-ruled : (r u : Bool) (target : ℕ) → SaysDeliverRule words masks (c .«to_deliver») way target m u → r ≡ true → r ≡ holds width way 0 (2 * m)
+        → target ≡ getD on (2 * m + 1) 0 → (done : List ℕ) → SaysFree count on words c done way (Deliver m) u
     unfolding allowed
-    deliver-unfree r t p f e g done run d w b =
-        rw (lt-ltb m count inside, under run w, ← e, p, ← free-says count on words masks standing (channelIn c) run (getD on (2 * m + 1) 0) held y b, ← g, f)
-
-    pub deliver-ruled : (r t u : Bool) (target : ℕ) → SaysDeliverRule words masks (c .«to_deliver») way target m u → r ≡ true → t ≡ true
-        → r ≡ holds width way 0 (2 * m) → t ≡ freeIn (c .eager) masks held y → target ≡ getD on (2 * m + 1) 0
-        → (done : List ℕ) → SaysRow count on words c done way held y (Deliver m) u
-    unfolding allowed
-    deliver-ruled r t u target k p q e g i done run d w b =
-        rw (lt-ltb m count inside, under run w, ← e, p, ← free-says count on words masks standing (channelIn c) run (getD on (2 * m + 1) 0) held y b, ← g, q)
-        (k count on standing inside i (channelIn c) run refl w)
+    deliver-ruled r u target k p e i done run d w free =
+        rw (lt-ltb m count inside, under run w, ← e, p, free) (k count on standing inside i (channelIn c) run refl w)
 
   module _ (done held : List ℕ) (y : ℕ) where
     few : 2 * m < wordBits * width
@@ -124,26 +111,69 @@ module _ (count : ℕ) (on words masks : List ℕ) (standing : Standing count on
 pub inside : (at : ℕ → Step) (step : Step) (m count : ℕ) → step ≡ at m → messageIn step < count → messageIn (at m) < count
 inside at step m count i h = rw i at h
 
-module _ (count : ℕ) (on words : List ℕ) (c : Channel) (step : Step) (m : ℕ) (done way held : List ℕ) (y : ℕ) (r : Bool) where
-  pub step-sends : step ≡ Send m → SaysRow count on words c done way held y (Send m) r → SaysRow count on words c done way held y step r
-  step-sends i = subst⁻¹ (λ (s : Step). SaysRow count on words c done way held y s r) i
+-- what it says of runs in which the board is free, it says of those with the board's buffer, where the step is not held up
+module _ (count : ℕ) (on words masks : List ℕ) (standing : Standing count on words masks) (c : Channel) (done way held : List ℕ) (y : ℕ) where
+  where-free : (t : Step) (r : Bool) → not (freeIn (c .eager) masks held y) ≡ false → SaysFree count on words c done way t r
+      → SaysRow count on words c done way held y t r
+  where-free t r up h run d w b =
+      h run d w (sym (free-says count on words masks standing (channelIn c) run (getD on (eventIn t) 0) held y b) ∙ not-false (freeIn (c .eager) masks held y) up)
 
-  pub step-delivers : step ≡ Deliver m → ((d : List ℕ) → SaysRow count on words c d way held y (Deliver m) r)
-      → SaysRow count on words c done way held y step r
-  step-delivers i h = subst⁻¹ (λ (s : Step). SaysRow count on words c done way held y s r) i (h done)
+  module _ (step : Step) (m : ℕ) (r : Bool) where
+    pub step-sends : step ≡ Send m → SaysFree count on words c done way (Send m) r → heldUp (c .eager) masks held y step ≡ false
+        → SaysRow count on words c done way held y step r
+    step-sends i h =
+        subst⁻¹ (λ (s : Step). heldUp (c .eager) masks held y s ≡ false → SaysRow count on words c done way held y s r) i (λ up. where-free (Send m) r up h)
 
-  pub step-consumes : step ≡ Consume m → ((k : Channel) (w : List ℕ) → SaysRow count on words k done w held y (Consume m) r)
-      → SaysRow count on words c done way held y step r
-  step-consumes i h = subst⁻¹ (λ (s : Step). SaysRow count on words c done way held y s r) i (h c way)
+    pub step-delivers : step ≡ Deliver m → ((d : List ℕ) → SaysFree count on words c d way (Deliver m) r) → heldUp (c .eager) masks held y step ≡ false
+        → SaysRow count on words c done way held y step r
+    step-delivers i h =
+        subst⁻¹ (λ (s : Step). heldUp (c .eager) masks held y s ≡ false → SaysRow count on words c done way held y s r) i (λ up. where-free (Deliver m) r up (h done))
+
+    pub step-consumes : step ≡ Consume m → ((k : Channel) (w : List ℕ) → SaysRow count on words k done w held y (Consume m) r)
+        → SaysRow count on words c done way held y step r
+    step-consumes i h = subst⁻¹ (λ (s : Step). SaysRow count on words c done way held y s r) i (h c way)
+
+  -- a step that is held up is not allowed
+  unfree : (run : Run) (b : ℕ) → BufferRow run b held y → not (freeIn (c .eager) masks held y) ≡ true
+      → boardFree (scenarioIn count on words) (channelIn c) (stateOf run) b ≡ false
+  unfree run b h up = sym (free-says count on words masks standing (channelIn c) run b held y h) ∙ not-true (freeIn (c .eager) masks held y) up
+
+  never : (t : Step) → heldUp (c .eager) masks held y t ≡ true → SaysRow count on words c done way held y t false
+  unfolding allowed
+  never (Send m) up run d w b = rw (unfree run (getD on (2 * m) 0) b up, and-false)
+  never (Deliver m) up run d w b = rw (unfree run (getD on (2 * m + 1) 0) b up, and-false)
+  never (Consume m) up run d w b = not-both false up refl
+
+-- what each return of `held_up` is to show
+module _ (eager : Bool) (masks held : List ℕ) (y : ℕ) (step : Step) (m : ℕ) where
+  pub held-up-send : (t : Bool) → t ≡ freeIn eager masks held y → step ≡ Send m → not t ≡ heldUp eager masks held y step
+  held-up-send t g i = ap not g ∙ ap (heldUp eager masks held y) (sym i)
+
+  pub held-up-delivery : (t : Bool) → t ≡ freeIn eager masks held y → step ≡ Deliver m → not t ≡ heldUp eager masks held y step
+  held-up-delivery t g i = ap not g ∙ ap (heldUp eager masks held y) (sym i)
+
+  pub not-held-up : step ≡ Consume m → false ≡ heldUp eager masks held y step
+  not-held-up i = ap (heldUp eager masks held y) (sym i)
+
+pub goes-on : (eager : Bool) (masks held : List ℕ) (y : ℕ) (step : Step) (u : Bool) → u ≡ heldUp eager masks held y step → u ≡ false
+    → heldUp eager masks held y step ≡ false
+goes-on eager masks held y step u e f = sym e ∙ f
 
 -- the step, by a row that is the buffer of its board: with that buffer, and in every run with these buffers in rows
-module _ (count : ℕ) (on words : List ℕ) (c : Channel) (done way : List ℕ) (t : Step) (r : Bool) where
-  pub by-buffer : (buffer : Buffer) → SaysRow count on words c done way (buffer .held) 0 t r → SaysStep count on words c done way buffer t r
-  by-buffer buffer says run d w b = says run d w (λ k l. ap (λ (u : Buffer). inRow (u .held) k) b)
+module _ (count : ℕ) (on words : List ℕ) (c : Channel) (done way : List ℕ) (t : Step) where
+  pub by-buffer : (r : Bool) (buffer : Buffer) → SaysRow count on words c done way (buffer .held) 0 t r → SaysStep count on words c done way buffer t r
+  by-buffer r buffer says run d w b = says run d w (λ k l. ap (λ (u : Buffer). inRow (u .held) k) b)
 
-  pub by-rows : (rows : List ℕ) (b : ℕ) → SaysRow count on words c done way rows b t r → BoardAt on t b → SaysIn count on words c done way rows t r
-  by-rows rows b says at run d w h =
+  pub by-rows : (r : Bool) (rows : List ℕ) (b : ℕ) → SaysRow count on words c done way rows b t r → BoardAt on t b → SaysIn count on words c done way rows t r
+  by-rows r rows b says at run d w h =
       says run d w (subst (λ (a : ℕ). BufferRow run a rows b) (at .place) (λ k l. row-holds run rows b k h (at .below) l))
+
+  module _ (masks : List ℕ) (standing : Standing count on words masks) (u : Bool) (up : u ≡ true) where
+    pub never-with : (buffer : Buffer) → u ≡ heldUp (c .eager) masks (buffer .held) 0 t → SaysStep count on words c done way buffer t false
+    never-with buffer e = by-buffer false buffer (never count on words masks standing c done way (buffer .held) 0 t (sym e ∙ up))
+
+    pub never-in : (rows : List ℕ) (b : ℕ) → u ≡ heldUp (c .eager) masks rows b t → BoardAt on t b → SaysIn count on words c done way rows t false
+    never-in rows b e at = by-rows false rows b (never count on words masks standing c done way rows b t (sym e ∙ up)) at
 
 -- its message, as it is read
 pub known : (step : Step) (m count : ℕ) → m ≡ messageIn step → m < count → messageIn step < count

@@ -1,11 +1,13 @@
 // The step rules: whether a step is allowed.
+ghost use mathlib.Core.Path.{_≡_};
+ghost use mathlib.Core.Bool.{false};
 ghost use mathlib.Core.List.{List};
 ghost use Prim.Native.Nat.{ℕ, _+_, _*_, _<_, _≤_};
 ghost use lib.ListN.{length};
 ghost use Rattle.relation.specs.Width.{width};
-ghost use Rattle.board.specs.Masks.{Standing};
+ghost use Rattle.board.specs.Masks.{maskRows, Standing};
 ghost use Rattle.step.specs.Steps.{messageIn};
-ghost use Rattle.channel.specs.Steps.{Says, SaysRow, SaysStep, SaysIn};
+ghost use Rattle.channel.specs.Steps.{heldUp, Says, SaysFree, SaysRow, SaysStep, SaysIn};
 use board::board_of;
 use buffers::HELD_WORDS;
 use channel_table::Channel;
@@ -16,8 +18,7 @@ use run::Run;
 use run::board_at;
 use step::Step;
 
-// Message m may be sent: its board, whose buffer is row y of those held, is free, its send is ready, and the further condition holds. Whether
-// the board is free comes first: most steps that a search tries fail there, and it is soon told.
+// Message m may be sent where its board is free: its send is ready, and the further condition holds.
 fn may_send<'a>(
     words: &[u64],
     masks: &[u64],
@@ -26,17 +27,12 @@ fn may_send<'a>(
     c: Channel,
     done: &'a [u64; WIDTH],
     way: &'a [u64; WIDTH],
-    held: &'a [u64],
-    y: usize,
     m: usize,
 ) -> bool
     requires { ⌜ Standing count (now boards) (now words) (now masks) ⌝ }
-    requires { ⌜ (m < count) × (y * width + width ≤ length (now held)) ⌝ }
-    ensures { λ r. ⌜ SaysRow count (now (boards .entry)) (now (words .entry)) c (now (done .entry)) (now (way .entry)) (now (held .entry)) y (Step.Send m) r ⌝ }
+    requires { ⌜ m < count ⌝ }
+    ensures { λ r. ⌜ SaysFree count (now (boards .entry)) (now (words .entry)) c (now (done .entry)) (now (way .entry)) (Step.Send m) r ⌝ }
 {
-    if !rules::board_free(masks, c.eager, held, y) {
-        return false;
-    }
     let send = 2 * m;
     let readiness = rules::readiness_of(words, masks, boards, count, done, send);
     match readiness {
@@ -48,27 +44,22 @@ fn may_send<'a>(
     rules::send_rule(words, masks, rule, way, m)
 }
 
-// Message m may be delivered: it is under way, its board, whose buffer is row y of those held, is free, and the further condition holds.
-fn may_deliver<'a>(
+// Message m may be delivered where its board is free: it is under way, and the further condition holds.
+fn may_deliver(
     words: &[u64],
     masks: &[u64],
     boards: &[u8],
     count: usize,
     c: Channel,
-    way: &'a [u64; WIDTH],
-    held: &'a [u64],
-    y: usize,
+    way: &[u64; WIDTH],
     m: usize,
 ) -> bool
     requires { ⌜ Standing count (now boards) (now words) (now masks) ⌝ }
-    requires { ⌜ (m < count) × (y * width + width ≤ length (now held)) ⌝ }
-    ensures { λ r. ⌜ ((done : List ℕ) → SaysRow count (now (boards .entry)) (now (words .entry)) c done (now (way .entry)) (now (held .entry)) y (Step.Deliver m) r) ⌝ }
+    requires { ⌜ m < count ⌝ }
+    ensures { λ r. ⌜ ((done : List ℕ) → SaysFree count (now (boards .entry)) (now (words .entry)) c done (now (way .entry)) (Step.Deliver m) r) ⌝ }
 {
     let send = 2 * m;
     if !relation::test(way, 0, send) {
-        return false;
-    }
-    if !rules::board_free(masks, c.eager, held, y) {
         return false;
     }
     let receive = send + 1;
@@ -105,7 +96,22 @@ fn may_consume<'a>(
     }
 }
 
-// The step is allowed, by the parts of a run that it reads: what is done, what is under way, and the buffer of its board, row y of those held.
+// A send or a delivery on a board that is not free, its buffer being row y of those held. Asked ahead of the rest: most steps that a search
+// tries are held up, and it is soon told.
+fn held_up(masks: &[u64], eager: bool, held: &[u64], y: usize, step: Step) -> bool
+    requires { ⌜ maskRows * width ≤ length (now masks) ⌝ }
+    requires { ⌜ y * width + width ≤ length (now held) ⌝ }
+    ensures { λ r. ⌜ r ≡ heldUp eager (now (masks .entry)) (now (held .entry)) y step ⌝ }
+{
+    match step {
+        Step::Send(_) => !rules::board_free(masks, eager, held, y),
+        Step::Deliver(_) => !rules::board_free(masks, eager, held, y),
+        Step::Consume(_) => false,
+    }
+}
+
+// A step that is not held up is allowed, by the parts of a run that it reads: what is done, what is under way, and the buffer of its board, row y
+// of those held.
 fn allowed_by<'a>(
     words: &[u64],
     masks: &[u64],
@@ -120,11 +126,12 @@ fn allowed_by<'a>(
 ) -> bool
     requires { ⌜ Standing count (now boards) (now words) (now masks) ⌝ }
     requires { ⌜ (messageIn step < count) × (y * width + width ≤ length (now held)) ⌝ }
+    requires { ⌜ heldUp (c .eager) (now masks) (now held) y step ≡ false ⌝ }
     ensures { λ r. ⌜ SaysRow count (now (boards .entry)) (now (words .entry)) c (now (done .entry)) (now (way .entry)) (now (held .entry)) y step r ⌝ }
 {
     match step {
-        Step::Send(m) => may_send(words, masks, boards, count, c, done, way, held, y, m),
-        Step::Deliver(m) => may_deliver(words, masks, boards, count, c, way, held, y, m),
+        Step::Send(m) => may_send(words, masks, boards, count, c, done, way, m),
+        Step::Deliver(m) => may_deliver(words, masks, boards, count, c, way, m),
         Step::Consume(m) => may_consume(words, masks, boards, count, done, held, y, m),
     }
 }
@@ -145,6 +152,9 @@ pub fn allowed<'a>(
     requires { ⌜ messageIn step < count ⌝ }
     ensures { λ r. ⌜ SaysStep count (now (boards .entry)) (now (words .entry)) c (now (done .entry)) (now (way .entry)) buffer step r ⌝ }
 {
+    if held_up(masks, c.eager, &buffer.held, 0, step) {
+        return false;
+    }
     allowed_by(
         words,
         masks,
@@ -176,6 +186,9 @@ pub fn may_step<'a>(
     ensures { λ r. ⌜ SaysIn count (now (boards .entry)) (now (words .entry)) c (now (done .entry)) (now (way .entry)) (now (rows .entry)) step r ⌝ }
 {
     let board = board_at(boards, step);
+    if held_up(masks, c.eager, rows, board, step) {
+        return false;
+    }
     allowed_by(words, masks, boards, count, c, done, way, rows, board, step)
 }
 

@@ -1,16 +1,9 @@
--- `channel::may_send` meets its contract: free, ready, and the further condition, in this order.
+-- `channel::may_send` meets its contract: ready, and the further condition, in this order.
 -- Assumes nothing.
-use borrow.Author.Tests.{not-true, not-false}
-use Rattle.channel.proofs.StepTests.{send-done, send-waits, send-unfree, send-ruled}
+use Rattle.channel.proofs.StepTests.{send-done, send-waits, send-ruled}
 use borrow.Author.Needs.{needs}
 use Rattle.channel.proofs.may_send.Statement.{statement}
 use Rattle.channel.proofs.may_send.Tie as tie
-
-board-free-requires : tie.Need-board-free-requires
-board-free-requires c κs = search needs
-
-returns : tie.Need-returns
-returns c = search (send-unfree, not-true)
 
 mul-send : tie.Need-mul-send
 mul-send c = search needs
@@ -24,33 +17,31 @@ enum-told c = search needs
 enum-told-2 : tie.Need-enum-told-2
 enum-told-2 c = search needs
 
-returns-2 : tie.Need-returns-2
-returns-2 c = search send-done
+returns : tie.Need-returns
+returns c = search send-done
 
 enum-told-3 : tie.Need-enum-told-3
 enum-told-3 c = search needs
 
-returns-3 : tie.Need-returns-3
-returns-3 c = search send-waits
+returns-2 : tie.Need-returns-2
+returns-2 c = search send-waits
 
 send-rule-requires : tie.Need-send-rule-requires
 send-rule-requires c κs = search needs
 
-returns-4 : tie.Need-returns-4
-returns-4 c = search (send-ruled, not-false)
+returns-3 : tie.Need-returns-3
+returns-3 c = search send-ruled
 
 pub may-send-spec : {M : Type 1} → statement M
 may-send-spec =
     tie.close
     (tie.spec
-    board-free-requires
-    returns
     mul-send
     readiness-of-requires
     enum-told
     enum-told-2
-    returns-2
+    returns
     enum-told-3
-    returns-3
+    returns-2
     send-rule-requires
-    returns-4)
+    returns-3)

@@ -61,7 +61,17 @@ loop-less : tie.Need-loop-less Inv-loop μ-loop
 loop-less c = search needs
 
 loop-again : tie.Need-loop-again Inv-loop μ-loop
-loop-again c = search goes-on
+loop-again c =
+    let rows = c .before .before in
+    let way = rows .before .before in
+    let done = way .before .before in
+    let to = done .before .before in
+    let written = to .before .before .before in
+    let picked = written .before .before .before in
+    let k = picked .before .before in
+    let t = k .before .before .before .before .before in
+    goes-on _ _ _ _ _ _ _ _ _ _ _ _ _ _ (t .before .loop .inv) (k .choose .result) _ (k .choose .ensures) (picked .chosen .given .1) _ _ _ _ _ _
+    (written .write-step .ensures) (to .target-of .ensures) (done .done-behind .ensures) (way .way-behind .ensures) (rows .rows-behind .ensures) (c .held-behind .ensures) (t .loop-test .taken)
 
 mul-result : tie.Need-mul-result Inv-loop μ-loop
 mul-result c = search needs

@@ -2,14 +2,16 @@
 ghost use mathlib.Core.Path.{_≡_};
 ghost use Prim.Native.Nat.{_<_};
 ghost use lib.ListN.{length};
+ghost use Rattle.model.specs.Limits.{messagesMost};
 ghost use Rattle.relation.specs.Width.{width};
 ghost use Rattle.relation.specs.Rows.{joinedFrom};
 ghost use Rattle.board.specs.Boards.{boardsMost};
-ghost use Rattle.run.specs.State.{bufferOf};
-ghost use Rattle.buffers.specs.Held.{HeldIn, PutsRow, HeldAnywhere};
+ghost use Rattle.step.specs.Steps.{messageIn};
+ghost use Rattle.buffers.specs.Held.{HeldIn, RowsBehind};
 use relation::WIDTH;
 use run::Buffer;
 use run::Run;
+use step::Step;
 
 // The words of all buffers, a row a board.
 pub const HELD_WORDS: usize = model::BOARDS * WIDTH;
@@ -34,31 +36,16 @@ pub fn held_rows(run: Run) -> [u64; HELD_WORDS]
     rows
 }
 
-// A board's row becomes its buffer's.
-pub fn put_row(rows: &mut [u64; HELD_WORDS], board: usize, buffer: Buffer)
-    requires { ⌜ board < boardsMost ⌝ }
-    ensures { λ _. ⌜ PutsRow (now (rows .entry)) board (buffer .held) (now (rows .exit)) ⌝ }
+// The rows, as a step leaves them: that of the board it goes to gains a message delivered, and loses one consumed.
+pub fn rows_behind(rows: &mut [u64; HELD_WORDS], target: usize, step: Step)
+    requires { ⌜ target < boardsMost ⌝ }
+    requires { ⌜ messageIn step < messagesMost ⌝ }
+    ensures { λ _. ⌜ RowsBehind (now (rows .entry)) target step (now (rows .exit)) ⌝ }
 {
-    relation::copy_from(rows, board, &buffer.held, 0);
-}
-
-// The buffer of a board, from its row.
-pub fn buffer_at(rows: &[u64; HELD_WORDS], board: usize) -> Buffer
-    requires { ⌜ board < boardsMost ⌝ }
-    ensures { λ r. ⌜ ((run : Run) → HeldIn run (now (rows .entry)) → bufferOf run board ≡ r) ⌝ }
-{
-    let mut held = [0u64; WIDTH];
-    relation::join_from(&mut held, 0, rows, board);
-    Buffer { held }
-}
-
-// The messages that some buffer holds.
-pub fn held_anywhere(rows: &[u64; HELD_WORDS]) -> [u64; WIDTH]
-    ensures { λ r. ⌜ HeldAnywhere (now (rows .entry)) r ⌝ }
-{
-    let mut held = [0u64; WIDTH];
-    for b in 0..model::BOARDS {
-        relation::join_from(&mut held, 0, rows, b);
+    let send = 2 * step.message();
+    match step {
+        Step::Send(_) => {}
+        Step::Deliver(_) => relation::mark(rows, target, send),
+        Step::Consume(_) => relation::unmark(rows, target, send),
     }
-    held
 }

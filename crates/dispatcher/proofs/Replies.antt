@@ -14,7 +14,7 @@ use Rattle.model.specs.Dispatcher as model
 use Rattle.model.specs.Dispatcher.{numbersIn, without, Call, admit, cancel, refused, cancelledWord, refusedWord, touchesNothing, leavesAll, Served, Serves, WholeLists}
 use Rattle.model.proofs.Dispatcher.{whole-lists}
 use Rattle.queue.specs.declared.Queue.{Queue}
-use Rattle.queue.specs.Bridge.{emptyQueue, queueIn, PlacesOf}
+use Rattle.queue.specs.Bridge.{emptyQueue, queueIn, PlacesOf, SparePlace}
 use Rattle.queue.proofs.Apart.{empty-none}
 use Rattle.places.specs.Words.{FreeCleared, ClearedBut}
 use Rattle.share.specs.declared.Race.{Race}
@@ -25,6 +25,7 @@ use Rattle.held_jobs.specs.declared.Boards.{Boards}
 use Rattle.held_jobs.specs.Held.{Held, deskOf, boardsAt, raceAt, HoldsJob, lent, toldWith}
 use Rattle.held_jobs.proofs.Cases.{cancel-words, cancel-unheld}
 use Rattle.held_jobs.proofs.Serving.{untouched, cleared}
+use Rattle.admission.specs.declared.Part.{Part}
 use Rattle.admission.specs.declared.Entry.{Entry}
 use Rattle.admission.specs.Admission.{AdmitIn}
 use Rattle.head_turn.specs.declared.Turn.{Turn}
@@ -70,21 +71,25 @@ race-read d p other long h = there (d .races) p other _ (omega arith)
 pub boards-read : (d : Held) (p : ℕ) (other : Boards) → length (d .boards) ≡ jobsMost → p < jobsMost → getD (d .boards) p other .on ≡ boardsAt d p
 boards-read d p other long h = ap (λ (b : Boards). b .on) (there (d .boards) p other _ (omega arith))
 
+-- the place of the queue is that of the part
+pub part-spare : (part : Part) (queue : Queue) (given : ℕ) (race : Race) (boards : Boards) (place : ℕ) → part ≡ record { queue = queue; given = given; race = race; boards = boards }
+    → SparePlace (queueIn queue) place → SparePlace (queueIn (part .queue)) place
+part-spare part queue given race boards place e S = subst⁻¹ (λ (p : Part). SparePlace (queueIn (p .queue)) place) e S
+
 -- ---- the calls, from what their parts leave
 module _ (d : Dispatcher) (place : ℕ) (raceElse : Race) (boardsElse : Boards) (races : length (d .races) ≡ jobsMost) (boards : length (d .boards) ≡ jobsMost)
     (h : place < jobsMost) where
-  pub admit-as : (sheets lengths codes words exit : List ℕ) (r : Entry) (a : Numbers)
-      → AdmitIn (record { queue = d .queue; given = d .given; race = getD (d .races) place raceElse; boards = getD (d .boards) place boardsElse }) place sheets lengths codes words exit r
-      → a ≡ zeros
+  pub admit-as : (part : Part) → part ≡ record { queue = d .queue; given = d .given; race = getD (d .races) place raceElse; boards = getD (d .boards) place boardsElse }
+      → (sheets lengths codes words exit : List ℕ) (r : Entry) (a : Numbers) → AdmitIn part place sheets lengths codes words exit r → a ≡ zeros
       → AdmitOf d sheets lengths codes words exit (record { told = record { word = r .word; one = r .one; two = r .two; answer = last.numbersIn a }; next = record { queue = r .queue; given = r .given; races = set (d .races) place (r .race); boards = set (d .boards) place (r .boards) } })
-  admit-as sheets lengths codes words exit r a A e =
+  admit-as part i sheets lengths codes words exit r a A e =
       let race : getD (d .races) place raceElse ≡ raceAt (heldIn d) place = race-read (heldIn d) place raceElse races h in
       let own : getD (d .boards) place boardsElse ≡ getD (d .boards) place (record { on = [] }) = there (d .boards) place boardsElse _ (omega arith) in
       serves-as d _ exit [] _
       (subst⁻¹ (λ (a : Numbers). Serves deskOf HoldsJob (heldIn d) (admit (lent sheets lengths codes words)) exit [] (record { told = record { word = r .word; one = r .one; two = r .two; answer = last.numbersIn a }; next = record { queue = r .queue; given = r .given; races = set (d .races) place (r .race); boards = set (d .boards) place (r .boards) } })) e
       (A .serves (heldIn d)
       (record {
-        is = ap (λ (x : Race). record { queue = d .queue; given = d .given; race = x; boards = getD (d .boards) place boardsElse }) race
+        is = i ∙ ap (λ (x : Race). record { queue = d .queue; given = d .given; race = x; boards = getD (d .boards) place boardsElse }) race
             ∙ ap (λ (b : Boards). record { queue = d .queue; given = d .given; race = raceAt (heldIn d) place; boards = b }) own;
         races = races;
         boards = boards;

@@ -73,12 +73,7 @@ impl Dispatcher {
         let place = queue.spare_place();
         let own = boards[place];
         let race = races[place];
-        let part = Part {
-            queue,
-            given: self.given,
-            race,
-            boards: own,
-        };
+        let part = part_of(queue, self.given, race, own);
         let entry = admission::admit_into(part, place, sheets, lengths, codes, words);
         let next = entry.queue;
         let found = entry.race;
@@ -151,6 +146,18 @@ impl Dispatcher {
                 boards,
             },
         }
+    }
+}
+
+// What an admission may change, from what was taken out.
+fn part_of(queue: Queue, given: u32, race: Race, boards: Boards) -> Part
+    ensures { λ r. ⌜ r ≡ record { queue = queue; given = given; race = race; boards = boards } ⌝ }
+{
+    Part {
+        queue,
+        given,
+        race,
+        boards,
     }
 }
 

@@ -1,11 +1,11 @@
--- `dispatcher::admit_into` meets its contract. Assumes nothing.
+-- `admission::admit_into` meets its contract. Assumes nothing.
 use Rattle.queue.specs.Bridge.{queueIn}
-use Rattle.dispatcher.proofs.Admission.{place-free}
-use Rattle.dispatcher.proofs.Replies.{no-place, at-place, enter-full, enter-unknown, enter-short, enter-numbers, enter-long, enter-read}
+use Rattle.admission.proofs.Admission.{place-free}
+use Rattle.admission.proofs.Replies.{no-place, at-place, enter-full, enter-unknown, enter-short, enter-numbers, enter-long, enter-read}
 use native.Mathlib.Omega.{arith}
 use borrow.Author.Needs.{needs}
-use Rattle.dispatcher.proofs.admit_into.Statement.{statement}
-use Rattle.dispatcher.proofs.admit_into.Tie as tie
+use Rattle.admission.proofs.admit_into.Statement.{statement}
+use Rattle.admission.proofs.admit_into.Tie as tie
 
 free-place-requires : tie.Need-free-place-requires
 free-place-requires c κs = search needs

@@ -1,8 +1,8 @@
--- `dispatcher::take` meets its contract. Assumes nothing.
-use Rattle.dispatcher.proofs.Replies.{take-serves}
+-- `head_turn::take` meets its contract. Assumes nothing.
+use Rattle.head_turn.proofs.Replies.{take-serves}
 use borrow.Author.Needs.{needs}
-use Rattle.dispatcher.proofs.take.Statement.{statement}
-use Rattle.dispatcher.proofs.take.Tie as tie
+use Rattle.head_turn.proofs.take.Statement.{statement}
+use Rattle.head_turn.proofs.take.Tie as tie
 
 cast-place : tie.Need-cast-place
 cast-place c = search needs

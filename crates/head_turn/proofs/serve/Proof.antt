@@ -1,9 +1,9 @@
--- `dispatcher::serve` meets its contract. Assumes nothing.
-use Rattle.dispatcher.proofs.Replies.{serve-short-words, serve-short-trace, serve-idles, serve-answers, serve-takes, is-head, last-is}
+-- `head_turn::serve` meets its contract. Assumes nothing.
+use Rattle.head_turn.proofs.Replies.{serve-short-words, serve-short-trace, serve-idles, serve-answers, serve-takes, is-head, last-is}
 use native.Mathlib.Omega.{arith}
 use borrow.Author.Needs.{needs}
-use Rattle.dispatcher.proofs.serve.Statement.{statement}
-use Rattle.dispatcher.proofs.serve.Tie as tie
+use Rattle.head_turn.proofs.serve.Statement.{statement}
+use Rattle.head_turn.proofs.serve.Tie as tie
 
 cast-unmoved : tie.Need-cast-unmoved
 cast-unmoved c = search needs

@@ -1,8 +1,8 @@
--- `dispatcher::read` meets its contract. Assumes nothing.
-use Rattle.dispatcher.proofs.Replies.{line-small, count-few, written-long, read-refused, read-accepted}
+-- `admission::read` meets its contract. Assumes nothing.
+use Rattle.admission.proofs.Replies.{line-small, count-few, written-long, read-refused, read-accepted}
 use borrow.Author.Needs.{needs}
-use Rattle.dispatcher.proofs.read.Statement.{statement}
-use Rattle.dispatcher.proofs.read.Tie as tie
+use Rattle.admission.proofs.read.Statement.{statement}
+use Rattle.admission.proofs.read.Tie as tie
 
 read-sheet-requires : tie.Need-read-sheet-requires
 read-sheet-requires c κs = search needs

@@ -31,32 +31,17 @@ use Rattle.share.proofs.Turns.{searched-all}
 use Rattle.places.specs.Words.{FreeCleared}
 use Rattle.places.proofs.Parts.{from, to, part-is}
 use Rattle.last_turn.specs.Answer.{Concludes}
-use Rattle.dispatcher.specs.declared.Boards.{Boards}
-use Rattle.dispatcher.specs.declared.Dispatcher.{Dispatcher}
-use Rattle.dispatcher.specs.Bridge.{deskIn, boardsAt, raceAt, HoldsIn, Holds, lent, TurnOf, TakesTurn}
-use Rattle.dispatcher.proofs.Members.{member-last, one-job, place-below, place-apart, place-held}
-use Rattle.dispatcher.proofs.Cases.{Case, turn-taken, turn-answered}
-use Rattle.dispatcher.proofs.Serving.{words-cleared, holds-same, words-same}
-
--- an element that there is, whatever stands for one that there is not
-pub there : {A : Type 0} (l : List A) (i : ℕ) (d e : A) → i < length l → getD l i d ≡ getD l i e
-there [] i d e h = absurd (not-suc-le-zero h)
-there (a ∷ l) zero d e h = refl
-there (a ∷ l) (suc i) d e h = there l i d e (le-of-suc-le-suc h)
+use Rattle.held_jobs.specs.Held.{Held, deskOf, boardsAt, raceAt, HoldsIn, HoldsJob}
+use Rattle.held_jobs.proofs.Members.{member-last, one-job, place-below, place-apart, place-held}
+use Rattle.held_jobs.proofs.Cases.{Case, turn-taken, turn-answered}
+use Rattle.held_jobs.proofs.Serving.{words-cleared, holds-same, words-same}
 
 pub head-first : (js : List model.Job) (j : model.Job) → headOf js ≡ some j → js ≡ j ∷ drop 1 js
 head-first [] j e = let z : _≡_ {A = ℕ} 0 1 = cc in absurd (omega arith)
 head-first (k ∷ js) j e = let i : k ≡ j = cc in ap (λ (h : model.Job). h ∷ js) i
 
--- what a place has, as the code reads it
-pub race-read : (d : Dispatcher) (p : ℕ) (other : Race) → length (d .races) ≡ jobsMost → p < jobsMost → getD (d .races) p other ≡ raceAt d p
-race-read d p other long h = there (d .races) p other _ (omega arith)
-
-pub boards-read : (d : Dispatcher) (p : ℕ) (other : Boards) → length (d .boards) ≡ jobsMost → p < jobsMost → getD (d .boards) p other .on ≡ boardsAt d p
-boards-read d p other long h = ap (λ (b : Boards). b .on) (there (d .boards) p other _ (omega arith))
-
-module _ (d : Dispatcher) (job : Job) (words : List ℕ) (head : headOf (queueIn (d .queue)) ≡ some (jobIn job)) (long : jobWordsLeast ≤ length words)
-    (races : length (d .races) ≡ jobsMost) (boards : length (d .boards) ≡ jobsMost) (raceElse : Race) (boardsElse : Boards) where
+module _ (d : Held) (job : Job) (words : List ℕ) (head : headOf (queueIn (d .queue)) ≡ some (jobIn job)) (long : jobWordsLeast ≤ length words)
+    (races : length (d .races) ≡ jobsMost) where
   abbrev J : model.Job
   J = jobIn job
 
@@ -75,31 +60,31 @@ module _ (d : Dispatcher) (job : Job) (words : List ℕ) (head : headOf (queueIn
   in-queue : (k : model.Job) → Member k js → Member k (queueIn (d .queue))
   in-queue k m = subst⁻¹ (Member k) queue-is (inr m)
 
-  module _ (o : Orderly (deskIn d)) where
+  module _ (o : Orderly (deskOf d)) where
     place-is : place ≡ job .place
-    place-is = omega (arith, place-below (deskIn d) o J head-in)
+    place-is = omega (arith, place-below (deskOf d) o J head-in)
 
   -- the words, the boards and the race of the head's place, as the code reads them
   abbrev pub part : List ℕ
   part = midOf (from place) (to place - from place) words
 
   abbrev pub race : Race
-  race = getD (d .races) place raceElse
+  race = raceAt d place
 
   abbrev pub on : List ℕ
-  on = getD (d .boards) place boardsElse .on
+  on = boardsAt d place
 
-  module _ (o : Orderly (deskIn d)) where
+  module _ (o : Orderly (deskOf d)) where
     part-of : part ≡ placeWords (job .place) words
     part-of = part-is words place ∙ ap (λ p. placeWords p words) (place-is o)
 
     race-of : race ≡ raceAt d (job .place)
-    race-of = race-read d place raceElse races (omega arith) ∙ ap (raceAt d) (place-is o)
+    race-of = ap (raceAt d) (place-is o)
 
     on-of : on ≡ boardsAt d (job .place)
-    on-of = boards-read d place boardsElse boards (omega arith) ∙ ap (boardsAt d) (place-is o)
+    on-of = ap (boardsAt d) (place-is o)
 
-    holds-read : (S : Scenario) → Holds d (placeWords (job .place) words) J S → HoldsIn on race part J S
+    holds-read : (S : Scenario) → HoldsJob d (placeWords (job .place) words) J S → HoldsIn on race part J S
     holds-read S H =
         subst⁻¹ (λ (b : List ℕ). HoldsIn b race part J S) on-of
         (subst⁻¹ (λ (r : Race). HoldsIn (boardsAt d (job .place)) r part J S) race-of
@@ -108,12 +93,12 @@ module _ (d : Dispatcher) (job : Job) (words : List ℕ) (head : headOf (queueIn
   -- ---- unanswered
   module _ (early : isLast J ≡ false) (found : Race) (looks : Looks (job .count) on part (job .code) (job .turns) race found)
       (left : Queue) (isLeft : queueIn left ≡ turned (queueIn (d .queue))) (exit : List ℕ) (F : FreeCleared (queueIn left) words exit) where
-    abbrev next : Dispatcher
+    abbrev next : Held
     next = record { queue = left; given = d .given; races = set (d .races) place found; boards = d .boards }
 
     -- the head's search goes one turn on
-    holds-on : (o : Orderly (deskIn d)) (S : Scenario) → Holds d (placeWords (job .place) words) J S → placeWords (job .place) exit ≡ placeWords (job .place) words
-        → Holds next (placeWords (job .place) exit) (again J) S
+    holds-on : (o : Orderly (deskOf d)) (S : Scenario) → HoldsJob d (placeWords (job .place) words) J S → placeWords (job .place) exit ≡ placeWords (job .place) words
+        → HoldsJob next (placeWords (job .place) exit) (again J) S
     unfolding isLast
     holds-on o S H w =
         let I = holds-read o S H in
@@ -136,50 +121,50 @@ module _ (d : Dispatcher) (job : Job) (words : List ℕ) (head : headOf (queueIn
       abbrev c : Call
       c = turn l trace
 
-      C : Case (deskIn d) c (taken (job .number)) (record { queue = js ++ (again J ∷ []); given = d .given })
-      C = turn-taken (deskIn d) l trace (rw same long) t J js queue-is early
+      C : Case (deskOf d) c (taken (job .number)) (record { queue = js ++ (again J ∷ []); given = d .given })
+      C = turn-taken (deskOf d) l trace (rw same long) t J js queue-is early
 
-      behind-is : deskIn next ≡ behind (deskIn d) c
+      behind-is : deskOf next ≡ behind (deskOf d) c
       unfolding turned
       behind-is = ap (λ (q : List model.Job). record { queue = q; given = d .given }) (isLeft ∙ ap turned queue-is ∙ rw early) ∙ sym (C .leaves)
 
-      W : WordsLeft (deskIn d) c exit
+      W : WordsLeft (deskOf d) c exit
       unfolding touchesNothing
       W =
-          words-cleared (deskIn d) c words exit (ap touchesNothing (C .outcome))
+          words-cleared (deskOf d) c words exit (ap touchesNothing (C .outcome))
           (subst (λ (q : Desk). FreeCleared (q .queue) words exit) behind-is F) (ap length (sym same)) (ap (drop jobWordsLeast) (sym same)) (λ p h f. ap (placeWords p) (sym same))
 
-      keeps : Orderly (deskIn d) → (j k : model.Job) (S : Scenario) → Member j (deskIn d .queue) → Member k (behind (deskIn d) c .queue)
-          → j .number ≡ k .number → Holds d (placeWords (j .place) (l .words)) j S → Holds next (placeWords (k .place) exit) k S
+      keeps : Orderly (deskOf d) → (j k : model.Job) (S : Scenario) → Member j (deskOf d .queue) → Member k (behind (deskOf d) c .queue)
+          → j .number ≡ k .number → HoldsJob d (placeWords (j .place) (l .words)) j S → HoldsJob next (placeWords (k .place) exit) k S
       keeps o j k S a b m H =
           ⊎-elim
           (λ u.
-          let i : j ≡ k = one-job (deskIn d) o j k a (in-queue k u) m in
-          let apart : (k .place ≡ place → ⊥) = λ e. place-apart (deskIn d) o J k js queue-is u (e ∙ place-is o) in
+          let i : j ≡ k = one-job (deskOf d) o j k a (in-queue k u) m in
+          let apart : (k .place ≡ place → ⊥) = λ e. place-apart (deskOf d) o J k js queue-is u (e ∙ place-is o) in
           holds-same d next (placeWords (k .place) (l .words)) (placeWords (k .place) exit) k S refl
           (getD-set-other (d .races) place (k .place) found _ apart)
-          (words-same (deskIn d) c exit k W o (in-queue k u) b)
-          (subst (λ (h : model.Job). Holds d (placeWords (h .place) (l .words)) h S) i H))
+          (words-same (deskOf d) c exit k W o (in-queue k u) b)
+          (subst (λ (h : model.Job). HoldsJob d (placeWords (h .place) (l .words)) h S) i H))
           (λ u.
           let number : j .number ≡ J .number = m ∙ ap (λ (h : model.Job). h .number) u in
-          let i : j ≡ J = one-job (deskIn d) o j J a head-in number in
-          let held : Member (again J) (behind (deskIn d) c .queue) = subst (λ (h : model.Job). Member h (behind (deskIn d) c .queue)) u b in
+          let i : j ≡ J = one-job (deskOf d) o j J a head-in number in
+          let held : Member (again J) (behind (deskOf d) c .queue) = subst (λ (h : model.Job). Member h (behind (deskOf d) c .queue)) u b in
           let kept : placeWords (job .place) exit ≡ placeWords (job .place) (l .words) =
-          W .heldKept (job .place) (place-below (deskIn d) o J head-in) (place-held (deskIn d) J head-in) (place-held (behind (deskIn d) c) (again J) held) in
-          subst⁻¹ (λ (h : model.Job). Holds next (placeWords (h .place) exit) h S) u
-          (holds-on o S (subst (λ (w : List ℕ). Holds d (placeWords (job .place) w) J S) same (subst (λ (h : model.Job). Holds d (placeWords (h .place) (l .words)) h S) i H))
+          W .heldKept (job .place) (place-below (deskOf d) o J head-in) (place-held (deskOf d) J head-in) (place-held (behind (deskOf d) c) (again J) held) in
+          subst⁻¹ (λ (h : model.Job). HoldsJob next (placeWords (h .place) exit) h S) u
+          (holds-on o S (subst (λ (w : List ℕ). HoldsJob d (placeWords (job .place) w) J S) same (subst (λ (h : model.Job). HoldsJob d (placeWords (h .place) (l .words)) h S) i H))
           (kept ∙ ap (placeWords (job .place)) same)))
           (member-last k (again J) js (subst (λ (q : Desk). Member k (q .queue)) (C .leaves) b))
 
-      pub taken-serves : (r : Served Dispatcher) → r ≡ record { told = record { word = takenWord; one = job .number; two = 0; answer = noAnswer }; next = next }
-          → Serves deskIn Holds d c exit trace r
+      pub taken-serves : (r : Served Held) → r ≡ record { told = record { word = takenWord; one = job .number; two = 0; answer = noAnswer }; next = next }
+          → Serves deskOf HoldsJob d c exit trace r
       unfolding leavesAll
       taken-serves r e =
-          subst⁻¹ (λ (s : Served Dispatcher). Serves deskIn Holds d c exit trace s) e
+          subst⁻¹ (λ (s : Served Held). Serves deskOf HoldsJob d c exit trace s) e
           (record {
             told = ap (λ u. toldAs u noAnswer) (sym (C .outcome));
             next = behind-is;
-            leftAlone = λ u. not-both (leavesAll (outcomeOf (deskIn d) c)) u (ap leavesAll (C .outcome));
+            leftAlone = λ u. not-both (leavesAll (outcomeOf (deskOf d) c)) u (ap leavesAll (C .outcome));
             wordsLeft = W;
             traceKept = λ n. refl;
             traceLocked = λ u. (refl, refl);
@@ -194,11 +179,11 @@ module _ (d : Dispatcher) (job : Job) (words : List ℕ) (head : headOf (queueIn
   -- ---- answered
   module _ (late : isLast J ≡ true) (left : Queue) (isLeft : queueIn left ≡ turned (queueIn (d .queue))) (exit : List ℕ) (F : FreeCleared (queueIn left) words exit)
       (trace traceExit : List ℕ) (answer : Numbers) (K : Concludes (job .count) on part (job .code) race trace traceExit answer) where
-    abbrev rest : Dispatcher
+    abbrev rest : Held
     rest = record { queue = left; given = d .given; races = d .races; boards = d .boards }
 
     -- a job at its last turn has looked everywhere
-    as-check : Orderly (deskIn d) → (S : Scenario) → Holds d (placeWords (job .place) words) J S → AsTheCheck S (job .code) trace traceExit answer
+    as-check : Orderly (deskOf d) → (S : Scenario) → HoldsJob d (placeWords (job .place) words) J S → AsTheCheck S (job .code) trace traceExit answer
     unfolding isLast
     as-check o S H =
         let I = holds-read o S H in
@@ -214,43 +199,43 @@ module _ (d : Dispatcher) (job : Job) (words : List ℕ) (head : headOf (queueIn
       abbrev last : Call
       last = turn l trace
 
-      D : Case (deskIn d) last (answered (job .number)) (record { queue = js; given = d .given })
-      D = turn-answered (deskIn d) l trace (rw same long) t J js queue-is late
+      D : Case (deskOf d) last (answered (job .number)) (record { queue = js; given = d .given })
+      D = turn-answered (deskOf d) l trace (rw same long) t J js queue-is late
 
-      rest-is : deskIn rest ≡ behind (deskIn d) last
+      rest-is : deskOf rest ≡ behind (deskOf d) last
       unfolding turned
       rest-is = ap (λ (q : List model.Job). record { queue = q; given = d .given }) (isLeft ∙ ap turned queue-is ∙ rw late) ∙ sym (D .leaves)
 
-      lasting : WordsLeft (deskIn d) last exit
+      lasting : WordsLeft (deskOf d) last exit
       unfolding touchesNothing
       lasting =
-          words-cleared (deskIn d) last words exit (ap touchesNothing (D .outcome))
+          words-cleared (deskOf d) last words exit (ap touchesNothing (D .outcome))
           (subst (λ (q : Desk). FreeCleared (q .queue) words exit) rest-is F) (ap length (sym same)) (ap (drop jobWordsLeast) (sym same)) (λ p h f. ap (placeWords p) (sym same))
 
-      pub answered-serves : (r : Served Dispatcher) → r ≡ record { told = record { word = answeredWord; one = job .number; two = 0; answer = answer }; next = rest }
-          → Serves deskIn Holds d last exit traceExit r
+      pub answered-serves : (r : Served Held) → r ≡ record { told = record { word = answeredWord; one = job .number; two = 0; answer = answer }; next = rest }
+          → Serves deskOf HoldsJob d last exit traceExit r
       unfolding leavesAll
       answered-serves r e =
-          subst⁻¹ (λ (s : Served Dispatcher). Serves deskIn Holds d last exit traceExit s) e
+          subst⁻¹ (λ (s : Served Held). Serves deskOf HoldsJob d last exit traceExit s) e
           (record {
             told = ap (λ u. toldAs u answer) (sym (D .outcome));
             next = rest-is;
-            leftAlone = λ u. not-both (leavesAll (outcomeOf (deskIn d) last)) u (ap leavesAll (D .outcome));
+            leftAlone = λ u. not-both (leavesAll (outcomeOf (deskOf d) last)) u (ap leavesAll (D .outcome));
             wordsLeft = lasting;
             traceKept = K .kept;
             traceLocked = K .locked;
             admits = λ m p S i f a. let z : _≡_ {A = ℕ} 0 1 = cc in absurd (omega arith);
             keeps = λ o j k S a b m H.
                 let u : Member k js = subst (λ (q : Desk). Member k (q .queue)) (D .leaves) b in
-                let i : j ≡ k = one-job (deskIn d) o j k a (in-queue k u) m in
+                let i : j ≡ k = one-job (deskOf d) o j k a (in-queue k u) m in
                 holds-same d rest (placeWords (k .place) (l .words)) (placeWords (k .place) exit) k S refl refl
-                (words-same (deskIn d) last exit k lasting o (in-queue k u) b)
-                (subst (λ (h : model.Job). Holds d (placeWords (h .place) (l .words)) h S) i H);
+                (words-same (deskOf d) last exit k lasting o (in-queue k u) b)
+                (subst (λ (h : model.Job). HoldsJob d (placeWords (h .place) (l .words)) h S) i H);
             answers = λ o j ks S q i H.
                 let two : J ∷ js ≡ j ∷ ks = sym queue-is ∙ q in
                 let one : J ≡ j = cc in
                 subst (λ (h : model.Job). AsTheCheck S (h .code) trace traceExit answer) one
                 (as-check o S
-                (subst (λ (w : List ℕ). Holds d (placeWords (job .place) w) J S) same
-                (subst⁻¹ (λ (h : model.Job). Holds d (placeWords (h .place) (l .words)) h S) one H)));
+                (subst (λ (w : List ℕ). HoldsJob d (placeWords (job .place) w) J S) same
+                (subst⁻¹ (λ (h : model.Job). HoldsJob d (placeWords (h .place) (l .words)) h S) one H)));
           })

@@ -1,8 +1,8 @@
--- `dispatcher::unmoved` meets its contract. Assumes nothing.
-use Rattle.dispatcher.proofs.Replies.{unmoved-as}
+-- `head_turn::unmoved` meets its contract. Assumes nothing.
+use Rattle.head_turn.proofs.Replies.{unmoved-as}
 use borrow.Author.Needs.{needs}
-use Rattle.dispatcher.proofs.unmoved.Statement.{statement}
-use Rattle.dispatcher.proofs.unmoved.Tie as tie
+use Rattle.head_turn.proofs.unmoved.Statement.{statement}
+use Rattle.head_turn.proofs.unmoved.Tie as tie
 
 zero-requires : tie.Need-zero-requires
 zero-requires c κs = search needs

@@ -1,8 +1,8 @@
--- `dispatcher::full` meets its contract. Assumes nothing.
-use Rattle.dispatcher.proofs.Replies.{full-too-short, full-of-jobs}
+-- `admission::full` meets its contract. Assumes nothing.
+use Rattle.admission.proofs.Replies.{full-too-short, full-of-jobs}
 use borrow.Author.Needs.{needs}
-use Rattle.dispatcher.proofs.full.Statement.{statement}
-use Rattle.dispatcher.proofs.full.Tie as tie
+use Rattle.admission.proofs.full.Statement.{statement}
+use Rattle.admission.proofs.full.Tie as tie
 
 refused-requires : tie.Need-refused-requires
 refused-requires c κs = search needs

@@ -24,26 +24,26 @@ use Rattle.queue.specs.Bridge.{queueIn, isFreeIn, freePlaceIn}
 use Rattle.share.specs.declared.Race.{Race}
 use Rattle.share.specs.Search.{searched}
 use Rattle.places.specs.Words.{FreeCleared, Put}
-use Rattle.dispatcher.specs.declared.Boards.{Boards}
-use Rattle.dispatcher.specs.declared.Dispatcher.{Dispatcher}
-use Rattle.dispatcher.specs.Bridge.{deskIn, boardsAt, raceAt, HoldsIn, Holds, lent, AdmitOf}
-use Rattle.dispatcher.proofs.Members.{member-last, one-job, number-below, place-below, place-held}
-use Rattle.dispatcher.proofs.Cases.{Case, admit-admitted, sheet-judged}
-use Rattle.dispatcher.proofs.Serving.{words-cleared, holds-same, words-same}
+use Rattle.held_jobs.specs.declared.Boards.{Boards}
+use Rattle.held_jobs.specs.Held.{Held, deskOf, boardsAt, raceAt, HoldsIn, HoldsJob, lent}
+use Rattle.admission.specs.Admission.{Admits}
+use Rattle.held_jobs.proofs.Members.{member-last, one-job, number-below, place-below, place-held}
+use Rattle.held_jobs.proofs.Cases.{Case, admit-admitted, sheet-judged}
+use Rattle.held_jobs.proofs.Serving.{words-cleared, holds-same, words-same}
 
 -- the lowest free place is one of the eight, and free
 pub place-free : (js : List model.Job) (p : ℕ) → freePlaceIn js ≡ some p → (p < jobsMost) × (isFreeIn js p ≡ true)
 place-free js p e = let L = lowest-some jobsMost (isFreeIn js) p e in (L .below, L .passes)
 
 -- the place of a job held is another
-pub not-place : (d : Dispatcher) (place : ℕ) → freePlaceIn (queueIn (d .queue)) ≡ some place → (p : ℕ) → isFree (deskIn d) p ≡ false → p ≡ place → ⊥
+pub not-place : (d : Held) (place : ℕ) → freePlaceIn (queueIn (d .queue)) ≡ some place → (p : ℕ) → isFree (deskOf d) p ≡ false → p ≡ place → ⊥
 unfolding isFree
 not-place d place free p f e = not-both (isFreeIn (queueIn (d .queue)) place) (place-free (queueIn (d .queue)) place free .1) (ap (isFreeIn (queueIn (d .queue))) (sym e) ∙ f)
 
 abbrev pub unsought : Race
 unsought = record { found = 0; message = 0; event = 0 }
 
-module _ (d : Dispatcher) (place code count : ℕ) (boards written exit : List ℕ) (free : freePlaceIn (queueIn (d .queue)) ≡ some place)
+module _ (d : Held) (place code count : ℕ) (boards written exit : List ℕ) (free : freePlaceIn (queueIn (d .queue)) ≡ some place)
     (known : code < channels) (left : d .given < jobNumbers) (races : length (d .races) ≡ jobsMost) (long : length (d .boards) ≡ jobsMost)
     (longer : Queue)
     (isLonger : queueIn longer ≡ queueIn (d .queue) ++ (record { number = d .given; place = place; code = code; count = count; turns = 0 } ∷ []))
@@ -51,7 +51,7 @@ module _ (d : Dispatcher) (place code count : ℕ) (boards written exit : List �
   abbrev new : model.Job
   new = record { number = d .given; place = place; code = code; count = count; turns = 0 }
 
-  abbrev next : Dispatcher
+  abbrev next : Held
   next =
       record {
         queue = longer;
@@ -75,18 +75,18 @@ module _ (d : Dispatcher) (place code count : ℕ) (boards written exit : List �
     abbrev T : Scenario
     T = scenarioIn count boards (placeWords place written)
 
-    free-desk : freePlace (deskIn d) ≡ some place
+    free-desk : freePlace (deskOf d) ≡ some place
     unfolding freePlace isFree
     free-desk = free
 
-    accepted : admissible (deskIn d) l ≡ ok T
+    accepted : admissible (deskOf d) l ≡ ok T
     unfolding codeAt lengthAt
-    accepted = sheet-judged (deskIn d) l place free-desk (rw (sym isCode) known) enough left few ∙ isSheet
+    accepted = sheet-judged (deskOf d) l place free-desk (rw (sym isCode) known) enough left few ∙ isSheet
 
-    C : Case (deskIn d) c (admitted (d .given) place) (admitting (deskIn d) place (codeAt l place) count)
-    C = admit-admitted (deskIn d) l place T free-desk accepted
+    C : Case (deskOf d) c (admitted (d .given) place) (admitting (deskOf d) place (codeAt l place) count)
+    C = admit-admitted (deskOf d) l place T free-desk accepted
 
-    next-is : deskIn next ≡ behind (deskIn d) c
+    next-is : deskOf next ≡ behind (deskOf d) c
     unfolding admitting codeAt
     next-is =
         ap (λ (q : List model.Job). record { queue = q; given = d .given + 1 }) isLonger
@@ -101,10 +101,10 @@ module _ (d : Dispatcher) (place code count : ℕ) (boards written exit : List �
         last [] = inl refl
         last (j ∷ js) = inr (last js)
 
-    W : WordsLeft (deskIn d) c exit
+    W : WordsLeft (deskOf d) c exit
     unfolding touchesNothing
     W =
-        words-cleared (deskIn d) c written exit (ap touchesNothing (C .outcome))
+        words-cleared (deskOf d) c written exit (ap touchesNothing (C .outcome))
         (subst (λ (q : Desk). FreeCleared (q .queue) written exit) next-is F) (P .kept) (P .rest) (λ p h f. P .others p h (not-place d place free p f))
 
     -- the new job is held
@@ -120,46 +120,46 @@ module _ (d : Dispatcher) (place code count : ℕ) (boards written exit : List �
         (subst⁻¹ (λ (w : List ℕ). HoldsIn boards unsought w new T) kept
         (record { inPlace = below; fit = fit; isScenario = refl; isChannel = known; turnsMost = omega arith; found = refl })))
 
-    admits : (m : Lent) (p : ℕ) (S : Scenario) → c ≡ admit m → freePlace (deskIn d) ≡ some p → admissible (deskIn d) m ≡ ok S
-        → Holds next (placeWords p exit) (newJob (deskIn d) p (codeAt m p) (S .count)) S
+    admits : (m : Lent) (p : ℕ) (S : Scenario) → c ≡ admit m → freePlace (deskOf d) ≡ some p → admissible (deskOf d) m ≡ ok S
+        → HoldsJob next (placeWords p exit) (newJob (deskOf d) p (codeAt m p) (S .count)) S
     unfolding codeAt
     admits m p S i f a =
         let one : l ≡ m = cc in
         let two : some place ≡ some p = sym free-desk ∙ f in
         let at : place ≡ p = cc in
-        let three : ok T ≡ ok S = sym accepted ∙ ap (admissible (deskIn d)) one ∙ a in
+        let three : ok T ≡ ok S = sym accepted ∙ ap (admissible (deskOf d)) one ∙ a in
         let is : T ≡ S = cc in
-        subst (λ (m : Lent). Holds next (placeWords p exit) (newJob (deskIn d) p (codeAt m p) (S .count)) S) one
-        (subst (λ (S : Scenario). Holds next (placeWords p exit) (newJob (deskIn d) p (codeAt l p) (S .count)) S) is
-        (subst (λ (p : ℕ). Holds next (placeWords p exit) (newJob (deskIn d) p (codeAt l p) count) T) at
-        (subst (λ (k : ℕ). HoldsIn (boardsAt next place) (raceAt next place) (placeWords place exit) (newJob (deskIn d) place k count) T) isCode holds-new)))
+        subst (λ (m : Lent). HoldsJob next (placeWords p exit) (newJob (deskOf d) p (codeAt m p) (S .count)) S) one
+        (subst (λ (S : Scenario). HoldsJob next (placeWords p exit) (newJob (deskOf d) p (codeAt l p) (S .count)) S) is
+        (subst (λ (p : ℕ). HoldsJob next (placeWords p exit) (newJob (deskOf d) p (codeAt l p) count) T) at
+        (subst (λ (k : ℕ). HoldsIn (boardsAt next place) (raceAt next place) (placeWords place exit) (newJob (deskOf d) place k count) T) isCode holds-new)))
 
-    keeps : Orderly (deskIn d) → (j k : model.Job) (S : Scenario) → Member j (deskIn d .queue) → Member k (behind (deskIn d) c .queue)
-        → j .number ≡ k .number → Holds d (placeWords (j .place) words) j S → Holds next (placeWords (k .place) exit) k S
+    keeps : Orderly (deskOf d) → (j k : model.Job) (S : Scenario) → Member j (deskOf d .queue) → Member k (behind (deskOf d) c .queue)
+        → j .number ≡ k .number → HoldsJob d (placeWords (j .place) words) j S → HoldsJob next (placeWords (k .place) exit) k S
     keeps o j k S a b m H =
         ⊎-elim
         (λ u.
-        let i : j ≡ k = one-job (deskIn d) o j k a u m in
-        let other = not-place d place free (k .place) (place-held (deskIn d) k u) in
+        let i : j ≡ k = one-job (deskOf d) o j k a u m in
+        let other = not-place d place free (k .place) (place-held (deskOf d) k u) in
         holds-same d next (placeWords (k .place) words) (placeWords (k .place) exit) k S
         (ap (λ (b : Boards). b .on) (getD-set-other (d .boards) place (k .place) (record { on = boards }) _ other))
         (getD-set-other (d .races) place (k .place) unsought _ other)
-        (words-same (deskIn d) c exit k W o u b)
-        (subst (λ (h : model.Job). Holds d (placeWords (h .place) words) h S) i H))
+        (words-same (deskOf d) c exit k W o u b)
+        (subst (λ (h : model.Job). HoldsJob d (placeWords (h .place) words) h S) i H))
         (λ u.
         let number : k .number ≡ d .given = ap (λ (h : model.Job). h .number) u in
-        absurd (omega (arith, number-below (deskIn d) o j a)))
+        absurd (omega (arith, number-below (deskOf d) o j a)))
         (member-last k new (queueIn (d .queue)) (subst (λ (q : List model.Job). Member k q) isLonger (subst⁻¹ (λ (q : Desk). Member k (q .queue)) next-is b)))
 
-    pub admitted-serves : (r : Served Dispatcher) → r ≡ record { told = record { word = admittedWord; one = d .given; two = place; answer = noAnswer }; next = next }
-        → AdmitOf d sheets lengths codes words exit r
+    pub admitted-serves : (r : Served Held) → r ≡ record { told = record { word = admittedWord; one = d .given; two = place; answer = noAnswer }; next = next }
+        → Admits d sheets lengths codes words exit r
     unfolding leavesAll
     admitted-serves r e =
-        subst⁻¹ (λ (s : Served Dispatcher). AdmitOf d sheets lengths codes words exit s) e
+        subst⁻¹ (λ (s : Served Held). Admits d sheets lengths codes words exit s) e
         (record {
           told = ap (λ u. toldAs u noAnswer) (sym (C .outcome));
           next = next-is;
-          leftAlone = λ u. not-both (leavesAll (outcomeOf (deskIn d) c)) u (ap leavesAll (C .outcome));
+          leftAlone = λ u. not-both (leavesAll (outcomeOf (deskOf d) c)) u (ap leavesAll (C .outcome));
           wordsLeft = W;
           traceKept = λ u. refl;
           traceLocked = λ u. (refl, refl);

@@ -1,8 +1,8 @@
--- `dispatcher::answer` meets its contract. Assumes nothing.
-use Rattle.dispatcher.proofs.Replies.{answer-serves}
+-- `head_turn::answer` meets its contract. Assumes nothing.
+use Rattle.head_turn.proofs.Replies.{answer-serves}
 use borrow.Author.Needs.{needs}
-use Rattle.dispatcher.proofs.answer.Statement.{statement}
-use Rattle.dispatcher.proofs.answer.Tie as tie
+use Rattle.head_turn.proofs.answer.Statement.{statement}
+use Rattle.head_turn.proofs.answer.Tie as tie
 
 cast-place : tie.Need-cast-place
 cast-place c = search needs

@@ -1,16 +1,15 @@
 -- The jobs of an orderly dispatcher: each has a place and a number of its own. Assumes nothing.
 use mathlib.Core.Path.{_≡_, refl, sym, _∙_, ap, subst, subst⁻¹}
 use mathlib.Core.Logic.{_⊎_, inl, inr, ⊎-elim}
-use mathlib.Core.Bool.{Bool, true, false, not, cond, _&&_}
+use mathlib.Core.Bool.{Bool, true, false, not, cond}
 use mathlib.Core.List.{List, [], _∷_, _++_, map}
 use Prim.Native.Nat.{ℕ, _<_}
-use borrow.Author.Tests.{ltb-true, not-true}
-use lib.Dec.{eqb, ltb}
+use lib.Dec.{eqb}
 use Rattle.model.specs.Limits.{jobsMost}
-use Rattle.model.specs.Bounded.{among}
-use Rattle.model.specs.Dispatcher.{Job, placesOf, numbersIn, without, Desk, isFree, Member, eachOnce, allBelow, Orderly}
-use Rattle.model.proofs.Bounded.{and-left, and-right, not-both}
-use Rattle.model.proofs.Ahead.{among-here, among-there}
+use Rattle.model.specs.Bounded.{among, eachOnce}
+use Rattle.model.specs.Dispatcher.{Job, placesOf, numbersIn, without, Desk, isFree, Member, Orderly}
+use Rattle.model.proofs.Bounded.{not-both}
+use Rattle.model.proofs.Ahead.{among-here, among-there, once-parts, once-below}
 use Rattle.model.proofs.Queue.{placeOf, numberOf, places-map, numbers-map}
 
 -- ---- whatever is read of each job
@@ -24,37 +23,28 @@ module _ (f : Job → ℕ) where
       m
 
   -- two jobs that agree in it are one
-  member-same : (j k : Job) (js : List Job) → eachOnce (map f js) ≡ true → Member j js → Member k js → f j ≡ f k → j ≡ k
-  unfolding eachOnce
-  member-same j k [] o a b e = absurd a
-  member-same j k (h ∷ js) o a b e =
-      let fresh : among (f h) (map f js) ≡ false = not-true (among (f h) (map f js)) (and-left (not (among (f h) (map f js))) (eachOnce (map f js)) o) in
+  member-same : (n : ℕ) (j k : Job) (js : List Job) → eachOnce n (map f js) ≡ true → Member j js → Member k js → f j ≡ f k → j ≡ k
+  member-same n j k [] o a b e = absurd a
+  member-same n j k (h ∷ js) o a b e =
+      let parts = once-parts n (f h) (map f js) o in
       ⊎-elim
       (λ i.
       ⊎-elim (λ u. i ∙ sym u)
-      (λ u. not-both (among (f h) (map f js)) (ap (λ n. among n (map f js)) (ap f (sym i) ∙ e) ∙ member-among k js u) fresh)
+      (λ u. not-both (among (f h) (map f js)) (ap (λ x. among x (map f js)) (ap f (sym i) ∙ e) ∙ member-among k js u) (parts .fresh))
       b)
       (λ i.
-      ⊎-elim (λ u. not-both (among (f h) (map f js)) (ap (λ n. among n (map f js)) (ap f (sym u) ∙ sym e) ∙ member-among j js i) fresh)
-      (λ u. member-same j k js (and-right (not (among (f h) (map f js))) (eachOnce (map f js)) o) i u e)
+      ⊎-elim (λ u. not-both (among (f h) (map f js)) (ap (λ x. among x (map f js)) (ap f (sym u) ∙ sym e) ∙ member-among j js i) (parts .fresh))
+      (λ u. member-same n j k js (parts .rest) i u e)
       b)
       a
 
-  member-below : (b : ℕ) (j : Job) (js : List Job) → allBelow b (map f js) ≡ true → Member j js → f j < b
-  unfolding allBelow
-  member-below b j [] h m = absurd m
-  member-below b j (k ∷ js) h m =
-      ⊎-elim
-      (λ e. subst⁻¹ (λ (i : Job). f i < b) e (ltb-true (f k) b (and-left (ltb (f k) b) (allBelow b (map f js)) h)))
-      (λ i. member-below b j js (and-right (ltb (f k) b) (allBelow b (map f js)) h) i)
-      m
+  member-below : (n : ℕ) (j : Job) (js : List Job) → eachOnce n (map f js) ≡ true → Member j js → f j < n
+  member-below n j js o m = once-below n (map f js) (f j) o (member-among j js m)
 
   -- the first differs from every one behind it
-  head-apart : (j k : Job) (js : List Job) → eachOnce (map f (j ∷ js)) ≡ true → Member k js → f k ≡ f j → ⊥
-  unfolding eachOnce
-  head-apart j k js o m e =
-      not-both (among (f j) (map f js)) (ap (λ n. among n (map f js)) (sym e) ∙ member-among k js m)
-      (not-true (among (f j) (map f js)) (and-left (not (among (f j) (map f js))) (eachOnce (map f js)) o))
+  head-apart : (n : ℕ) (j k : Job) (js : List Job) → eachOnce n (map f (j ∷ js)) ≡ true → Member k js → f k ≡ f j → ⊥
+  head-apart n j k js o m e =
+      not-both (among (f j) (map f js)) (ap (λ x. among x (map f js)) (sym e) ∙ member-among k js m) (once-parts n (f j) (map f js) o .fresh)
 
 -- ---- members of the lists that calls make
 pub member-last : (k n : Job) (js : List Job) → Member k (js ++ (n ∷ [])) → Member k js ⊎ (k ≡ n)
@@ -72,24 +62,24 @@ member-without k n (j ∷ js) m = go (eqb (j .number) n) (λ u. member-without k
 
 -- ---- orderly dispatchers
 module _ (d : Desk) (o : Orderly d) where
-  once-numbers : eachOnce (map numberOf (d .queue)) ≡ true
-  once-numbers = ap eachOnce (sym (numbers-map (d .queue))) ∙ o .numbers
+  once-numbers : eachOnce (d .given) (map numberOf (d .queue)) ≡ true
+  once-numbers = ap (eachOnce (d .given)) (sym (numbers-map (d .queue))) ∙ o .numbers
 
-  once-places : eachOnce (map placeOf (d .queue)) ≡ true
-  once-places = ap eachOnce (sym (places-map (d .queue))) ∙ o .places
+  once-places : eachOnce jobsMost (map placeOf (d .queue)) ≡ true
+  once-places = ap (eachOnce jobsMost) (sym (places-map (d .queue))) ∙ o .places
 
   -- two jobs of one number are one
   pub one-job : (j k : Job) → Member j (d .queue) → Member k (d .queue) → j .number ≡ k .number → j ≡ k
-  one-job j k a b e = member-same numberOf j k (d .queue) once-numbers a b e
+  one-job j k a b e = member-same numberOf (d .given) j k (d .queue) once-numbers a b e
 
   pub number-below : (j : Job) → Member j (d .queue) → j .number < d .given
-  number-below j m = member-below numberOf (d .given) j (d .queue) (ap (allBelow (d .given)) (sym (numbers-map (d .queue))) ∙ o .numbersBelow) m
+  number-below j m = member-below numberOf (d .given) j (d .queue) once-numbers m
 
   pub place-below : (j : Job) → Member j (d .queue) → j .place < jobsMost
-  place-below j m = member-below placeOf jobsMost j (d .queue) (ap (allBelow jobsMost) (sym (places-map (d .queue))) ∙ o .placesBelow) m
+  place-below j m = member-below placeOf jobsMost j (d .queue) once-places m
 
   pub place-apart : (j k : Job) (js : List Job) → d .queue ≡ j ∷ js → Member k js → k .place ≡ j .place → ⊥
-  place-apart j k js e m i = head-apart placeOf j k js (ap (λ q. eachOnce (map placeOf q)) (sym e) ∙ once-places) m i
+  place-apart j k js e m i = head-apart placeOf jobsMost j k js (ap (λ q. eachOnce jobsMost (map placeOf q)) (sym e) ∙ once-places) m i
 
 -- the place of a job is not free
 pub place-held : (d : Desk) (j : Job) → Member j (d .queue) → isFree d (j .place) ≡ false

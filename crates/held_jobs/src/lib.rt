@@ -1,5 +1,5 @@
-// What a dispatcher holds of its jobs is the definitions of specs/ and the laws of proofs/. What stands here, for the code of its calls to use, is the
-// boards of a job, and the words of the calls' answers: each is the number of the same name in the model, and a proof that uses one ties the two together.
+// What a dispatcher holds of its jobs: its definitions stand in specs/ and its laws in proofs/. Here are the boards of a job, and the words of the
+// calls' answers, each the number of the same name in the model: a proof that uses one ties the two together.
 
 // The board of each event of the job in a place.
 #[repr(C)]

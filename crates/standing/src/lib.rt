@@ -57,43 +57,16 @@ fn is_held_up<'a>(
     requires { ⌜ m < count ⌝ }
     ensures { λ r. ⌜ SaysStill count (now (boards .entry)) (now (words .entry)) c (now (done .entry)) (now (way .entry)) (now (rows .entry)) m r ⌝ }
 {
-    if may_step(
-        words,
-        masks,
-        boards,
-        count,
-        c,
-        done,
-        way,
-        rows,
-        Step::Send(m),
-    ) {
+    let send = Step::Send(m);
+    if may_step(words, masks, boards, count, c, done, way, rows, send) {
         return false;
     }
-    if may_step(
-        words,
-        masks,
-        boards,
-        count,
-        c,
-        done,
-        way,
-        rows,
-        Step::Deliver(m),
-    ) {
+    let deliver = Step::Deliver(m);
+    if may_step(words, masks, boards, count, c, done, way, rows, deliver) {
         return false;
     }
-    !may_step(
-        words,
-        masks,
-        boards,
-        count,
-        c,
-        done,
-        way,
-        rows,
-        Step::Consume(m),
-    )
+    let consume = Step::Consume(m);
+    !may_step(words, masks, boards, count, c, done, way, rows, consume)
 }
 
 // No step is allowed.

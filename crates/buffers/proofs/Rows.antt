@@ -12,9 +12,9 @@ use lib.Seq.{getD-set-same, getD-set-other}
 use Rattle.model.specs.Limits.{messagesMost}
 use Rattle.model.proofs.Lists.{replicate-at}
 use Rattle.relation.specs.Width.{width, wordBits}
-use Rattle.relation.specs.Rows.{has, holds, marked, unmarked, joinedFrom}
+use Rattle.relation.specs.Rows.{has, holds, marked, unmarked}
 use Rattle.relation.proofs.Bits.{has-zero}
-use Rattle.relation.proofs.Joined.{gained-at, length-joined-from, joined-from-outside}
+use Rattle.relation.proofs.Joined.{copied-at, copied-outside}
 use Rattle.relation.proofs.Marked.{length-marked, length-unmarked}
 use Rattle.relation.proofs.Place.{word-row}
 use Rattle.run.specs.declared.Buffer.{Buffer}
@@ -27,55 +27,40 @@ use Rattle.run.specs.State.{inRow, bufferOf, HeldBehind}
 use Rattle.run.proofs.Rows.{with-bit, without-bit}
 use Rattle.run.proofs.States.{start-run, starts}
 use Rattle.relation.proofs.Words.{alone-row}
-use Rattle.buffers.specs.Held.{HeldIn, RowsBehind}
+use Rattle.buffers.specs.Held.{HeldIn, LaysRow, RowsBehind}
 
--- a row that was empty is the row it gains
-joined-word : (l : List ℕ) (to : ℕ) (other : List ℕ) (from i : ℕ) → to * width + width ≤ length l → i < width → getD l (to * width + i) 0 ≡ 0
-    → getD (joinedFrom width l to other from) (to * width + i) 0 ≡ getD other (from * width + i) 0
-unfolding joinedFrom
-joined-word l to other from i room h z =
-    gained-at l (to * width) other (from * width) width i h room ∙ ap (λ (w : ℕ). bitOr w (getD other (from * width + i) 0)) z
-
--- What the loop over the buffers keeps: those passed are laid out, and the other rows are empty.
+-- What the loop over the buffers keeps: those passed are laid out.
 pub record Laid (run : Run) (rows : List ℕ) (b : ℕ) : Type 0 where
   pub long : (a : ℕ) → a < b → length (bufferOf run a .held) ≡ width
   pub words : (a i : ℕ) → a < b → i < width → getD rows (a * width + i) 0 ≡ getD (bufferOf run a .held) i 0
-  pub empty : (j : ℕ) → b * width ≤ j → getD rows j 0 ≡ 0
-  pub room : length rows ≡ boardsMost * width
   pub most : b ≤ boardsMost
 
-pub laid-start : (run : Run) → Laid run (replicate (boardsMost * width) 0) 0
-laid-start run =
+pub laid-start : (run : Run) (rows : List ℕ) → Laid run rows 0
+laid-start run rows =
     record {
       long = λ a h. absurd (not-suc-le-zero h);
       words = λ a i h l. absurd (not-suc-le-zero h);
-      empty = λ j h. replicate-at (boardsMost * width) j 0;
-      room = length-replicate {A = ℕ} (boardsMost * width) 0;
       most = omega arith;
     }
 
 pub laid-more : (run : Run) (rows now : List ℕ) (b : ℕ) (buffer : Buffer) → Laid run rows b → bufferOf run b ≡ buffer
-    → (now ≡ joinedFrom width rows b (buffer .held) 0) × (length (buffer .held) ≡ width) → b < boardsMost → Laid run now (b + 1)
+    → LaysRow rows b (buffer .held) now → b < boardsMost → Laid run now (b + 1)
 laid-more run rows now b buffer p e j h =
     record {
       long = λ a g. here-long a g (ℕ-discrete a b);
       words = λ a i g l. here a i g l (ℕ-discrete a b);
-      empty = λ k g. outside k (λ i l s. omega arith) ∙ p .empty k (omega arith);
-      room = ap length (j .0) ∙ length-joined-from width rows b (buffer .held) 0 ∙ p .room;
       most = omega arith;
     }
   where
-    outside : (k : ℕ) → ((i : ℕ) → i < width → k ≡ b * width + i → ⊥) → getD now k 0 ≡ getD rows k 0
-    outside k out = rw (j .0) (joined-from-outside width rows b (buffer .held) 0 k out)
-
     here-long : (a : ℕ) → a < b + 1 → Dec (a ≡ b) → length (bufferOf run a .held) ≡ width
-    here-long a g (yes s) = rw (s, e) (j .1)
+    here-long a g (yes s) = rw (s, e) (j .long)
     here-long a g (no n) = p .long a (omega arith)
 
     here : (a i : ℕ) → a < b + 1 → i < width → Dec (a ≡ b) → getD now (a * width + i) 0 ≡ getD (bufferOf run a .held) i 0
     here a i g l (yes s) =
-        rw (s, e, j .0) (joined-word rows b (buffer .held) 0 i (omega (arith, p .room)) l (p .empty (b * width + i) (omega arith)) ∙ ap (λ (k : ℕ). getD (buffer .held) k 0) (zero-add i))
-    here a i g l (no n) = outside (a * width + i) (λ k m s. omega arith) ∙ p .words a i (omega arith) l
+        rw (s, e, j .put) (copied-at width rows b (buffer .held) 0 i l (omega (arith, j .room)) ∙ ap (λ (k : ℕ). getD (buffer .held) k 0) (zero-add i))
+    here a i g l (no n) =
+        rw (j .put) (copied-outside width rows b (buffer .held) 0 (a * width + i) (λ k m s. omega arith) ∙ p .words a i (omega arith) l)
 
 pub laid-all : (run : Run) (rows : List ℕ) (b : ℕ) → Laid run rows b → boardsMost ≤ b → length (run .buffers) ≡ boardsMost → HeldIn run rows
 laid-all run rows b p h l =

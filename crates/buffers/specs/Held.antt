@@ -5,7 +5,7 @@ use mathlib.Core.List.{List}
 use Prim.Native.Nat.{ℕ, _+_, _*_, _<_}
 use lib.ListN.{length, getD}
 use Rattle.relation.specs.Width.{width, wordBits}
-use Rattle.relation.specs.Rows.{holds, marked, unmarked}
+use Rattle.relation.specs.Rows.{holds, marked, unmarked, copiedFrom}
 use Rattle.board.specs.Boards.{boardsMost}
 use Rattle.step.specs.declared.Step.{Step}
 use Rattle.step.specs.declared.Step.the-variants as step
@@ -17,6 +17,12 @@ pub record HeldIn (run : Run) (rows : List ℕ) : Type 0 where
   pub boards : length (run .buffers) ≡ boardsMost
   pub long : (b : ℕ) → b < boardsMost → length (bufferOf run b .held) ≡ width
   pub words : (b i : ℕ) → b < boardsMost → i < width → getD rows (b * width + i) 0 ≡ getD (bufferOf run b .held) i 0
+
+-- row b becomes the row held
+pub record LaysRow (rows : List ℕ) (b : ℕ) (held behind : List ℕ) : Type 0 where
+  pub put : behind ≡ copiedFrom width rows b held 0
+  pub long : length held ≡ width
+  pub room : length rows ≡ boardsMost * width
 
 -- the rows behind a step, whose receiver is board b: its row gains a message delivered, and loses one consumed
 abbrev pub RowsBehind : List ℕ → ℕ → Step → List ℕ → Type 0

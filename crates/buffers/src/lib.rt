@@ -1,13 +1,9 @@
 // The buffers of a run in rows of words, a row a board: what the search for a step reads without a copy of the run.
-ghost use mathlib.Core.Path.{_≡_};
 ghost use Prim.Native.Nat.{_<_};
-ghost use lib.ListN.{length};
 ghost use Rattle.model.specs.Limits.{messagesMost};
-ghost use Rattle.relation.specs.Width.{width};
-ghost use Rattle.relation.specs.Rows.{joinedFrom};
 ghost use Rattle.board.specs.Boards.{boardsMost};
 ghost use Rattle.step.specs.Steps.{messageIn};
-ghost use Rattle.buffers.specs.Held.{HeldIn, RowsBehind};
+ghost use Rattle.buffers.specs.Held.{HeldIn, LaysRow, RowsBehind};
 use relation::WIDTH;
 use run::Buffer;
 use run::Run;
@@ -16,24 +12,22 @@ use step::Step;
 // The words of all buffers, a row a board.
 pub const HELD_WORDS: usize = model::BOARDS * WIDTH;
 
-// A board's row gains the messages of its buffer.
-fn join_held(rows: &mut [u64; HELD_WORDS], board: usize, buffer: Buffer)
+// A board's row becomes its buffer's.
+fn lay_row(rows: &mut [u64; HELD_WORDS], board: usize, buffer: Buffer)
     requires { ⌜ board < boardsMost ⌝ }
-    ensures { λ _. ⌜ (now (rows .exit) ≡ joinedFrom width (now (rows .entry)) board (buffer .held) 0) × (length (buffer .held) ≡ width) ⌝ }
+    ensures { λ _. ⌜ LaysRow (now (rows .entry)) board (buffer .held) (now (rows .exit)) ⌝ }
 {
-    relation::join_from(rows, board, &buffer.held, 0);
+    relation::copy_from(rows, board, &buffer.held, 0);
 }
 
-// The buffers of a run, in rows.
-pub fn held_rows(run: Run) -> [u64; HELD_WORDS]
-    ensures { λ r. ⌜ HeldIn run r ⌝ }
+// The rows become the buffers of a run. They are lent: an array handed back is copied once more.
+pub fn lay_rows(rows: &mut [u64; HELD_WORDS], run: Run)
+    ensures { λ _. ⌜ HeldIn run (now (rows .exit)) ⌝ }
 {
-    let mut rows = [0u64; HELD_WORDS];
     for board in 0..model::BOARDS {
         let buffer = run.buffers[board];
-        join_held(&mut rows, board, buffer);
+        lay_row(rows, board, buffer);
     }
-    rows
 }
 
 // The rows, as a step leaves them: that of the board it goes to gains a message delivered, and loses one consumed.

@@ -155,10 +155,6 @@ module _ (eager : Bool) (masks held : List ℕ) (y : ℕ) (step : Step) (m : ℕ
   pub not-held-up : step ≡ Consume m → false ≡ heldUp eager masks held y step
   not-held-up i = ap (heldUp eager masks held y) (sym i)
 
-pub goes-on : (eager : Bool) (masks held : List ℕ) (y : ℕ) (step : Step) (u : Bool) → u ≡ heldUp eager masks held y step → u ≡ false
-    → heldUp eager masks held y step ≡ false
-goes-on eager masks held y step u e f = sym e ∙ f
-
 -- the step, by a row that is the buffer of its board: with that buffer, and in every run with these buffers in rows
 module _ (count : ℕ) (on words : List ℕ) (c : Channel) (done way : List ℕ) (t : Step) where
   pub by-buffer : (r : Bool) (buffer : Buffer) → SaysRow count on words c done way (buffer .held) 0 t r → SaysStep count on words c done way buffer t r

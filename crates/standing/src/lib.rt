@@ -76,7 +76,8 @@ fn is_still(run: Run, words: &[u64], masks: &[u64], boards: &[u8], count: usize,
 {
     let done = run.done;
     let way = run.way;
-    let rows = buffers::held_rows(run);
+    let mut rows = [0u64; HELD_WORDS];
+    buffers::lay_rows(&mut rows, run);
     for m in 0..count {
         if !is_held_up(words, masks, boards, count, c, &done, &way, &rows, m) {
             return false;

@@ -1,21 +1,21 @@
--- `buffers::held_rows` meets its contract. The loop keeps `Laid`: the buffers passed are laid out. Assumes nothing.
+-- `buffers::lay_rows` meets its contract. The loop keeps `Laid`: the buffers passed are laid out. Assumes nothing.
 use mathlib.Core.Path.{refl}
 use Prim.Native.Nat.{_-_}
 use borrow.Author.Needs.{needs}
 use Rattle.model.specs.Limits.{boards}
 use Rattle.run.proofs.States.{buffers-long}
 use Rattle.buffers.proofs.Rows.{Laid, laid-start, laid-more, laid-all}
-use Rattle.buffers.proofs.held_rows.Statement.{statement}
-use Rattle.buffers.proofs.held_rows.Tie as tie
+use Rattle.buffers.proofs.lay_rows.Statement.{statement}
+use Rattle.buffers.proofs.lay_rows.Tie as tie
 
 abbrev Inv-loop : tie.InvT-loop
-Inv-loop run rows₀ board₀ rows board = Laid run rows board
+Inv-loop rows₀ run board₀ rows board = Laid run rows board
 
 abbrev μ-loop : tie.MeasureT-loop
-μ-loop run rows₀ board₀ rows board = boards - board
+μ-loop rows₀ run board₀ rows board = boards - board
 
 loop-holds : tie.Need-loop-holds Inv-loop μ-loop
-loop-holds c = laid-start _
+loop-holds c = laid-start _ _
 
 mul-buffer : tie.Need-mul-buffer Inv-loop μ-loop
 mul-buffer c = search needs
@@ -23,8 +23,8 @@ mul-buffer c = search needs
 element-copy-out-buffer : tie.Need-element-copy-out-buffer Inv-loop μ-loop
 element-copy-out-buffer c = search needs
 
-join-held-requires : tie.Need-join-held-requires Inv-loop μ-loop
-join-held-requires c κs = search needs
+lay-row-requires : tie.Need-lay-row-requires Inv-loop μ-loop
+lay-row-requires c κs = search needs
 
 add-board : tie.Need-add-board Inv-loop μ-loop
 add-board c = search needs
@@ -35,15 +35,15 @@ loop-less c = search needs
 loop-again : tie.Need-loop-again Inv-loop μ-loop
 loop-again c =
     let s = c .before .before .before .before in
-    laid-more _ _ _ _ _ (s .loop .inv) refl (c .join-held .ensures) (search needs)
+    laid-more _ _ _ _ _ (s .loop .inv) refl (c .lay-row .ensures) (search needs)
 
 returns : tie.Need-returns Inv-loop μ-loop
 returns c =
     let s = c .before .before in
-    laid-all _ _ _ (c .before .loop .inv) (c .loop-test .left) (buffers-long (s .args .t1) _ (s .good .0))
+    laid-all _ _ _ (c .before .loop .inv) (c .loop-test .left) (buffers-long (s .args .t2) _ (s .good .1 .0))
 
-pub held-rows-spec : {M : Type 1} → statement M
-held-rows-spec =
+pub lay-rows-spec : {M : Type 1} → statement M
+lay-rows-spec =
     tie.close
     (tie.spec
     Inv-loop
@@ -51,7 +51,7 @@ held-rows-spec =
     loop-holds
     mul-buffer
     element-copy-out-buffer
-    join-held-requires
+    lay-row-requires
     add-board
     loop-less
     loop-again

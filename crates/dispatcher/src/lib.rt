@@ -133,12 +133,11 @@ impl Dispatcher {
         let boards = self.boards;
         let left = leave(queue, number, words);
         let next = left.queue;
-        let answer = Numbers::zero();
         DispatcherAnswer {
             word: left.word,
             one: left.one,
             two: 0,
-            answer,
+            answer: Numbers::zero(),
             next: Dispatcher {
                 queue: next,
                 given: self.given,

@@ -24,7 +24,7 @@ part-of-requires : tie.Need-part-of-requires
 part-of-requires c κs = search needs
 
 admit-into-requires : tie.Need-admit-into-requires
-admit-into-requires c κs = search part-spare
+admit-into-requires c κs = part-spare _ _ _ _ _ _ (c .before .part-of .ensures) (c .before .before .before .before .spare-place .ensures)
 
 mul-races : tie.Need-mul-races
 mul-races c = search needs

@@ -1,6 +1,6 @@
 // `chart CODE`: a picture, in SVG, of what the check finds on a channel: the steps that lock the sheet and what each jammed board waits for, or one
 // course of a free sheet's events. `chart CODE TRACEFILE`: the same of a trace from another tool.
-use channel_check::ChannelCheckAnswer;
+use answers::ChannelCheckAnswer;
 use chart_layout::BASE;
 use chart_layout::MARGIN;
 use chart_layout::MIDDLE;

@@ -1,6 +1,6 @@
 // `choices CODE`: the answer over all choice lists of a file and, where it is locked, the options of the first locked list, its race and
 // its steps.
-use channel_check::ChannelCheckAnswer;
+use answers::ChannelCheckAnswer;
 use model::LEVELS;
 use model::ROWS_MOST;
 use model::SHEETS;

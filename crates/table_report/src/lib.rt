@@ -1,5 +1,5 @@
 // `senders TABLE`: whether a table of permitted senders is sound, in words. `permitted CODE TABLE`: the check of a sheet with such a table.
-use channel_check::SendersCheckAnswer;
+use answers::SendersCheckAnswer;
 use commands::File;
 use commands::INPUT_MOST;
 use libc::STDOUT_FILENO;

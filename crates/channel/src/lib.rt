@@ -1,11 +1,13 @@
 // The step rules: whether a step is allowed.
+ghost use mathlib.Core.Path.{_≡_};
+ghost use mathlib.Core.Bool.{false};
 ghost use mathlib.Core.List.{List};
-ghost use Prim.Native.Nat.{ℕ, _*_, _<_, _≤_};
+ghost use Prim.Native.Nat.{ℕ, _+_, _*_, _<_, _≤_};
 ghost use lib.ListN.{length};
 ghost use Rattle.relation.specs.Width.{width};
 ghost use Rattle.board.specs.Masks.{maskRows, Standing};
 ghost use Rattle.step.specs.Steps.{messageIn};
-ghost use Rattle.channel.specs.Steps.{bufferWith, Says, SaysStep, SaysIn, HeldUp};
+ghost use Rattle.channel.specs.Steps.{heldUp, Says, SaysFree, SaysRow, SaysStep, SaysIn};
 use board::board_of;
 use buffers::HELD_WORDS;
 use channel_table::Channel;
@@ -16,7 +18,7 @@ use run::Run;
 use run::board_at;
 use step::Step;
 
-// Message m may be sent: its send is ready, its board, the buffer's, is free, and the further condition holds.
+// Message m may be sent where its board is free: its send is ready, and the further condition holds.
 fn may_send<'a>(
     words: &[u64],
     masks: &[u64],
@@ -25,12 +27,11 @@ fn may_send<'a>(
     c: Channel,
     done: &'a [u64; WIDTH],
     way: &'a [u64; WIDTH],
-    sender: &'a [u64; WIDTH],
     m: usize,
 ) -> bool
     requires { ⌜ Standing count (now boards) (now words) (now masks) ⌝ }
     requires { ⌜ m < count ⌝ }
-    ensures { λ r. ⌜ SaysStep count (now (boards .entry)) (now (words .entry)) c (now (done .entry)) (now (way .entry)) (bufferWith (now (sender .entry))) (Step.Send m) r ⌝ }
+    ensures { λ r. ⌜ SaysFree count (now (boards .entry)) (now (words .entry)) c (now (done .entry)) (now (way .entry)) (Step.Send m) r ⌝ }
 {
     let send = 2 * m;
     let readiness = rules::readiness_of(words, masks, boards, count, done, send);
@@ -39,33 +40,26 @@ fn may_send<'a>(
         Readiness::Done => return false,
         Readiness::Waits(_) => return false,
     }
-    if !rules::board_free(masks, c.eager, sender) {
-        return false;
-    }
     let rule = c.to_send;
     rules::send_rule(words, masks, rule, way, m)
 }
 
-// Message m may be delivered: it is under way, its board, the buffer's, is free, and the further condition holds.
-fn may_deliver<'a>(
+// Message m may be delivered where its board is free: it is under way, and the further condition holds.
+fn may_deliver(
     words: &[u64],
     masks: &[u64],
     boards: &[u8],
     count: usize,
     c: Channel,
-    way: &'a [u64; WIDTH],
-    receiver: &'a [u64; WIDTH],
+    way: &[u64; WIDTH],
     m: usize,
 ) -> bool
     requires { ⌜ Standing count (now boards) (now words) (now masks) ⌝ }
     requires { ⌜ m < count ⌝ }
-    ensures { λ r. ⌜ ((done : List ℕ) → SaysStep count (now (boards .entry)) (now (words .entry)) c done (now (way .entry)) (bufferWith (now (receiver .entry))) (Step.Deliver m) r) ⌝ }
+    ensures { λ r. ⌜ ((done : List ℕ) → SaysFree count (now (boards .entry)) (now (words .entry)) c done (now (way .entry)) (Step.Deliver m) r) ⌝ }
 {
     let send = 2 * m;
     if !relation::test(way, 0, send) {
-        return false;
-    }
-    if !rules::board_free(masks, c.eager, receiver) {
         return false;
     }
     let receive = send + 1;
@@ -74,22 +68,23 @@ fn may_deliver<'a>(
     rules::deliver_rule(words, masks, rule, way, target, m)
 }
 
-// Message m may be consumed: it is in its target's buffer and its receive is ready.
+// Message m may be consumed: it is in its target's buffer, row y of those held, and its receive is ready.
 fn may_consume<'a>(
     words: &[u64],
     masks: &[u64],
     boards: &[u8],
     count: usize,
     done: &'a [u64; WIDTH],
-    receiver: &'a [u64; WIDTH],
+    held: &'a [u64],
+    y: usize,
     m: usize,
 ) -> bool
     requires { ⌜ Standing count (now boards) (now words) (now masks) ⌝ }
-    requires { ⌜ m < count ⌝ }
-    ensures { λ r. ⌜ ((c : Channel) (way : List ℕ) → SaysStep count (now (boards .entry)) (now (words .entry)) c (now (done .entry)) way (bufferWith (now (receiver .entry))) (Step.Consume m) r) ⌝ }
+    requires { ⌜ (m < count) × (y * width + width ≤ length (now held)) ⌝ }
+    ensures { λ r. ⌜ ((c : Channel) (way : List ℕ) → SaysRow count (now (boards .entry)) (now (words .entry)) c (now (done .entry)) way (now (held .entry)) y (Step.Consume m) r) ⌝ }
 {
     let send = 2 * m;
-    if !relation::test(receiver, 0, send) {
+    if !relation::test(held, y, send) {
         return false;
     }
     let receive = send + 1;
@@ -101,7 +96,22 @@ fn may_consume<'a>(
     }
 }
 
-// The step is allowed, by the parts of a run that it reads: what is done, what is under way, and what the buffer of its board holds.
+// A send or a delivery on a board that is not free, its buffer being row y of those held. Asked ahead of the rest: most steps that a search
+// tries are held up, and it is soon told.
+fn held_up(masks: &[u64], eager: bool, held: &[u64], y: usize, step: Step) -> bool
+    requires { ⌜ maskRows * width ≤ length (now masks) ⌝ }
+    requires { ⌜ y * width + width ≤ length (now held) ⌝ }
+    ensures { λ r. ⌜ r ≡ heldUp eager (now (masks .entry)) (now (held .entry)) y step ⌝ }
+{
+    match step {
+        Step::Send(_) => !rules::board_free(masks, eager, held, y),
+        Step::Deliver(_) => !rules::board_free(masks, eager, held, y),
+        Step::Consume(_) => false,
+    }
+}
+
+// A step that is not held up is allowed, by the parts of a run that it reads: what is done, what is under way, and the buffer of its board, row y
+// of those held.
 fn allowed_by<'a>(
     words: &[u64],
     masks: &[u64],
@@ -110,17 +120,19 @@ fn allowed_by<'a>(
     c: Channel,
     done: &'a [u64; WIDTH],
     way: &'a [u64; WIDTH],
-    held: &'a [u64; WIDTH],
+    held: &'a [u64],
+    y: usize,
     step: Step,
 ) -> bool
     requires { ⌜ Standing count (now boards) (now words) (now masks) ⌝ }
-    requires { ⌜ messageIn step < count ⌝ }
-    ensures { λ r. ⌜ SaysStep count (now (boards .entry)) (now (words .entry)) c (now (done .entry)) (now (way .entry)) (bufferWith (now (held .entry))) step r ⌝ }
+    requires { ⌜ (messageIn step < count) × (y * width + width ≤ length (now held)) ⌝ }
+    requires { ⌜ heldUp (c .eager) (now masks) (now held) y step ≡ false ⌝ }
+    ensures { λ r. ⌜ SaysRow count (now (boards .entry)) (now (words .entry)) c (now (done .entry)) (now (way .entry)) (now (held .entry)) y step r ⌝ }
 {
     match step {
-        Step::Send(m) => may_send(words, masks, boards, count, c, done, way, held, m),
-        Step::Deliver(m) => may_deliver(words, masks, boards, count, c, way, held, m),
-        Step::Consume(m) => may_consume(words, masks, boards, count, done, held, m),
+        Step::Send(m) => may_send(words, masks, boards, count, c, done, way, m),
+        Step::Deliver(m) => may_deliver(words, masks, boards, count, c, way, m),
+        Step::Consume(m) => may_consume(words, masks, boards, count, done, held, y, m),
     }
 }
 
@@ -140,6 +152,9 @@ pub fn allowed<'a>(
     requires { ⌜ messageIn step < count ⌝ }
     ensures { λ r. ⌜ SaysStep count (now (boards .entry)) (now (words .entry)) c (now (done .entry)) (now (way .entry)) buffer step r ⌝ }
 {
+    if held_up(masks, c.eager, &buffer.held, 0, step) {
+        return false;
+    }
     allowed_by(
         words,
         masks,
@@ -149,20 +164,9 @@ pub fn allowed<'a>(
         done,
         way,
         &buffer.held,
+        0,
         step,
     )
-}
-
-// A send or a delivery on a board that is not free: most steps that a search tries are. Asked ahead of the rest, because it is soon told.
-fn held_up(masks: &[u64], eager: bool, held: &[u64; WIDTH], step: Step) -> bool
-    requires { ⌜ maskRows * width ≤ length (now masks) ⌝ }
-    ensures { λ r. ⌜ HeldUp (now (masks .entry)) eager (bufferWith (now (held .entry))) step r ⌝ }
-{
-    match step {
-        Step::Send(_) => !rules::board_free(masks, eager, held),
-        Step::Deliver(_) => !rules::board_free(masks, eager, held),
-        Step::Consume(_) => false,
-    }
 }
 
 // The step is allowed, by the parts of a run, with its buffers in rows.
@@ -182,21 +186,10 @@ pub fn may_step<'a>(
     ensures { λ r. ⌜ SaysIn count (now (boards .entry)) (now (words .entry)) c (now (done .entry)) (now (way .entry)) (now (rows .entry)) step r ⌝ }
 {
     let board = board_at(boards, step);
-    let buffer = buffers::buffer_at(rows, board);
-    if held_up(masks, c.eager, &buffer.held, step) {
+    if held_up(masks, c.eager, rows, board, step) {
         return false;
     }
-    allowed_by(
-        words,
-        masks,
-        boards,
-        count,
-        c,
-        done,
-        way,
-        &buffer.held,
-        step,
-    )
+    allowed_by(words, masks, boards, count, c, done, way, rows, board, step)
 }
 
 // The step is allowed in the run. For single use: each call copies the run. No step on an unknown message is allowed.

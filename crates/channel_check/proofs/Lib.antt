@@ -1,6 +1,1 @@
-mod Told
-mod Small
-mod Cured
 mod Desk
-mod Judged
-mod Fitted

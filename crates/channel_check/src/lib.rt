@@ -15,65 +15,20 @@ ghost use Rattle.dispatcher.specs.Bridge as desk;
 ghost use Rattle.dispatcher.specs.Bridge.{deskIn, Holds, emptied, lent};
 ghost use Rattle.monitor.specs.Bridge.{heldIn, zeros, answerIn};
 ghost use Rattle.replay.specs.Bridge as replayed;
-ghost use Rattle.verdict.specs.Parts.{numbersFor};
-ghost use Rattle.channel_check.specs.Numbers.{Small, numbersIn};
-ghost use Rattle.channel_check.specs.Cures as cured;
-ghost use Rattle.channel_check.specs.Tables as judged;
-ghost use Rattle.channel_check.specs.Tapped as fitted;
-pub use crate::cures::CureSheetAnswer;
-pub use crate::tables::SendersCheckAnswer;
-pub use crate::tapped::TapsCheckAnswer;
+ghost use Rattle.answers.specs.Numbers.{numbersIn};
+ghost use Rattle.answers.specs.Cures as cured;
+ghost use Rattle.answers.specs.Tables as judged;
+ghost use Rattle.answers.specs.Tapped as fitted;
+pub use answers::ChannelCheckAnswer;
+pub use answers::CureSheetAnswer;
+pub use answers::SendersCheckAnswer;
+pub use answers::TapsCheckAnswer;
 use choice::ChoiceCheckAnswer;
 use dispatcher::Dispatcher;
 use dispatcher::DispatcherAnswer;
 use monitor::Monitor;
 use monitor::MonitorAnswer;
 use replay::TraceCheckAnswer;
-use verdict::Answer;
-
-mod cures;
-mod tables;
-mod tapped;
-
-// The answer as C gets it: word 0 free, 1 locked, 2 refused.
-#[repr(C)]
-pub struct ChannelCheckAnswer {
-    pub word: u32,
-    pub one: u32,
-    pub two: u32,
-    pub three: u32,
-}
-
-// The answer's numbers for C. Each fits 32 bits.
-fn numbers(answer: Answer) -> ChannelCheckAnswer
-    requires { ⌜ Small (numbersFor answer) ⌝ }
-    ensures { λ r. ⌜ numbersIn r ≡ numbersFor answer ⌝ }
-{
-    match answer {
-        Answer::Free => ChannelCheckAnswer {
-            word: 0,
-            one: 0,
-            two: 0,
-            three: 0,
-        },
-        Answer::Locked(message, event, steps) => {
-            ChannelCheckAnswer {
-                word: 1,
-                one: message as u32,
-                two: event as u32,
-                three: steps as u32,
-            }
-        }
-        Answer::Refused(number, line) => {
-            ChannelCheckAnswer {
-                word: 2,
-                one: number as u32,
-                two: line as u32,
-                three: 0,
-            }
-        }
-    }
-}
 
 // The check: any text, any channel code, any lengths.
 #[no_mangle]
@@ -85,7 +40,7 @@ pub extern "C" fn channel_check(
 ) -> ChannelCheckAnswer
     ensures { λ r. ⌜ Checked (now (text .entry)) code (now (scratch .entry)) (now (scratch .exit)) (now (trace .entry)) (now (trace .exit)) (numbersIn r) ⌝ }
 {
-    numbers(verdict::check(text, code, scratch, trace))
+    answers::checked(verdict::check(text, code, scratch, trace))
 }
 
 // A trace from another tool: any text, any channel code, any trace, any lengths.
@@ -154,7 +109,7 @@ pub extern "C" fn monitor_switch(
 pub extern "C" fn cure_sheet(text: &[u8], scratch: &mut [u64], output: &mut [u8]) -> CureSheetAnswer
     ensures { λ r. ⌜ CureChecked (now (text .entry)) (now (scratch .entry)) (now (scratch .exit)) (now (output .entry)) (now (output .exit)) (cured.numbersIn r) ⌝ }
 {
-    cures::told(cure::cure(text, scratch, output))
+    answers::cured(cure::cure(text, scratch, output))
 }
 
 // A dispatcher that holds no job.
@@ -214,7 +169,7 @@ pub extern "C" fn dispatcher_cancel(
 pub extern "C" fn senders_check(table: &[u8]) -> SendersCheckAnswer
     ensures { λ r. ⌜ TableJudged (now (table .entry)) (judged.numbersIn r) ⌝ }
 {
-    tables::told(senders::check_senders(table))
+    answers::judged(senders::check_senders(table))
 }
 
 // The check with a table of permitted senders: any text, any channel code, any table, any lengths.
@@ -228,7 +183,7 @@ pub extern "C" fn permitted_check(
 ) -> ChannelCheckAnswer
     ensures { λ r. ⌜ PermittedCheck (now (text .entry)) code (now (scratch .entry)) (now (scratch .exit)) (now (trace .entry)) (now (trace .exit)) (now (table .entry)) (numbersIn r) ⌝ }
 {
-    numbers(permitted::check(text, code, scratch, trace, table))
+    answers::checked(permitted::check(text, code, scratch, trace, table))
 }
 
 // One course of events for two lists of events, or the event that would have to precede itself: any text, any lists, any lengths.
@@ -242,5 +197,5 @@ pub extern "C" fn taps_check(
 ) -> TapsCheckAnswer
     ensures { λ r. ⌜ TapsChecked (now (text .entry)) (now (scratch .entry)) (now (scratch .exit)) (now (first .entry)) (now (second .entry)) (now (output .entry)) (now (output .exit)) (fitted.numbersIn r) ⌝ }
 {
-    tapped::told(taps::fit(text, scratch, first, second, output))
+    answers::fitted(taps::fit(text, scratch, first, second, output))
 }

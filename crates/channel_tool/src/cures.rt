@@ -1,4 +1,5 @@
 // `cure`: the loosest sheet that is free, as text.
+use libc::STDERR_FILENO;
 
 // A refusal goes to standard error, so that nothing of it can be taken for a sheet.
 pub fn write(text: &[u8]) {
@@ -9,6 +10,6 @@ pub fn write(text: &[u8]) {
         let end = a.one as usize % (model::SHEET_OUTPUT_LEAST + 1);
         report::print(&output[..end]);
     } else {
-        commands::print_refusal(a.one, a.two);
+        commands::print_refusal(STDERR_FILENO, a.one, a.two);
     }
 }

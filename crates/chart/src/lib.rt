@@ -1,23 +1,18 @@
 // `chart CODE`: a picture, in SVG, of what the check finds on a channel: the steps that lock the sheet and what each jammed board waits for, or one
 // course of a free sheet's events. `chart CODE TRACEFILE`: the same of a trace from another tool.
-mod layout;
-mod lines;
-mod messages;
-mod rows;
-mod words;
-
-use channel_check::ChannelCheckAnswer;
+use answers::ChannelCheckAnswer;
+use chart_layout::BASE;
+use chart_layout::MARGIN;
+use chart_layout::MIDDLE;
+use chart_layout::NONE;
+use chart_layout::Page;
+use chart_layout::STEPS_MOST;
+use chart_words::Verdict;
 use commands::File;
 use expansion::Expanded;
-use layout::BASE;
-use layout::MARGIN;
-use layout::MIDDLE;
-use layout::NONE;
-use layout::Page;
+use libc::STDERR_FILENO;
 use model::BOARDS;
 use model::EVENTS_MOST;
-use rows::STEPS_MOST;
-use words::Verdict;
 
 // The words of a step that is not allowed: how far from its cross they begin, or end, and how many letters they have at most.
 const CROSS_SPACE: u32 = 16;
@@ -40,12 +35,12 @@ fn take_course(text: &[u8], course: &mut [u16]) -> usize {
 
 // The words of a row, and a faint line behind what stands in it.
 fn begin_row(page: Page, class: u8, row: u16) {
-    let top = layout::top_of(page, row) as u32;
+    let top = chart_layout::top_of(page, row) as u32;
     svg::line(
         svg::ROW,
         MARGIN,
         top + MIDDLE,
-        layout::right_of(page),
+        chart_layout::right_of(page),
         top + MIDDLE,
     );
     svg::begin_text(class, MARGIN, top + BASE);
@@ -54,7 +49,7 @@ fn begin_row(page: Page, class: u8, row: u16) {
 fn draw_step(page: Page, kind: u8, message: u8, row: usize) {
     let at = (row % 65535) as u16;
     begin_row(page, svg::STEP, at);
-    words::print_row(at, kind, message);
+    chart_words::print_row(at, kind, message);
     svg::end_text();
 }
 
@@ -73,7 +68,7 @@ fn draw_later(page: Page, free: bool, later: &[u16; EVENTS_MOST]) {
     for e in 0..EVENTS_MOST {
         if later[e] != NONE {
             begin_row(page, class, later[e]);
-            words::print_event_row((e % 65536) as u16);
+            chart_words::print_event_row((e % 65536) as u16);
             svg::end_text();
         }
     }
@@ -89,38 +84,38 @@ struct Subject {
 
 fn print_title(subject: Subject) {
     let verdict = subject.verdict;
-    words::print_title(verdict, subject.code);
+    chart_words::print_title(verdict, subject.code);
 }
 
 fn print_remark(subject: Subject) {
     let verdict = subject.verdict;
-    words::print_remark(verdict, subject.steps);
+    chart_words::print_remark(verdict, subject.steps);
 }
 
 // What the marks mean, below the feet.
 fn draw_legend(page: Page, free: bool) {
-    let foot = layout::foot_of(page) as u32;
+    let foot = chart_layout::foot_of(page) as u32;
     svg::begin_text(
         svg::STEP,
         MARGIN,
-        foot + layout::HEAD_HEIGHT + layout::ROW_HEIGHT,
+        foot + chart_layout::HEAD_HEIGHT + chart_layout::ROW_HEIGHT,
     );
-    words::print_legend(free);
+    chart_words::print_legend(free);
     svg::end_text();
 }
 
 fn draw_title(page: Page, subject: Subject) {
     let width = page.width as u32;
-    let height = layout::height_of(page);
+    let height = chart_layout::height_of(page);
     svg::begin_picture(width, height);
     print_title(subject);
     report::print(b"; ");
     print_remark(subject);
     svg::end_title(width, height);
-    svg::begin_text(svg::TITLE, MARGIN, layout::TITLE_BASE);
+    svg::begin_text(svg::TITLE, MARGIN, chart_layout::TITLE_BASE);
     print_title(subject);
     svg::end_text();
-    svg::begin_text(svg::REMARK, MARGIN, layout::REMARK_BASE);
+    svg::begin_text(svg::REMARK, MARGIN, chart_layout::REMARK_BASE);
     print_remark(subject);
     svg::end_text();
 }
@@ -172,9 +167,9 @@ fn draw_not_allowed(
         let row = (subject.steps % 8192) as u16;
         draw_step(page, kind, message, subject.steps as usize);
         if kind < 3 && (message as u32) < subject.messages {
-            let x = messages::column_of_step(boards, columns, kind, message);
-            let line = x as u32 + layout::LINE;
-            lines::begin_callout(
+            let x = chart_messages::column_of_step(boards, columns, kind, message);
+            let line = x as u32 + chart_layout::LINE;
+            chart_boards::begin_callout(
                 page,
                 line + CROSS_SPACE,
                 line - CROSS_SPACE,
@@ -183,9 +178,9 @@ fn draw_not_allowed(
             );
             commands::print_not_allowed(row as u32, kind, message);
             svg::end_text();
-            lines::draw_cross(page, x, row);
+            chart_boards::draw_cross(page, x, row);
         } else {
-            lines::begin_callout(page, NO_STEP_LEFT, NO_STEP_LEFT, row, NO_STEP_LETTERS);
+            chart_boards::begin_callout(page, NO_STEP_LEFT, NO_STEP_LEFT, row, NO_STEP_LETTERS);
             commands::print_not_allowed(row as u32, kind, message);
             svg::end_text();
         }
@@ -205,14 +200,14 @@ fn draw_marks(
     let verdict = subject.verdict;
     let free = is_free(verdict);
     draw_later(page, free, later);
-    lines::draw_lines(page, columns);
-    lines::draw_jams(page, boards, columns, taken, waits, false);
-    lines::draw_heads(page, columns, waits);
-    lines::draw_rulers(page, columns);
-    messages::draw_messages(page, free, boards, columns, taken, later);
-    messages::draw_deliveries(page, boards, columns, taken, waits);
-    messages::draw_events(page, free, boards, columns, taken, later, waits);
-    lines::draw_jams(page, boards, columns, taken, waits, true);
+    chart_boards::draw_lines(page, columns);
+    chart_boards::draw_jams(page, boards, columns, taken, waits, false);
+    chart_boards::draw_heads(page, columns, waits);
+    chart_boards::draw_rulers(page, columns);
+    chart_messages::draw_messages(page, free, boards, columns, taken, later);
+    chart_messages::draw_deliveries(page, boards, columns, taken, waits);
+    chart_messages::draw_events(page, free, boards, columns, taken, later, waits);
+    chart_boards::draw_jams(page, boards, columns, taken, waits, true);
     draw_not_allowed(page, subject, boards, columns);
     draw_legend(page, free);
 }
@@ -228,13 +223,13 @@ fn draw_run(
     let mut taken = [NONE; STEPS_MOST];
     let mut later = [NONE; EVENTS_MOST];
     let mut columns = [NONE; BOARDS];
-    rows::take_steps(trace, &mut taken);
-    let used = layout::boards_used(boards, subject.messages as usize);
-    let right = layout::place_columns(used, &mut columns);
-    let jams = rows::jams_in(waits);
+    chart_layout::take_steps(trace, &mut taken);
+    let used = chart_layout::boards_used(boards, subject.messages as usize);
+    let right = chart_layout::place_columns(used, &mut columns);
+    let jams = chart_layout::jams_in(waits);
     let first = first_row(subject, jams);
-    let end = rows::put_events(course, &taken, first, &mut later);
-    let page = layout::page_for(right, end, jams, row_behind(subject) % 16384 + 1);
+    let end = chart_layout::put_events(course, &taken, first, &mut later);
+    let page = chart_layout::page_for(right, end, jams, row_behind(subject) % 16384 + 1);
     draw_title(page, subject);
     draw_steps(page, trace);
     draw_marks(page, subject, boards, &columns, &taken, &later, waits);
@@ -283,7 +278,7 @@ fn write_check(text: &[u8], code: u32) {
         let end = 2 * (a.three as usize % (STEPS_MOST + 1));
         draw_locked(text, code, a, &trace[..end]);
     } else {
-        commands::print_refusal(a.one, a.two);
+        commands::print_refusal(STDERR_FILENO, a.one, a.two);
     }
 }
 
@@ -318,7 +313,7 @@ fn draw_trace(text: &[u8], code: u32, trace: &[u8]) {
     } else if a.word == 3 {
         draw_up_to(text, code, trace, a.one, waits);
     } else {
-        commands::print_refusal(a.one, a.two);
+        commands::print_refusal(STDERR_FILENO, a.one, a.two);
     }
 }
 
@@ -329,7 +324,7 @@ pub fn write(text: &[u8], code: u32) {
         return;
     }
     let mut trace = [0u8; commands::TRACE_MOST];
-    if let File::Read(n) = commands::read_trace(3, &mut trace) {
+    if let File::Read(n) = commands::read_file(3, b"the trace's", &mut trace) {
         let end = n % (commands::TRACE_MOST + 1);
         draw_trace(text, code, &trace[..end]);
     }

@@ -1,12 +1,17 @@
-// What several commands of the technician's program share: an event and a step that is not allowed in words, a refusal, and a trace
-// from a file.
+// What several commands of the technician's program share: an event and a step that is not allowed in words, a refusal, the steps of an
+// answer, and bytes from a file.
+ghost use Prim.Native.Nat.{_*_, _≤_};
+ghost use lib.ListN.{length};
 use libc::STDERR_FILENO;
+
+// One byte more than a text may have: a longer input is then seen to be too long.
+pub const INPUT_MOST: usize = model::TEXT_MOST + 1;
 
 // One byte more than a trace may have: a longer one is then seen to be too long.
 pub const TRACE_MOST: usize = model::TRACE_LEAST + 1;
 
 // Room for a file's name.
-const NAME_MOST: usize = 4096;
+pub const NAME_MOST: usize = 4096;
 
 // So many bytes of a file, or none that could be opened.
 pub enum File {
@@ -14,16 +19,22 @@ pub enum File {
     Missing,
 }
 
+// What an event is of its message.
+pub fn print_kind(event: u16) {
+    if event % 2 == 0 {
+        report::print(b"send of message ");
+    } else {
+        report::print(b"receive of message ");
+    }
+    report::print_decimal(event as u32 / 2);
+}
+
 // The event, by its number and by what it is of its message.
 pub fn print_event(event: u16) {
     report::print(b"event ");
     report::print_decimal(event as u32);
-    if event % 2 == 0 {
-        report::print(b" (send of message ");
-    } else {
-        report::print(b" (receive of message ");
-    }
-    report::print_decimal(event as u32 / 2);
+    report::print(b" (");
+    print_kind(event);
     report::print(b")");
 }
 
@@ -35,25 +46,35 @@ pub fn print_not_allowed(index: u32, kind: u8, message: u8) {
     report::print_told(kind, message);
 }
 
-// A refusal goes to standard error where a command writes a file to standard output.
-pub fn print_refusal(number: u32, line: u32) {
-    io::write_all(STDERR_FILENO, b"refused ");
-    io::print_decimal(STDERR_FILENO, number as u64);
-    io::write_all(STDERR_FILENO, b" ");
-    io::print_decimal(STDERR_FILENO, line as u64);
-    io::write_all(STDERR_FILENO, b"\n");
+// A refusal: on standard output, or on standard error where a command writes a file to standard output.
+pub fn print_refusal(output: i32, number: u32, line: u32) {
+    io::write_all(output, b"refused ");
+    io::print_decimal(output, number as u64);
+    io::write_all(output, b" ");
+    io::print_decimal(output, line as u64);
+    io::write_all(output, b"\n");
 }
 
-// The bytes of the trace's file, which argument i names.
-pub fn read_trace(i: usize, trace: &mut [u8]) -> File {
+// As many steps as the trace has, at most.
+pub fn steps_in(trace: &[u8], steps: u32) -> usize
+    ensures { λ r. ⌜ 2 * r ≤ length (now (trace .entry)) ⌝ }
+{
+    let all = trace.len() / 2;
+    let counted = steps as usize;
+    if counted < all { counted } else { all }
+}
+
+// The bytes of the file that argument i names. `whose` says in the message on standard error which file cannot be opened.
+pub fn read_file(i: usize, whose: &[u8], bytes: &mut [u8]) -> File {
     let mut name = [0u8; NAME_MOST];
     let length = os::arg(i, &mut name);
     let file = os::open_read(&name[..length]);
     if file < 0 {
-        io::write_all(STDERR_FILENO, b"the trace's file cannot be opened\n");
+        io::write_all(STDERR_FILENO, whose);
+        io::write_all(STDERR_FILENO, b" file cannot be opened\n");
         return File::Missing;
     }
-    let n = io::read_full(file, trace);
+    let n = io::read_full(file, bytes);
     libc::close(file);
     File::Read(n)
 }

@@ -1,5 +1,5 @@
 // `counter SHEETFILE:CODE ...`: the jobs of several makers, admitted in the order given, and their turns until none is held.
-use channel_check::ChannelCheckAnswer;
+use answers::ChannelCheckAnswer;
 use dispatcher::Dispatcher;
 use dispatcher::DispatcherAnswer;
 use last_turn::Numbers;

@@ -7,9 +7,9 @@ use mathlib.Core.Option.{none}
 use Prim.Native.Nat.{ℕ, _*_, _<_}
 use native.Mathlib.Omega.{arith}
 use lib.ListN.{length}
-use Rattle.model.specs.Bounded.{lowest, among}
+use Rattle.model.specs.Bounded.{lowest, among, eachOnce}
 use Rattle.model.specs.Order.{event}
-use Rattle.model.specs.Taps.{ahead, eachOnce, isSooner, precedes, courseOf}
+use Rattle.model.specs.Taps.{ahead, isSooner, precedes, courseOf}
 use Rattle.model.proofs.Bounded.{not-both, lowest-same, lowest-none}
 use Rattle.model.proofs.Closure.{Over, over, closure-holds, closure-transitive, closure-least}
 use Rattle.model.proofs.Ahead.{among-here, among-cases, ahead-cases, ahead-here, ahead-there, ahead-inside, once-parts}

@@ -10,8 +10,7 @@ use native.Mathlib.Omega.{arith}
 use lib.Dec.{eqb}
 use lib.ListN.{length, getD, take, drop, replicate, drop-of-length-le}
 use lib.Seq.{take-all, take-suc, drop-cons}
-use Rattle.model.specs.Bounded.{among}
-use Rattle.model.specs.Taps.{eachOnce}
+use Rattle.model.specs.Bounded.{among, eachOnce}
 use Rattle.model.proofs.Bounded.{which, not-both}
 use Rattle.model.proofs.Lists.{replicate-at}
 use Rattle.model.proofs.Ahead.{among-snoc, once-snoc, once-at}

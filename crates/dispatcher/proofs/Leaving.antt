@@ -14,51 +14,50 @@ use Rattle.model.proofs.Bounded.{not-both}
 use Rattle.queue.specs.declared.Queue.{Queue}
 use Rattle.queue.specs.Bridge.{queueIn}
 use Rattle.places.specs.Words.{FreeCleared}
-use Rattle.dispatcher.specs.declared.Dispatcher.{Dispatcher}
-use Rattle.dispatcher.specs.Bridge.{deskIn, Holds}
-use Rattle.dispatcher.proofs.Members.{member-without, one-job}
-use Rattle.dispatcher.proofs.Cases.{Case, cancel-held}
-use Rattle.dispatcher.proofs.Serving.{words-cleared, holds-same, words-same}
+use Rattle.held_jobs.specs.Held.{Held, deskOf, HoldsJob}
+use Rattle.held_jobs.proofs.Members.{member-without, one-job}
+use Rattle.held_jobs.proofs.Cases.{Case, cancel-held}
+use Rattle.held_jobs.proofs.Serving.{words-cleared, holds-same, words-same}
 
-module _ (d : Dispatcher) (n : ℕ) (l : Lent) (long : jobWordsLeast ≤ length (l .words)) (held : among n (numbersIn (queueIn (d .queue))) ≡ true)
+module _ (d : Held) (n : ℕ) (l : Lent) (long : jobWordsLeast ≤ length (l .words)) (held : among n (numbersIn (queueIn (d .queue))) ≡ true)
     (left : Queue) (isLeft : queueIn left ≡ without n (queueIn (d .queue))) (exit : List ℕ) (F : FreeCleared (queueIn left) (l .words) exit) where
   abbrev c : Call
   c = cancel n l
 
-  abbrev rest : Dispatcher
+  abbrev rest : Held
   rest = record { queue = left; given = d .given; races = d .races; boards = d .boards }
 
-  C : Case (deskIn d) c (cancelled n) (record { queue = without n (queueIn (d .queue)); given = d .given })
-  C = cancel-held (deskIn d) n l long held
+  C : Case (deskOf d) c (cancelled n) (record { queue = without n (queueIn (d .queue)); given = d .given })
+  C = cancel-held (deskOf d) n l long held
 
-  rest-is : deskIn rest ≡ behind (deskIn d) c
+  rest-is : deskOf rest ≡ behind (deskOf d) c
   rest-is = ap (λ (q : List model.Job). record { queue = q; given = d .given }) isLeft ∙ sym (C .leaves)
 
-  W : WordsLeft (deskIn d) c exit
+  W : WordsLeft (deskOf d) c exit
   unfolding touchesNothing
   W =
-      words-cleared (deskIn d) c (l .words) exit (ap touchesNothing (C .outcome))
+      words-cleared (deskOf d) c (l .words) exit (ap touchesNothing (C .outcome))
       (subst (λ (q : Desk). FreeCleared (q .queue) (l .words) exit) rest-is F) refl refl (λ p h f. refl)
 
-  pub cancelled-serves : (r : Served Dispatcher) → r ≡ record { told = record { word = cancelledWord; one = n; two = 0; answer = noAnswer }; next = rest }
-      → Serves deskIn Holds d c exit [] r
+  pub cancelled-serves : (r : Served Held) → r ≡ record { told = record { word = cancelledWord; one = n; two = 0; answer = noAnswer }; next = rest }
+      → Serves deskOf HoldsJob d c exit [] r
   unfolding leavesAll
   cancelled-serves r e =
-      subst⁻¹ (λ (s : Served Dispatcher). Serves deskIn Holds d c exit [] s) e
+      subst⁻¹ (λ (s : Served Held). Serves deskOf HoldsJob d c exit [] s) e
       (record {
         told = ap (λ u. toldAs u noAnswer) (sym (C .outcome));
         next = rest-is;
-        leftAlone = λ u. not-both (leavesAll (outcomeOf (deskIn d) c)) u (ap leavesAll (C .outcome));
+        leftAlone = λ u. not-both (leavesAll (outcomeOf (deskOf d) c)) u (ap leavesAll (C .outcome));
         wordsLeft = W;
         traceKept = λ u. refl;
         traceLocked = λ u. (refl, refl);
         admits = λ m p S i f a. let z : _≡_ {A = ℕ} 0 1 = cc in absurd (omega arith);
         keeps = λ o j k S a b m H.
             let u : Member k (queueIn (d .queue)) = member-without k n (queueIn (d .queue)) (subst (λ (q : Desk). Member k (q .queue)) (C .leaves) b) in
-            let i : j ≡ k = one-job (deskIn d) o j k a u m in
+            let i : j ≡ k = one-job (deskOf d) o j k a u m in
             holds-same d rest (placeWords (k .place) (l .words)) (placeWords (k .place) exit) k S refl refl
-            (words-same (deskIn d) c exit k W o u b)
-            (subst (λ (h : model.Job). Holds d (placeWords (h .place) (l .words)) h S) i H);
+            (words-same (deskOf d) c exit k W o u b)
+            (subst (λ (h : model.Job). HoldsJob d (placeWords (h .place) (l .words)) h S) i H);
         answers = λ o j ks S q i H.
             let clash : cancelled n ≡ answered (j .number) = sym (C .outcome) ∙ i in
             let z : _≡_ {A = ℕ} 0 1 = cc in

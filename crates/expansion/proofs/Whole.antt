@@ -20,8 +20,9 @@ use Rattle.relation.proofs.Loops.{Clearing, clearing-end}
 use Rattle.sheet.specs.Bridge.{rowsOf}
 use Rattle.blocks.specs.Store.{Store, storeOf, storeOps, concluded, countedWith}
 use Rattle.blocks.specs.Room.{Room}
-use Rattle.walk.specs.Block.{fresh, stateOf, rowsFrom, blockWalked, Leaves, AllStand, Ready}
+use Rattle.walk.specs.Block.{fresh, opened, stateOf, rowsFrom, blockWalked, Leaves, AllStand, Ready}
 use Rattle.walk.specs.declared.Walk.{Walk}
+use Rattle.walk.specs.declared.Walked.{Walked}
 use Rattle.walk.specs.declared.Walked.the-variants.{To, Stopped}
 use Rattle.walk.proofs.Meeting.{in-rows, rows-drop}
 use Rattle.blocks.proofs.Sim.{Begins}
@@ -115,15 +116,20 @@ module _ (options : ℕ) (kind one two : List ℕ) (count : ℕ) where
         → countedOf (counted.Messages (w .count) choices) (t .events) (t .words) ≡ countedWith (optionsOf options) file
     walking-end choices r = sym (r .exact (w .count) t) ∙ j .exact
 
-    -- a block is walked
-    module _ (level′ i′ calls choices : ℕ) (r : Reached-as (reached.Block level′ i′ calls choices)) where
+    -- a block is walked, from its beginning on
+    module _ (level′ i′ calls choices : ℕ) (r : Reached-as (reached.Block level′ i′ calls choices)) (v : Walk)
+        (e : v ≡ opened calls choices (w .count)) where
       abbrev b : Between options kind one two count from′ level′ i′ calls
       b = r .stands .between
 
-      pub block-ready : Ready kind one two count i′ (w .count) (w .count) t
+      pub block-ready : Ready kind one two count i′ (v .first) (v .count) t
       block-ready =
           let none : 0 ≡ 2 * (w .count - w .count) = omega arith in
-          record { room = j .room; stand = subst (λ (n : ℕ). AllStand n (rowsFrom kind one two count i′)) none (b .stand) }
+          let ready : Ready kind one two count i′ (w .count) (w .count) t = record {
+            room = j .room;
+            stand = subst (λ (n : ℕ). AllStand n (rowsFrom kind one two count i′)) none (b .stand);
+          } in
+          subst (λ (u : Walk). Ready kind one two count i′ (u .first) (u .count) t) (sym e) ready
 
       abbrev s : Progress Store
       s = idle calls choices (w .count) t
@@ -131,18 +137,27 @@ module _ (options : ℕ) (kind one two : List ℕ) (count : ℕ) where
       abbrev walked : Out (ℕ × Progress Store)
       walked = blockWalked (rowsFrom kind one two count i′) i′ s
 
+      abbrev Left : Walked → Store → Walk → Type 0
+      Left o t′ u = Leaves o t′ (blockWalked (rowsFrom kind one two count i′) i′ (stateOf u t))
+
+      left : (o : Walked) (t′ : Store) → Left o t′ v → Leaves o t′ walked
+      left o t′ l = subst (Left o t′) e l
+
       onward : (o : Out (ℕ × Progress Store)) → o ≡ walked → andThen o (λ p. rest options kind one two count from′ level′ (p .0) (p .1)) ≡ countedWith (optionsOf options) file
-      onward o e =
-          ap (λ (o : Out (ℕ × Progress Store)). andThen o (λ p. rest options kind one two count from′ level′ (p .0) (p .1))) e
+      onward o same =
+          ap (λ (o : Out (ℕ × Progress Store)). andThen o (λ p. rest options kind one two count from′ level′ (p .0) (p .1))) same
           ∙ sym (rest-walked options kind one two count from′ level′ i′ s)
           ∙ sym (r .exact (w .count) t)
           ∙ j .exact
 
-      pub walking-refused : (number line : ℕ) (t′ : Store) → Leaves (Stopped number line) t′ walked → refusal number line ≡ countedWith (optionsOf options) file
+      pub walking-refused : (number line : ℕ) (t′ : Store) → Left (Stopped number line) t′ v → refusal number line ≡ countedWith (optionsOf options) file
       unfolding andThen
-      walking-refused number line t′ l = onward (refusal number line) (l .exact)
+      walking-refused number line t′ l = onward (refusal number line) (left (Stopped number line) t′ l .exact)
 
-      module _ (k : ℕ) (u : Walk) (t′ : Store) (l : Leaves (To k u) t′ walked) where
+      module _ (k : ℕ) (u : Walk) (t′ : Store) (h : Left (To k u) t′ v) where
+        l : Leaves (To k u) t′ walked
+        l = left (To k u) t′ h
+
         behind : AfterBlock options kind one two count i′ s (k, stateOf u t′)
         behind = block-ends options kind one two count i′ 0 s (k, stateOf u t′) (b .stand) (sym (l .exact))
 

@@ -79,13 +79,7 @@ pub fn expand_list(
             Reached::Stopped(number, line) => return Counted::Refused(number, line),
             Reached::End(choices) => return Counted::Messages(here.count, choices),
             Reached::Block(deep, row, calls, choices) => {
-                let met = here.count;
-                let walk = Walk {
-                    calls,
-                    choices,
-                    first: met,
-                    count: met,
-                };
+                let walk = Walk::opened(calls, choices, here.count);
                 match walk::walk_block(kind, one, two, count, boards, words, &mut past, row, walk) {
                     Walked::Stopped(number, line) => return Counted::Refused(number, line),
                     Walked::To(behind, next) => {

@@ -11,19 +11,12 @@ ghost use Rattle.message_line.specs.Lines.{linesIn};
 use sheet::Verdict;
 use walk::FIRST_LINE;
 
-// The walk of the rows, up to message `message`. No limit of a walk is met on the way, since the rows are those of an accepted sheet. Calls are
+// The walk of the rows, up to message m. No limit of a walk is met on the way, since the rows are those of an accepted sheet. Calls are
 // counted as what brings the walk nearer to its end.
-fn walk_to(
-    kind: &[u8],
-    one: &[u16],
-    two: &[u16],
-    rows: usize,
-    start: &[u16],
-    message: usize,
-) -> usize
+fn walk_to(kind: &[u8], one: &[u16], two: &[u16], rows: usize, start: &[u16], m: usize) -> usize
     requires { ⌜ RowsRead (now kind) (now one) (now two) rows (now start) ⌝ }
-    requires { ⌜ message < length (linesIn (rowsOf (now kind) (now one) (now two) rows)) ⌝ }
-    ensures { λ r. ⌜ r ≡ getD (linesIn (rowsOf (now (kind .entry)) (now (one .entry)) (now (two .entry)) rows)) message 0 ⌝ }
+    requires { ⌜ m < length (linesIn (rowsOf (now kind) (now one) (now two) rows)) ⌝ }
+    ensures { λ r. ⌜ r ≡ getD (linesIn (rowsOf (now (kind .entry)) (now (one .entry)) (now (two .entry)) rows)) m 0 ⌝ }
 {
     let mut from = [0usize; model::LEVELS];
     let mut level = 0;
@@ -45,7 +38,7 @@ fn walk_to(
             continue;
         }
         if letter == b'M' {
-            if met == message {
+            if met == m {
                 return at + FIRST_LINE;
             }
             met += 1;

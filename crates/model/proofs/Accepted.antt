@@ -16,7 +16,7 @@ use Rattle.model.specs.Expansion.{Progress, expand}
 use Rattle.model.specs.Order.{Event, sendOf, receiveOf, number, boardOf, Scenario, Met, nothingMet, metOps, exchangeOf, scenarioOf, board}
 use Rattle.model.specs.Answer.{expandedWith, expandedOf, exchangeWith, sheetOf, exchangeMet, acceptedOf}
 use Rattle.model.specs.Verdict.{IsMet, Meets}
-use Rattle.model.proofs.Bounded.{not-both}
+use Rattle.model.proofs.Bounded.{or-neither}
 use Rattle.model.proofs.Events.{below-number}
 use Rattle.model.proofs.Refusal.{and-then-ok, cond-ok, cond-refused}
 use Rattle.model.proofs.Causal.{Causal}
@@ -51,10 +51,6 @@ sheet-parts text S e =
     let c = and-then-ok (readOf text) expandedOf S e in
     record { rows = c .0; read = c .1; parts = walk-parts [] (c .0) S (c .2); whole = c .2 }
 
-pub or-false : (a b : Bool) → (a || b) ≡ false → (a ≡ false) × (b ≡ false)
-or-false true b h = not-both true refl h
-or-false false b h = (refl, h)
-
 -- what acceptance says: the code and the buffers' lengths are in order, and the sheet has its scenario
 pub record Accepted (text : List ℕ) (code scratchLength traceLength : ℕ) (S : Scenario) : Type 0 where
   pub codeKnown : code < channels
@@ -69,7 +65,7 @@ unfolding acceptedOf
 accepted-parts text code scratchLength traceLength S e =
     let a = cond-ok (ltb code channels) _ _ _ S e in
     let b = cond-refused (ltb scratchLength scratchLeast || ltb traceLength traceLeast) _ _ _ S (a .1) in
-    let lengths = or-false (ltb scratchLength scratchLeast) (ltb traceLength traceLeast) (b .0) in
+    let lengths = or-neither (ltb scratchLength scratchLeast) (ltb traceLength traceLeast) (b .0) in
     record {
       codeKnown = ltb-true code channels (a .0);
       scratchEnough = ltb-false scratchLength scratchLeast (lengths .0);

@@ -9,8 +9,8 @@ use mathlib.Core.List.{List, [], _∷_, _++_}
 use lib.Dec.{eqb, ltb}
 use lib.ListN.{length, getD, take}
 use borrow.Author.Tests.{eqb-true, eq-eqb, ne-eqb, ltb-true, lt-ltb, not-true}
-use Rattle.model.specs.Bounded.{among}
-use Rattle.model.specs.Taps.{ahead, eachOnce}
+use Rattle.model.specs.Bounded.{among, eachOnce}
+use Rattle.model.specs.Taps.{ahead}
 use Rattle.model.proofs.Bounded.{and-left, and-right, and-both, or-cases, or-left, or-right, which, not-both}
 
 -- the members of a list with one more at its end

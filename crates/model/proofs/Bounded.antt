@@ -43,6 +43,11 @@ which false = inr refl
 pub not-both : {C : Type 0} (b : Bool) → b ≡ true → b ≡ false → C
 not-both b p q = let z : _≡_ {A = ℕ} 0 1 = cc in absurd (omega arith)
 
+-- a disjunction that fails
+pub or-neither : (a b : Bool) → (a || b) ≡ false → (a ≡ false) × (b ≡ false)
+or-neither true b h = not-both true refl h
+or-neither false b h = (refl, h)
+
 -- two tests of which each follows from the other
 pub both-ways : (p q : Bool) → (p ≡ true → q ≡ true) → (q ≡ true → p ≡ true) → p ≡ q
 both-ways true q f g = sym (f refl)

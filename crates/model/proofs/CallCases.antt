@@ -14,8 +14,8 @@ use Rattle.model.specs.Refusal.{Out, ok, refusal}
 use Rattle.model.specs.Order.{Scenario}
 use Rattle.model.specs.Answer.{sheetOf}
 use Rattle.model.specs.Dispatcher.{Lent, lengthAt, codeAt, sheetAt, Job, Desk, numbersIn, freePlace, admissible, admitting, isLast, turned, without, Call, admit, turn, cancel, Outcome, admitted, idle, taken, answered, cancelled, refused, wordsShort, turnShort, headOutcome, admission, outcomeOf, admittedTo, behind}
+use Rattle.model.proofs.Bounded.{or-neither}
 use Rattle.model.proofs.Refusal.{cond-ok, cond-refused}
-use Rattle.model.proofs.Accepted.{or-false}
 
 -- an admission that is not refused: the lowest free place, its code and its sheet, and a number left
 pub record Admissible (d : Desk) (l : Lent) (p : ℕ) (S : Scenario) : Type 0 where
@@ -102,7 +102,7 @@ call-does d (turn l trace) = go (turnShort l trace) refl
     go : (short : Bool) → turnShort l trace ≡ short → Does d (turn l trace) (behind d (turn l trace)) (outcomeOf d (turn l trace))
     go true e = rw e refuses
     go false e =
-        let short = or-false (wordsShort l) (ltb (length trace) traceLeast) e in
+        let short = or-neither (wordsShort l) (ltb (length trace) traceLeast) e in
         rw e (turn-does d l trace (d .queue) refl (ltb-false (length trace) traceLeast (short .1)))
 call-does d (cancel n l) = go (wordsShort l) refl (among n (numbersIn (d .queue))) refl
   where

@@ -19,11 +19,12 @@ use Rattle.model.specs.Run.{Step, EndsStuck}
 use Rattle.model.specs.Answer.{Answer, free, locked, refused, expandedWith, verdictOf, answerFor, traceAfter, numbersOf}
 use Rattle.model.specs.Verdict.{Verdict}
 use Rattle.model.specs.Choice.{ChoiceList, listsOf, Ahead, Among, InOrder, AllLists, ChoiceAnswer, eachFree, firstLocked, firstRefused, refusalIn, lockIn, judgedOver, choosable, choiceAnswerFor, choiceAnswerOf, choiceNumbers, traceChosen, Sticking, Finishing, ChoiceVerdict}
+use Rattle.model.proofs.Bounded.{or-neither}
 use Rattle.model.proofs.Refusal.{not-refused, cond-ok, cond-refused}
 use Rattle.model.proofs.Standing.{Fits, read-fits}
 use Rattle.model.proofs.Causal.{Causal}
 use Rattle.model.proofs.Clean.{Clean, read-clean}
-use Rattle.model.proofs.Accepted.{or-false, walk-causal, walk-meets}
+use Rattle.model.proofs.Accepted.{walk-causal, walk-meets}
 use Rattle.model.proofs.PointThree.{Decided, isFree, isLocked, decided, verdict-for}
 use Rattle.model.proofs.ChoiceLists.{ahead-one-way, all-lists}
 
@@ -284,7 +285,7 @@ unfolding choosable
 choosable-parts text code scratchLength traceLength file e =
     let a = cond-ok (ltb code channels) _ _ _ file e in
     let b = cond-refused (ltb scratchLength scratchLeast || ltb traceLength traceLeast) _ _ _ file (a .1) in
-    let lengths = or-false (ltb scratchLength scratchLeast) (ltb traceLength traceLeast) (b .0) in
+    let lengths = or-neither (ltb scratchLength scratchLeast) (ltb traceLength traceLeast) (b .0) in
     record {
       codeKnown = ltb-true code channels (a .0);
       scratchEnough = ltb-false scratchLength scratchLeast (lengths .0);

@@ -12,8 +12,8 @@ use lib.Dec.{eqb}
 use lib.ListN.{length, getD, take, length-append}
 use lib.Seq.{take-all, take-append-le, getD-take, getD-at}
 use borrow.Author.Tests.{eqb-true, eq-eqb, ne-eqb, not-true}
-use Rattle.model.specs.Bounded.{every, lowest, among}
-use Rattle.model.specs.Taps.{ahead, eachOnce, isNext, withNext, courseOf}
+use Rattle.model.specs.Bounded.{every, lowest, among, eachOnce}
+use Rattle.model.specs.Taps.{ahead, isNext, withNext, courseOf}
 use Rattle.model.proofs.Bounded.{and-left, and-right, and-both, or-cases, or-right, which, not-both, not-is-true, every-at, every-from, every-not, IsLowest, Found, lowest-found, lowest-same}
 use Rattle.model.proofs.Least.{least-below}
 use Rattle.model.proofs.Closure.{Over, over, closure-holds, closure-transitive, closure-least}

@@ -9,11 +9,9 @@ use mathlib.Core.List.{List, [], _∷_, _++_, map, append-assoc, append-nil}
 use lib.Dec.{eqb}
 use lib.ListN.{length}
 use borrow.Author.Tests.{eqb-true, eqb-false, ne-eqb}
-use Rattle.model.specs.Bounded.{among}
-use Rattle.model.specs.Taps.{eachOnce as onceBelow}
+use Rattle.model.specs.Bounded.{among, eachOnce}
 use Rattle.model.specs.Dispatcher.{codeAt, Job, Desk, newJob, admitting, without, Call, Outcome, admitted, idle, taken, answered, cancelled, refused, outcomeOf, behind}
-use Rattle.model.proofs.Bounded.{not-both}
-use Rattle.model.proofs.Accepted.{or-false}
+use Rattle.model.proofs.Bounded.{not-both, or-neither}
 use Rattle.model.proofs.Ahead.{once-parts, once-below}
 use Rattle.model.proofs.CallCases.{again, Does, refuses, idles, admits, takes, answers, cancels, call-does}
 use Rattle.model.proofs.Queue.{numberOf, numbers-map, among-behind, among-without, among-held, number-leaves, without-kept, OneEach, one-each-of}
@@ -52,7 +50,7 @@ module _ (n : ℕ) where
   head-apart : (d : Desk) (j : Job) (js : List Job) → d .queue ≡ j ∷ js → Gone d
       → (eqb n (j .number) ≡ false) × (among n (map numberOf js) ≡ false)
   unfolding among
-  head-apart d j js e g = or-false _ _ (subst (λ (q : List Job). among n (map numberOf q) ≡ false) e (g .absent))
+  head-apart d j js e g = or-neither _ _ (subst (λ (q : List Job). among n (map numberOf q) ≡ false) e (g .absent))
 
   gone-next : (d : Desk) (c : Call) (next : Desk) (o : Outcome) → Does d c next o → Gone d → StaysGone next o
   unfolding admitting
@@ -168,7 +166,7 @@ module _ (n p code count : ℕ) where
 
   -- a cancellation: of this job, or of another one
   cancel-moves : (m given : ℕ) (ahead : List Job) (t : ℕ) (rest : List Job)
-      → onceBelow given (map numberOf (ahead ++ (jobAt t ∷ rest))) ≡ true
+      → eachOnce given (map numberOf (ahead ++ (jobAt t ∷ rest))) ≡ true
       → Moved t (length ahead) (record { queue = without m (ahead ++ (jobAt t ∷ rest)); given = given }) (cancelled m)
   cancel-moves m given ahead t rest h = go (eqb n m) refl
     where
@@ -222,7 +220,7 @@ module _ (n p code count : ℕ) where
   moves d c next o t x (cancels {n = m} held) each s =
       as-standing d t x s (λ y q. Moved t y (record { queue = without m q; given = d .given }) (cancelled m))
       (cancel-moves m (d .given) (s .ahead) t (s .rest)
-      (subst (λ (q : List Job). onceBelow (d .given) (map numberOf q) ≡ true) (s .queue) (each .numbers)))
+      (subst (λ (q : List Job). eachOnce (d .given) (map numberOf q) ≡ true) (s .queue) (each .numbers)))
 
   -- every call
   pub one-call : (d : Desk) (c : Call) (t x : ℕ) → OneEach d → Stands d t x → Moved t x (behind d c) (outcomeOf d c)

@@ -10,36 +10,25 @@ use mathlib.Core.List.{List, [], _∷_, _++_, map, map-append}
 use mathlib.Core.Option.{none, some}
 use lib.Dec.{eqb}
 use lib.ListN.{length, length-map}
-use borrow.Author.Tests.{eqb-true, eqb-false, eq-eqb, ne-eqb, lt-ltb, not-true, not-false}
+use borrow.Author.Tests.{eqb-true, eqb-false, eq-eqb, ne-eqb, not-true, not-false}
 use Rattle.model.specs.Limits.{jobsMost}
-use Rattle.model.specs.Bounded.{howMany, among}
-use Rattle.model.specs.Taps.{eachOnce as onceBelow}
-use Rattle.model.specs.Dispatcher.{codeAt, Job, Desk, emptyDesk, placesOf, numbersIn, isFree, freePlace, newJob, admitting, without, Call, Outcome, outcomeOf, behind, eachOnce, allBelow, Orderly}
-use Rattle.model.proofs.Bounded.{which, many-same, many-most, lowest-some, lowest-none, lowest-nowhere}
-use Rattle.model.proofs.Accepted.{or-false}
+use Rattle.model.specs.Bounded.{howMany, among, eachOnce}
+use Rattle.model.specs.Dispatcher.{codeAt, Job, Desk, emptyDesk, placesOf, numbersIn, isFree, freePlace, newJob, admitting, without, Call, Outcome, outcomeOf, behind, Orderly}
+use Rattle.model.proofs.Bounded.{which, many-same, many-most, lowest-some, lowest-none, lowest-nowhere, or-neither}
 use Rattle.model.proofs.CallCases.{again, Does, refuses, idles, admits, takes, answers, cancels, call-does}
 use Rattle.model.proofs.Ahead.{among-snoc, among-here, among-there, among-not, once-parts, once-make, once-below, once-snoc}
 
 -- ---- lists of numbers
 
--- each once and all below the bound: the test of the taps gives the two of an orderly dispatcher
-of-once : (n : ℕ) (ns : List ℕ) → onceBelow n ns ≡ true → (eachOnce ns ≡ true) × (allBelow n ns ≡ true)
-unfolding eachOnce allBelow
-of-once n [] h = (refl, refl)
-of-once n (k ∷ ns) h =
-    let o = once-parts n k ns h in
-    let r = of-once n ns (o .rest) in
-    (rw (o .fresh, r .0), rw (lt-ltb k n (o .below), r .1))
-
-once-wider : (n : ℕ) (ns : List ℕ) → onceBelow n ns ≡ true → onceBelow (suc n) ns ≡ true
-unfolding onceBelow
+once-wider : (n : ℕ) (ns : List ℕ) → eachOnce n ns ≡ true → eachOnce (suc n) ns ≡ true
+unfolding eachOnce
 once-wider n [] h = refl
 once-wider n (k ∷ ns) h =
     let o = once-parts n k ns h in
     once-make (suc n) k ns (record { below = le-step (o .below); fresh = o .fresh; rest = once-wider n ns (o .rest) })
 
 -- the bound itself is not there
-pub once-bound : (n : ℕ) (ns : List ℕ) → onceBelow n ns ≡ true → among n ns ≡ false
+pub once-bound : (n : ℕ) (ns : List ℕ) → eachOnce n ns ≡ true → among n ns ≡ false
 once-bound n ns h = ⊎-elim (λ m. absurd (omega (arith, once-below n ns n h m))) (λ f. f) (which (among n ns))
 
 -- one number more passes the test
@@ -77,7 +66,7 @@ many-all (suc n) p h k l =
     go false e = let none′ : howMany n p + 0 ≡ suc n = rw e at h in absurd (omega (arith, many-most n p))
 
 -- as many numbers below n are there as the list is long: none stands there twice
-once-many : (n : ℕ) (ns : List ℕ) → onceBelow n ns ≡ true → howMany n (λ k. among k ns) ≡ length ns
+once-many : (n : ℕ) (ns : List ℕ) → eachOnce n ns ≡ true → howMany n (λ k. among k ns) ≡ length ns
 unfolding among howMany
 once-many n [] h = nowhere n
   where
@@ -88,7 +77,7 @@ once-many n (k ∷ ns) h =
     let o = once-parts n k ns h in
     many-one n k (λ j. among j ns) (o .below) (o .fresh) ∙ ap suc (once-many n ns (o .rest))
 
-pub once-most : (n : ℕ) (ns : List ℕ) → onceBelow n ns ≡ true → length ns ≤ n
+pub once-most : (n : ℕ) (ns : List ℕ) → eachOnce n ns ≡ true → length ns ≤ n
 once-most n ns h = omega (arith, once-many n ns h, many-most n (λ k. among k ns))
 
 -- ---- lists of jobs
@@ -133,8 +122,8 @@ module _ (f : Job → ℕ) where
   pub among-behind : (x : ℕ) (js : List Job) (j : Job) → among x (map f js) ≡ false → (x ≡ f j → ⊥) → among x (map f (js ++ (j ∷ []))) ≡ false
   among-behind x js j h n = rw (map-append f js (j ∷ []), among-snoc x (map f js) (f j), h) (ne-eqb x (f j) n)
 
-  once-behind : (n : ℕ) (js : List Job) (j : Job) → onceBelow n (map f js) ≡ true → f j < n → among (f j) (map f js) ≡ false
-      → onceBelow n (map f (js ++ (j ∷ []))) ≡ true
+  once-behind : (n : ℕ) (js : List Job) (j : Job) → eachOnce n (map f js) ≡ true → f j < n → among (f j) (map f js) ≡ false
+      → eachOnce n (map f (js ++ (j ∷ []))) ≡ true
   once-behind n js j h b new = rw (map-append f js (j ∷ [])) (once-snoc n (map f js) (f j) h b new)
 
   -- one leaves, wherever it stands
@@ -142,23 +131,23 @@ module _ (f : Job → ℕ) where
   unfolding among without
   among-without x n [] h = h
   among-without x n (j ∷ js) h =
-      let parts = or-false (eqb x (f j)) (among x (map f js)) h in
+      let parts = or-neither (eqb x (f j)) (among x (map f js)) h in
       without-either (λ ks. among x (map f ks) ≡ false) n j js (λ e. parts .1) (λ e. rw (parts .0) (among-without x n js (parts .1)))
 
-  once-without : (b n : ℕ) (js : List Job) → onceBelow b (map f js) ≡ true → onceBelow b (map f (without n js)) ≡ true
+  once-without : (b n : ℕ) (js : List Job) → eachOnce b (map f js) ≡ true → eachOnce b (map f (without n js)) ≡ true
   unfolding without
   once-without b n [] h = h
   once-without b n (j ∷ js) h =
       let o = once-parts b (f j) (map f js) h in
-      without-either (λ ks. onceBelow b (map f ks) ≡ true) n j js
+      without-either (λ ks. eachOnce b (map f ks) ≡ true) n j js
       (λ e. o .rest)
       (λ e.
       once-make b (f j) (map f (without n js))
       (record { below = o .below; fresh = among-without (f j) n js (o .fresh); rest = once-without b n js (o .rest) }))
 
   -- the head, whose f a turn does not change, goes behind the last
-  once-again : (b : ℕ) (j : Job) (js : List Job) → f (again j) ≡ f j → onceBelow b (map f (j ∷ js)) ≡ true
-      → onceBelow b (map f (js ++ (again j ∷ []))) ≡ true
+  once-again : (b : ℕ) (j : Job) (js : List Job) → f (again j) ≡ f j → eachOnce b (map f (j ∷ js)) ≡ true
+      → eachOnce b (map f (js ++ (again j ∷ []))) ≡ true
   once-again b j js same h =
       let o = once-parts b (f j) (map f js) h in
       once-behind b js (again j) (o .rest)
@@ -170,7 +159,7 @@ among-held f [] j rest = among-here (f j) (map f rest)
 among-held f (h ∷ ahead) j rest = among-there (f j) (f h) (map f (ahead ++ (j ∷ rest))) (among-held f ahead j rest)
 
 -- a number cancelled is no longer there
-pub number-leaves : (b n : ℕ) (js : List Job) → onceBelow b (map numberOf js) ≡ true → among n (map numberOf (without n js)) ≡ false
+pub number-leaves : (b n : ℕ) (js : List Job) → eachOnce b (map numberOf js) ≡ true → among n (map numberOf (without n js)) ≡ false
 unfolding among without
 number-leaves b n [] h = refl
 number-leaves b n (j ∷ js) h =
@@ -206,17 +195,15 @@ without-kept n (h ∷ ahead) j rest e =
 
 -- each job has a place and a number of its own
 pub record OneEach (d : Desk) : Type 0 where
-  pub places : onceBelow jobsMost (map placeOf (d .queue)) ≡ true
-  pub numbers : onceBelow (d .given) (map numberOf (d .queue)) ≡ true
+  pub places : eachOnce jobsMost (map placeOf (d .queue)) ≡ true
+  pub numbers : eachOnce (d .given) (map numberOf (d .queue)) ≡ true
 
 pub orderly-of : (d : Desk) → OneEach d → Orderly d
 orderly-of d o =
-    let p = of-once jobsMost (placesOf (d .queue)) (rw (places-map (d .queue)) (o .places)) in
-    let n = of-once (d .given) (numbersIn (d .queue)) (rw (numbers-map (d .queue)) (o .numbers)) in
-    record { places = p .0; placesBelow = p .1; numbers = n .0; numbersBelow = n .1 }
+    record { places = rw (places-map (d .queue)) (o .places); numbers = rw (numbers-map (d .queue)) (o .numbers) }
 
 pub one-each-empty : OneEach emptyDesk
-unfolding onceBelow
+unfolding eachOnce
 one-each-empty = record { places = refl; numbers = refl }
 
 -- an admission takes a free place, and the next number

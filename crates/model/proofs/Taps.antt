@@ -11,17 +11,17 @@ use lib.ListN.{length, getD, take, drop, List·getD-append}
 use lib.Seq.{take-append-seam, take-append-le}
 use borrow.Author.Tests.{ltb-false}
 use Rattle.model.specs.Limits.{rowsMost, messagesMost, scratchLeast, tapNumbersLeast}
-use Rattle.model.specs.Bounded.{lowest, among}
+use Rattle.model.specs.Bounded.{lowest, among, eachOnce}
 use Rattle.model.specs.Refusal.{Out, ok, refusal, andThen, benchRefusal, tapRefusal}
 use Rattle.model.specs.Place.{lineOf}
 use Rattle.model.specs.Order.{Event, number, event, messageOf, Scenario}
 use Rattle.model.specs.Answer.{sheetOf}
-use Rattle.model.specs.Taps.{ahead, eachOnce, withLists, tapsAcceptedOf, Precedes, bySheet, byFirst, bySecond, link, isSooner, precedes, isNext, courseOf, Tapped, fit, clash, tappedOn, tappedFor, tappedOf, outputAfter, tapNumbersOf, Obeys, NothingBefore, LowestNext, LowestCircle, Fitted}
-use Rattle.model.proofs.Bounded.{or-cases, or-left, or-right, not-both, IsLowest, Found, lowest-found}
+use Rattle.model.specs.Taps.{ahead, withLists, tapsAcceptedOf, Precedes, bySheet, byFirst, bySecond, link, isSooner, precedes, isNext, courseOf, Tapped, fit, clash, tappedOn, tappedFor, tappedOf, outputAfter, tapNumbersOf, Obeys, NothingBefore, LowestNext, LowestCircle, Fitted}
+use Rattle.model.proofs.Bounded.{or-cases, or-left, or-right, not-both, IsLowest, Found, lowest-found, or-neither}
 use Rattle.model.proofs.Events.{event-number, number-event, below-number}
 use Rattle.model.proofs.Refusal.{and-then-ok, cond-ok, cond-refused}
 use Rattle.model.proofs.Causal.{Causal}
-use Rattle.model.proofs.Accepted.{or-false, sheet-causal, sheet-count}
+use Rattle.model.proofs.Accepted.{sheet-causal, sheet-count}
 use Rattle.model.proofs.Lines.{Well, sheet-well}
 use Rattle.model.proofs.Closure.{Over, over, linked-below, closure-holds, closure-transitive, closure-least}
 use Rattle.model.proofs.Ahead.{ahead-inside, ahead-transitive, ahead-irreflexive}
@@ -41,7 +41,7 @@ pub taps-accepted-parts : (text : List ℕ) (scratchLength : ℕ) (first second 
 unfolding tapsAcceptedOf withLists
 taps-accepted-parts text scratchLength first second outputLength S e =
     let a = cond-refused (ltb scratchLength scratchLeast || ltb outputLength tapNumbersLeast) _ _ _ S e in
-    let lengths = or-false (ltb scratchLength scratchLeast) (ltb outputLength tapNumbersLeast) (a .0) in
+    let lengths = or-neither (ltb scratchLength scratchLeast) (ltb outputLength tapNumbersLeast) (a .0) in
     let b = and-then-ok (sheetOf text) (withLists first second) S (a .1) in
     let T = b .0 in
     let c = cond-ok (eachOnce (2 * T .count) first) _ _ _ S (b .2) in

@@ -20,10 +20,9 @@ use Rattle.model.specs.Race.{raceRuleOf, lowestRace}
 use Rattle.model.specs.Schedule.{schedule}
 use Rattle.model.specs.Answer.{scratchCleared, Answer, free, locked, refused, expandedWith, sheetOf, acceptedOf, answerFor, answerOf, verdictOf, numbersOf, scratchBehind, traceAfter}
 use Rattle.model.specs.Choice.{isAsked, asks, listsFrom, listsOf, ChoiceAnswer, eachFree, firstLocked, firstRefused, refusalIn, lockIn, judgedOver, choosable, choiceAnswerFor, choiceAnswerOf, choicesNumber, ChoiceNumbers, choiceNumbers, firstFour, traceChosen, isChoice, Plain, readsAsChoice, anyChoice, choicesBehind, hasChoices, ChoiceVerdict, ChoiceChecked}
-use Rattle.model.proofs.Bounded.{not-both}
+use Rattle.model.proofs.Bounded.{not-both, or-neither}
 use Rattle.model.proofs.Refusal.{not-refused, passed}
 use Rattle.model.proofs.Standing.{read-parts}
-use Rattle.model.proofs.Accepted.{or-false}
 use Rattle.model.proofs.Lines.{Well, Reads, read-well, expanded-well}
 use Rattle.model.proofs.Asking.{walkOn, asks-walk, Follows, same, asked, expand-follows}
 use Rattle.model.proofs.PointThree.{checked-from}
@@ -119,7 +118,7 @@ rows-same : (c : Columns) (i : ℕ) (p : Place) (ls : List Line) → anyChoice c
 unfolding rowsFrom anyChoice
 rows-same c i p [] e = refl
 rows-same c i p (l ∷ ls) e =
-    let d = or-false (readsAsChoice c l) (anyChoice c ls) e in
+    let d = or-neither (readsAsChoice c l) (anyChoice c ls) e in
     ap (λ (o : Out (Row × Place)). elim o [
       | refusal number line ↦ refusal number line
       | ok rp ↦ elim (rowsFrom true c (suc i) (rp .1) ls) [ refusal number line ↦ refusal number line | ok rs ↦ ok ((rp .0) ∷ rs) ]

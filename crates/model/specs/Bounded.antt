@@ -4,7 +4,7 @@ use Prim.Native.Nat.{ℕ, zero, suc, _+_}
 use mathlib.Core.Bool.{Bool, true, false, not, cond, _&&_, _||_}
 use mathlib.Core.List.{List, [], _∷_}
 use mathlib.Core.Option.{Option, none, some}
-use lib.Dec.{eqb}
+use lib.Dec.{eqb, ltb}
 
 -- every number below n passes the test
 unfoldable pub every : ℕ → (ℕ → Bool) → Bool
@@ -29,6 +29,11 @@ lowest (suc n) p = elim (lowest n p) [ none ↦ cond (p n) (some n) none | some 
 unfoldable pub among : ℕ → List ℕ → Bool
 among n [] = false
 among n (k ∷ ks) = eqb n k || among n ks
+
+-- the members are numbers below n, and none of them is there twice
+unfoldable pub eachOnce : ℕ → List ℕ → Bool
+eachOnce n [] = true
+eachOnce n (k ∷ ks) = ltb k n && not (among k ks) && eachOnce n ks
 
 -- two lists of numbers are the same
 unfoldable pub same : List ℕ → List ℕ → Bool

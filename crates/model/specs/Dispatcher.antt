@@ -9,7 +9,7 @@ use mathlib.Core.Option.{Option, none, some}
 use lib.Dec.{eqb, ltb, leb}
 use lib.ListN.{length, getD, take, drop, replicate}
 use Rattle.model.specs.Limits.{textMost, channels, scratchLeast, traceLeast, jobsMost, jobNumbers, jobWordsLeast, turnsMost}
-use Rattle.model.specs.Bounded.{among, lowest}
+use Rattle.model.specs.Bounded.{among, eachOnce, lowest}
 use Rattle.model.specs.Refusal.{Out, ok, refusal, channelRefusal, benchRefusal, lengthRefusal, jobsRefusal, heldRefusal}
 use Rattle.model.specs.Order.{Scenario}
 use Rattle.model.specs.Closure.{cells}
@@ -249,22 +249,10 @@ abbrev pub Member : Job → List Job → Type 0
 Member j [] = ⊥
 Member j (k ∷ ks) = (j ≡ k) ⊎ Member j ks
 
--- none of the numbers stands there twice
-unfoldable pub eachOnce : List ℕ → Bool
-eachOnce [] = true
-eachOnce (n ∷ ns) = not (among n ns) && eachOnce ns
-
--- every number is below the bound
-unfoldable pub allBelow : ℕ → List ℕ → Bool
-allBelow bound [] = true
-allBelow bound (n ∷ ns) = ltb n bound && allBelow bound ns
-
 -- what is so of every dispatcher that calls leave: each job has a place and a number of its own
 pub record Orderly (d : Desk) : Type 0 where
-  pub places : eachOnce (placesOf (d .queue)) ≡ true
-  pub placesBelow : allBelow jobsMost (placesOf (d .queue)) ≡ true
-  pub numbers : eachOnce (numbersIn (d .queue)) ≡ true
-  pub numbersBelow : allBelow (d .given) (numbersIn (d .queue)) ≡ true
+  pub places : eachOnce jobsMost (placesOf (d .queue)) ≡ true
+  pub numbers : eachOnce (d .given) (numbersIn (d .queue)) ≡ true
 
 -- the check's answer for a scenario and a code, and the trace behind it
 pub record AsTheCheck (S : Scenario) (code : ℕ) (trace traceExit : List ℕ) (answer : Numbers) : Type 0 where

@@ -9,7 +9,7 @@ use mathlib.Core.Option.{none, some}
 use lib.Dec.{eqb, ltb}
 use lib.ListN.{length, getD, take, drop}
 use Rattle.model.specs.Limits.{scratchLeast, tapNumbersLeast}
-use Rattle.model.specs.Bounded.{every, lowest, among}
+use Rattle.model.specs.Bounded.{every, lowest, among, eachOnce}
 use Rattle.model.specs.Refusal.{Out, ok, refusal, andThen, benchRefusal, tapRefusal}
 use Rattle.model.specs.Closure.{reads, linked}
 use Rattle.model.specs.Order.{Event, number, event, Scenario}
@@ -20,11 +20,6 @@ use Rattle.model.specs.Verdict.{Meets}
 unfoldable pub ahead : List ℕ → ℕ → ℕ → Bool
 ahead [] x y = false
 ahead (k ∷ ks) x y = eqb x k && among y ks || ahead ks x y
-
--- the members are numbers below n, and none of them is there twice
-unfoldable pub eachOnce : ℕ → List ℕ → Bool
-eachOnce n [] = true
-eachOnce n (k ∷ ks) = ltb k n && not (among k ks) && eachOnce n ks
 
 -- an event not in the sheet, or twice in one list: refusal 20, first list first, with 1 or 2 for the list as its line
 unfoldable pub withLists : List ℕ → List ℕ → Scenario → Out Scenario

@@ -15,8 +15,7 @@ use lib.ListN.{length, getD, take, drop, length-take, drop-of-length-le}
 use lib.Pow.{shl-exact}
 use lib.Seq.{getD-take, drop-cons, append-snoc}
 use Rattle.model.specs.Limits.{jobsMost}
-use Rattle.model.specs.Bounded.{among, lowest}
-use Rattle.model.specs.Taps.{eachOnce}
+use Rattle.model.specs.Bounded.{among, eachOnce, lowest}
 use Rattle.model.specs.Dispatcher as model
 use Rattle.model.specs.Dispatcher.{placesOf}
 use Rattle.model.proofs.Bounded.{and-left, and-right, not-both, lowest-hit, lowest-miss, lowest-same, lowest-some}

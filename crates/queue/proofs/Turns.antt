@@ -11,12 +11,10 @@ use lib.Dec.{eqb, ltb}
 use lib.ListN.{length, getD, take, drop, set, length-append, length-drop}
 use lib.Seq.{take-nil, take-suc-set, take-take, getD-take, getD-drop, drop-cons, paste, paste-zero, paste-suc, take-paste, drop-paste, length-paste, length-take-le}
 use Rattle.model.specs.Limits.{jobsMost}
-use Rattle.model.specs.Bounded.{among}
-use Rattle.model.specs.Taps.{eachOnce}
+use Rattle.model.specs.Bounded.{among, eachOnce}
 use Rattle.model.specs.Dispatcher as model
 use Rattle.model.specs.Dispatcher.{placesOf, isLast, turned}
-use Rattle.model.proofs.Bounded.{not-both, or-left}
-use Rattle.model.proofs.Accepted.{or-false}
+use Rattle.model.proofs.Bounded.{not-both, or-left, or-neither}
 use Rattle.model.proofs.Ahead.{among-not, among-snoc, once-parts, once-make, once-snoc}
 use Rattle.model.proofs.Queue.{once-most}
 use Rattle.queue.specs.declared.Job.{Job}
@@ -37,7 +35,7 @@ places-length (j ∷ js) = ap suc (places-length js)
 -- a number not in a list is not its first, nor behind it
 other-key : (n k : ℕ) (l : List ℕ) → among n (k ∷ l) ≡ false → (n ≡ k → ⊥) × (among n l ≡ false)
 unfolding among
-other-key n k l h = (λ e. not-both _ (or-left _ (among n l) (eq-eqb n k e)) h, or-false (eqb n k) (among n l) h .1)
+other-key n k l h = (λ e. not-both _ (or-left _ (among n l) (eq-eqb n k e)) h, or-neither (eqb n k) (among n l) h .1)
 
 -- without one of them each has a place of its own still
 among-cut : (p : ℕ) (js : List model.Job) (at : ℕ) → among p (placesOf js) ≡ false → among p (placesOf (take at js ++ drop (suc at) js)) ≡ false

@@ -1,4 +1,4 @@
--- What `marked` means: row y has event x besides, and no other row or event is touched.
+-- What `marked` means: row y has event x besides, and no other row or event is touched. Neither it nor `unmarked` changes how many words there are.
 -- Assumes nothing.
 use mathlib.Core.Path.{_≡_, ap, ap₂}
 use mathlib.Core.Bool.{Bool, false, _&&_, _||_, or-false}
@@ -11,7 +11,7 @@ use lib.ListN.{length, getD, length-set}
 use lib.Seq.{getD-set-same, getD-set-other}
 use borrow.Author.Tests.{eq-eqb, ne-eqb}
 use Rattle.relation.specs.Width.{wordBits}
-use Rattle.relation.specs.Rows.{has, holds, marked, wordOf, bitOf}
+use Rattle.relation.specs.Rows.{has, holds, marked, unmarked, wordOf, bitOf}
 use Rattle.relation.proofs.Tests.{eqb-same}
 use Rattle.relation.proofs.Bits.{has-or, has-power}
 use Rattle.relation.proofs.Place.{column-lt, place-row, place-event}
@@ -19,6 +19,10 @@ use Rattle.relation.proofs.Place.{column-lt, place-row, place-event}
 pub length-marked : (W : ℕ) (l : List ℕ) (y x : ℕ) → length (marked W l y x) ≡ length l
 unfolding marked
 length-marked W l y x = length-set l _ _
+
+pub length-unmarked : (W : ℕ) (l : List ℕ) (y x : ℕ) → length (unmarked W l y x) ≡ length l
+unfolding unmarked
+length-unmarked W l y x = length-set l _ _
 
 -- not both are equal
 apart : (b y a x : ℕ) → (b ≡ y → a ≡ x → ⊥) → (eqb b y && eqb a x) ≡ false

@@ -4,7 +4,7 @@ use mathlib.Core.Bool.{Bool, cond, _||_}
 use mathlib.Core.List.{List, _++_}
 use Prim.Native.Nat.{ℕ, zero, suc, _+_, _-_, _*_, _/_, _%_, _^_}
 use lib.Dec.{eqb}
-use lib.Bits.{bitOr}
+use lib.Bits.{bitAnd, bitOr}
 use lib.ListN.{getD, set, drop, replicate}
 use Rattle.relation.specs.Width.{wordBits}
 
@@ -26,6 +26,10 @@ holds W words y x = has (getD words (wordOf W y x) 0) (bitOf x)
 -- Row y gains event x.
 unfoldable pub marked : ℕ → List ℕ → ℕ → ℕ → List ℕ
 marked W words y x = set words (wordOf W y x) (bitOr (getD words (wordOf W y x) 0) (2 ^ bitOf x))
+
+-- Row y loses event x: of its word every bit is kept but that one.
+unfoldable pub unmarked : ℕ → List ℕ → ℕ → ℕ → List ℕ
+unmarked W words y x = set words (wordOf W y x) (bitAnd (getD words (wordOf W y x) 0) (2 ^ wordBits - 1 - 2 ^ bitOf x))
 
 -- Each of the n words at a becomes what `op` makes of it and of the word of `other`, from b on, that stands at its place.
 unfoldable pub merged : (ℕ → ℕ → ℕ) → ℕ → List ℕ → ℕ → List ℕ → ℕ → List ℕ

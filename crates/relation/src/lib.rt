@@ -4,7 +4,7 @@ ghost use Prim.Native.Nat.{_+_, _*_, _<_, _≤_};
 ghost use lib.ListN.{length};
 ghost use Rattle.relation.specs.Width.{width, wordBits};
 ghost use Rattle.model.specs.Bounded.{lowest};
-ghost use Rattle.relation.specs.Rows.{holds, marked, joined, joinedFrom, copiedFrom, inserted, cleared};
+ghost use Rattle.relation.specs.Rows.{holds, marked, unmarked, joined, joinedFrom, copiedFrom, inserted, cleared};
 ghost use Rattle.relation.specs.Own.{foundIn, isOwn};
 
 // The words of a row: the model's limit, as the specs' `width` is.
@@ -34,6 +34,16 @@ pub fn mark(words: &mut [u64], y: usize, x: usize)
 {
     let at = y * WIDTH + x / WORD_BITS;
     words[at] = words[at] | (1 << (x % WORD_BITS));
+}
+
+// Event x is no longer a predecessor of event y.
+pub fn unmark(words: &mut [u64], y: usize, x: usize)
+    requires { ⌜ y * width + width ≤ length (now words) ⌝ }
+    requires { ⌜ x < wordBits * width ⌝ }
+    ensures { λ _. ⌜ now (words .exit) ≡ unmarked width (now (words .entry)) y x ⌝ }
+{
+    let at = y * WIDTH + x / WORD_BITS;
+    words[at] = words[at] & !(1 << (x % WORD_BITS));
 }
 
 // Every predecessor of event `from` becomes one of event `to`.

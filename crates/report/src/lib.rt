@@ -1,5 +1,5 @@
 // Printing answers and steps, for the programs over the check.
-use channel_check::ChannelCheckAnswer;
+use answers::ChannelCheckAnswer;
 use libc::STDOUT_FILENO;
 
 pub fn print(text: &[u8]) {

@@ -29,12 +29,11 @@ use Rattle.channel_table.specs.declared.ToDeliver.{ToDeliver}
 use Rattle.channel_table.specs.declared.ToDeliver.the-variants as to-deliver
 use Rattle.channel_table.specs.Table.{toSendIn, toDeliverIn}
 use Rattle.board.specs.Masks.{isSend, Standing}
-use Rattle.run.specs.declared.Buffer.{Buffer}
 use Rattle.run.specs.declared.Run.{Run}
 use Rattle.run.specs.State.{inRow, Without, bufferOf, stateOf}
 use Rattle.rules.specs.declared.Readiness.the-variants.{Ready, Done, Waits}
-use Rattle.rules.specs.Tests.{leftOf, noneOfRow, noneIn}
-use Rattle.rules.specs.Rules.{SaysReadiness, SaysSendRule, SaysDeliverRule}
+use Rattle.rules.specs.Tests.{leftOf, noneOfRow, noneIn, freeIn}
+use Rattle.rules.specs.Rules.{BufferRow, SaysReadiness, SaysSendRule, SaysDeliverRule}
 
 -- tests that agree below the bound
 every-ext : (n : ℕ) (p q : ℕ → Bool) → ((k : ℕ) → k < n → p k ≡ q k) → every n p ≡ every n q
@@ -153,18 +152,18 @@ module _ (count : ℕ) (on words masks : List ℕ) (standing : Standing count on
     says-ready j run d = rw (undone-is run d, left-is run d ∙ ap foundIn j)
 
   -- no message of the mask of all sends is among those given
-  none-says : (given : List ℕ) → noneIn (wordBits * width) width masks (2 * boards) given ≡ every count (λ f. not (inRow given (2 * f)))
+  none-says : (given : List ℕ) (y : ℕ) → noneIn (wordBits * width) width masks (2 * boards) given y ≡ every count (λ f. not (holds width given y (2 * f)))
   unfolding noneIn
-  none-says given =
+  none-says given y =
       sends-all (wordBits * width) count _ _ room
-      (λ k h t. sym (standing .masksOf .sends k h) ∙ and-left (holds width masks (2 * boards) k) (inRow given k) t)
+      (λ k h t. sym (standing .masksOf .sends k h) ∙ and-left (holds width masks (2 * boards) k) (holds width given y k) t)
       (λ f h. rw (standing .masksOf .sends (2 * f) (omega (arith, room)) ∙ send-is count f h))
 
   -- none but m
   others-say : (way others : List ℕ) (m : ℕ) → Without way (2 * m) others
-      → noneIn (wordBits * width) width masks (2 * boards) others ≡ every count (λ f. eqb f m || not (inRow way (2 * f)))
+      → noneIn (wordBits * width) width masks (2 * boards) others 0 ≡ every count (λ f. eqb f m || not (inRow way (2 * f)))
   others-say way others m w =
-      none-says others
+      none-says others 0
       ∙ every-ext count _ _ (λ f h.
       ap not (w (2 * f) ∙ ap (λ (b : Bool). inRow way (2 * f) && not b) (eqb-same (2 * f) (2 * m) f m (λ e. omega arith) (λ e. omega arith)))
       ∙ other (inRow way (2 * f)) (eqb f m))
@@ -209,10 +208,11 @@ module _ (count : ℕ) (on words masks : List ℕ) (standing : Standing count on
 
   module _ (c : model.Channel) (run : Run) where
     -- an eager board sends, or takes a delivery, only while its buffer is empty
-    pub free-says : (b : ℕ) (buffer : Buffer) → bufferOf run b ≡ buffer
-        → (not (c .eager) || noneIn (wordBits * width) width masks (2 * boards) (buffer .held)) ≡ boardFree S c (stateOf run) b
+    pub free-says : (b : ℕ) (held : List ℕ) (y : ℕ) → BufferRow run b held y → freeIn (c .eager) masks held y ≡ boardFree S c (stateOf run) b
     unfolding boardFree bufferEmpty
-    free-says b buffer e = rw (← e) (ap (λ (t : Bool). not (c .eager) || t) (none-says (bufferOf run b .held)))
+    free-says b held y e =
+        ap (λ (t : Bool). not (c .eager) || t)
+        (none-says held y ∙ every-ext count _ _ (λ f h. ap not (sym (e (2 * f) (omega (arith, room))))))
 
     -- the further conditions, one by one
     pub send-earlier : (m : ℕ) → m < count → c .toSend ≡ model.noEarlierUnderWay
@@ -221,9 +221,9 @@ module _ (count : ℕ) (on words masks : List ℕ) (standing : Standing count on
     send-earlier m hm e = rw (e, maySend) (earlier-says (run .way) m hm)
 
     pub send-empty : (m : ℕ) → c .toSend ≡ model.channelEmpty
-        → noneIn (wordBits * width) width masks (2 * boards) (run .way) ≡ maySend S c (c .toSend) (stateOf run) m
+        → noneIn (wordBits * width) width masks (2 * boards) (run .way) 0 ≡ maySend S c (c .toSend) (stateOf run) m
     unfolding maySend
-    send-empty m e = rw (e, maySend) (none-says (run .way))
+    send-empty m e = rw (e, maySend) (none-says (run .way) 0)
 
     pub send-always : (m : ℕ) → c .toSend ≡ model.ToSend.always → true ≡ maySend S c (c .toSend) (stateOf run) m
     unfolding maySend
@@ -235,7 +235,7 @@ module _ (count : ℕ) (on words masks : List ℕ) (standing : Standing count on
     deliver-ordered m others hm w e = rw (e, mayDeliver) (order-says (run .way) others m hm w)
 
     pub deliver-alone : (m : ℕ) (others : List ℕ) → Without (run .way) (2 * m) others → c .toDeliver ≡ model.alone
-        → noneIn (wordBits * width) width masks (2 * boards) others ≡ mayDeliver S c (c .toDeliver) (stateOf run) m
+        → noneIn (wordBits * width) width masks (2 * boards) others 0 ≡ mayDeliver S c (c .toDeliver) (stateOf run) m
     unfolding mayDeliver
     deliver-alone m others w e = rw (e, mayDeliver) (others-say (run .way) others m w)
 
@@ -252,7 +252,7 @@ module _ (words masks : List ℕ) (rule : ToSend) (way : List ℕ) (m : ℕ) whe
       → SaysSendRule words masks rule way m t
   send-rule-earlier t s r count on standing h c run e d = s ∙ rw (← d) (send-earlier count on words masks standing c run m h (e ∙ ap toSendIn r))
 
-  pub send-rule-empty : (t : Bool) → t ≡ noneIn (wordBits * width) width masks (2 * boards) way → rule ≡ to-send.ChannelEmpty
+  pub send-rule-empty : (t : Bool) → t ≡ noneIn (wordBits * width) width masks (2 * boards) way 0 → rule ≡ to-send.ChannelEmpty
       → SaysSendRule words masks rule way m t
   send-rule-empty t s r count on standing h c run e d = s ∙ rw (← d) (send-empty count on words masks standing c run m (e ∙ ap toSendIn r))
 
@@ -265,7 +265,7 @@ module _ (words masks : List ℕ) (rule : ToDeliver) (way : List ℕ) (target m 
   deliver-rule-ordered t others s w r count on standing h i c run e d =
       s ∙ rw i (deliver-ordered count on words masks standing c run m others h (rw d w) (e ∙ ap toDeliverIn r))
 
-  pub deliver-rule-alone : (t : Bool) (others : List ℕ) → t ≡ noneIn (wordBits * width) width masks (2 * boards) others
+  pub deliver-rule-alone : (t : Bool) (others : List ℕ) → t ≡ noneIn (wordBits * width) width masks (2 * boards) others 0
       → Without way (2 * m) others → rule ≡ to-deliver.Alone → SaysDeliverRule words masks rule way target m t
   deliver-rule-alone t others s w r count on standing h i c run e d =
       s ∙ deliver-alone count on words masks standing c run m others (rw d w) (e ∙ ap toDeliverIn r)

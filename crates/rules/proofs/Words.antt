@@ -5,7 +5,7 @@ use mathlib.Core.Logic.{⊎-elim}
 use mathlib.Core.List.{List}
 use mathlib.Core.Option.{none, some}
 use Prim.Native.Nat.{ℕ, _+_, _-_, _*_, _/_, _%_, _^_, _<_, _≤_}
-use native.Mathlib.Nat.{zero-mul, zero-add, le-antisymm, lt-of-le-of-lt}
+use native.Mathlib.Nat.{le-antisymm, lt-of-le-of-lt}
 use native.Mathlib.Decide.{decLt}
 use native.Mathlib.Omega.{arith}
 use lib.Bits.{bitAnd, and-le-l, and-le-r}
@@ -143,23 +143,24 @@ pub row-end : (W : ℕ) (words : List ℕ) (y : ℕ) (masks : List ℕ) (b : ℕ
     → noneOfRow (wordBits * i) W words y masks b r ≡ true → i ≤ W → W ≤ i → true ≡ noneOfRow (wordBits * W) W words y masks b r
 row-end W words y masks b r i = at-end W i (λ n. noneOfRow n W words y masks b r)
 
-module _ (W : ℕ) (masks : List ℕ) (b : ℕ) (given : List ℕ) where
+module _ (W : ℕ) (masks : List ℕ) (b : ℕ) (given : List ℕ) (y : ℕ) where
   two-bits : (k : ℕ) → k < wordBits * W
-      → (holds W masks b k && holds W given 0 k) ≡ has (bitAnd (getD masks (b * W + k / wordBits) 0) (getD given (k / wordBits) 0)) (k % wordBits)
+      → (holds W masks b k && holds W given y k)
+      ≡ has (bitAnd (getD masks (b * W + k / wordBits) 0) (getD given (y * W + k / wordBits) 0)) (k % wordBits)
   unfolding holds
-  two-bits k h = rw (has-and, zero-mul, zero-add)
+  two-bits k h = rw has-and
 
-  pub none-of-more : (i : ℕ) → bitAnd (getD masks (b * W + i) 0) (getD given i 0) ≡ 0 → noneIn (wordBits * i) W masks b given ≡ true
-      → i < W → noneIn (wordBits * (i + 1)) W masks b given ≡ true
+  pub none-of-more : (i : ℕ) → bitAnd (getD masks (b * W + i) 0) (getD given (y * W + i) 0) ≡ 0 → noneIn (wordBits * i) W masks b given y ≡ true
+      → i < W → noneIn (wordBits * (i + 1)) W masks b given y ≡ true
   unfolding noneIn
-  none-of-more i z so-far h = none-more W (λ j. bitAnd (getD masks (b * W + j) 0) (getD given j 0)) _ two-bits i h z so-far
+  none-of-more i z so-far h = none-more W (λ j. bitAnd (getD masks (b * W + j) 0) (getD given (y * W + j) 0)) _ two-bits i h z so-far
 
-  pub none-of-found : (i : ℕ) → (bitAnd (getD masks (b * W + i) 0) (getD given i 0) ≡ 0 → ⊥) → getD masks (b * W + i) 0 < 2 ^ wordBits
-      → i < W → false ≡ noneIn (wordBits * W) W masks b given
+  pub none-of-found : (i : ℕ) → (bitAnd (getD masks (b * W + i) 0) (getD given (y * W + i) 0) ≡ 0 → ⊥) → getD masks (b * W + i) 0 < 2 ^ wordBits
+      → i < W → false ≡ noneIn (wordBits * W) W masks b given y
   unfolding noneIn
   none-of-found i z m h =
-      some-found W (λ j. bitAnd (getD masks (b * W + j) 0) (getD given j 0)) _ two-bits i h (below (getD masks (b * W + i) 0) (getD given i 0) m) z
+      some-found W (λ j. bitAnd (getD masks (b * W + j) 0) (getD given (y * W + j) 0)) _ two-bits i h (below (getD masks (b * W + i) 0) (getD given (y * W + i) 0) m) z
 
-pub none-of-end : (W : ℕ) (masks : List ℕ) (b : ℕ) (given : List ℕ) (i : ℕ)
-    → noneIn (wordBits * i) W masks b given ≡ true → i ≤ W → W ≤ i → true ≡ noneIn (wordBits * W) W masks b given
-none-of-end W masks b given i = at-end W i (λ n. noneIn n W masks b given)
+pub none-of-end : (W : ℕ) (masks : List ℕ) (b : ℕ) (given : List ℕ) (y i : ℕ)
+    → noneIn (wordBits * i) W masks b given y ≡ true → i ≤ W → W ≤ i → true ≡ noneIn (wordBits * W) W masks b given y
+none-of-end W masks b given y i = at-end W i (λ n. noneIn n W masks b given y)

@@ -8,13 +8,15 @@ use Rattle.model.specs.Channel as model
 use Rattle.model.specs.Order.{event}
 use Rattle.model.specs.Run.{maySend, mayDeliver}
 use Rattle.model.specs.Waits as waits
+use Rattle.relation.specs.Width.{width, wordBits}
+use Rattle.relation.specs.Rows.{holds}
 use Rattle.relation.specs.Scenario.{scenarioIn}
 use Rattle.channel_table.specs.declared.ToSend.{ToSend}
 use Rattle.channel_table.specs.declared.ToDeliver.{ToDeliver}
 use Rattle.channel_table.specs.Table.{toSendIn, toDeliverIn}
 use Rattle.board.specs.Masks.{Standing}
 use Rattle.run.specs.declared.Run.{Run}
-use Rattle.run.specs.State.{stateOf}
+use Rattle.run.specs.State.{inRow, bufferOf, stateOf}
 use Rattle.rules.specs.declared.Readiness.{Readiness}
 use Rattle.rules.specs.declared.Readiness.the-variants.{Ready, Done, Waits}
 
@@ -23,6 +25,10 @@ abbrev pub readinessIn : Readiness → waits.Readiness
 readinessIn Ready = waits.isReady
 readinessIn Done = waits.isDone
 readinessIn (Waits k) = waits.waitsFor k
+
+-- row y of these words is what the buffer of board b holds
+abbrev pub BufferRow : Run → ℕ → List ℕ → ℕ → Type 0
+BufferRow run b held y = (k : ℕ) → k < wordBits * width → inRow (bufferOf run b .held) k ≡ holds width held y k
 
 -- the readiness of event x of `count` messages, event k being on board `getD on k 0`, in every run with these events done
 abbrev pub SaysReadiness : ℕ → List ℕ → List ℕ → List ℕ → ℕ → Readiness → Type 0

@@ -21,10 +21,10 @@ leftOf W words y masks b done k = holds W words y k && holds W masks b k && undo
 unfoldable pub noneOfRow : ℕ → ℕ → List ℕ → ℕ → List ℕ → ℕ → (ℕ → Bool) → Bool
 noneOfRow n W words y masks b test = every n (λ k. not (holds W words y k && holds W masks b k && test k))
 
--- no event of mask b is among those given
-unfoldable pub noneIn : ℕ → ℕ → List ℕ → ℕ → List ℕ → Bool
-noneIn n W masks b given = every n (λ k. not (holds W masks b k && holds W given 0 k))
+-- no event of mask b is in row y of those given
+unfoldable pub noneIn : ℕ → ℕ → List ℕ → ℕ → List ℕ → ℕ → Bool
+noneIn n W masks b given y = every n (λ k. not (holds W masks b k && holds W given y k))
 
--- the channel is lazy, or the buffer holds no message
-abbrev pub freeIn : Bool → List ℕ → List ℕ → Bool
-freeIn eager masks held = not eager || noneIn (wordBits * width) width masks (2 * boards) held
+-- the channel is lazy, or the buffer, row y of those held, holds no message
+abbrev pub freeIn : Bool → List ℕ → List ℕ → ℕ → Bool
+freeIn eager masks held y = not eager || noneIn (wordBits * width) width masks (2 * boards) held y

@@ -52,13 +52,14 @@ pub fn readiness_of(
     }
 }
 
-// An eager board sends, or takes a delivery, only while its buffer holds nothing.
-pub fn board_free(masks: &[u64], eager: bool, held: &[u64; WIDTH]) -> bool
+// An eager board sends, or takes a delivery, only while its buffer, row y of those held, holds nothing.
+pub fn board_free(masks: &[u64], eager: bool, held: &[u64], y: usize) -> bool
     requires { ⌜ maskRows * width ≤ length (now masks) ⌝ }
-    ensures { λ r. ⌜ r ≡ freeIn eager (now (masks .entry)) (now (held .entry)) ⌝ }
+    requires { ⌜ y * width + width ≤ length (now held) ⌝ }
+    ensures { λ r. ⌜ r ≡ freeIn eager (now (masks .entry)) (now (held .entry)) y ⌝ }
 {
     if eager {
-        none_of(masks, SENDS, held)
+        none_of(masks, SENDS, held, y)
     } else {
         true
     }
@@ -77,7 +78,7 @@ pub fn send_rule(words: &[u64], masks: &[u64], rule: ToSend, way: &[u64; WIDTH],
             let receive = 2 * m + 1;
             apart(words, receive, masks, SENDS, way)
         }
-        ToSend::ChannelEmpty => none_of(masks, SENDS, way),
+        ToSend::ChannelEmpty => none_of(masks, SENDS, way, 0),
     }
 }
 
@@ -106,7 +107,7 @@ pub fn deliver_rule(
         }
         ToDeliver::Alone => {
             let others = without(*way, send);
-            none_of(masks, SENDS, &others)
+            none_of(masks, SENDS, &others, 0)
         }
     }
 }

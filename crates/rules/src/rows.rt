@@ -57,16 +57,18 @@ pub fn apart(words: &[u64], y: usize, masks: &[u64], mask: usize, given: &[u64])
     true
 }
 
-// No event of the mask is among those given.
-pub fn none_of(masks: &[u64], mask: usize, given: &[u64]) -> bool
+// No event of the mask is in row y of those given.
+pub fn none_of(masks: &[u64], mask: usize, given: &[u64], y: usize) -> bool
     requires { ⌜ mask * width + width ≤ length (now masks) ⌝ }
-    requires { ⌜ width ≤ length (now given) ⌝ }
-    ensures { λ r. ⌜ r ≡ noneIn (wordBits * width) width (now (masks .entry)) mask (now (given .entry)) ⌝ }
+    requires { ⌜ y * width + width ≤ length (now given) ⌝ }
+    ensures { λ r. ⌜ r ≡ noneIn (wordBits * width) width (now (masks .entry)) mask (now (given .entry)) y ⌝ }
 {
     let board = mask * WIDTH;
+    let row = y * WIDTH;
     for i in 0..WIDTH {
         let by = board + i;
-        if masks[by] & given[i] != 0 {
+        let at = row + i;
+        if masks[by] & given[at] != 0 {
             return false;
         }
     }

@@ -34,7 +34,7 @@ module _ (W : ℕ) (row : List ℕ) (x : ℕ) (inside : x / wordBits < length ro
   other-event : (k : ℕ) → (k / wordBits ≡ x / wordBits → ⊥) → eqb k x ≡ false
   other-event k n = ne-eqb k x (λ e. n (ap (λ (m : ℕ). m / wordBits) e))
 
-  with-bit : (k : ℕ) → holds W (set row (x / wordBits) (bitOr (getD row (x / wordBits) 0) (2 ^ (x % wordBits)))) 0 k
+  pub with-bit : (k : ℕ) → holds W (set row (x / wordBits) (bitOr (getD row (x / wordBits) 0) (2 ^ (x % wordBits)))) 0 k
       ≡ (holds W row 0 k || eqb k x)
   with-bit k = go (ℕ-discrete (k / wordBits) (x / wordBits))
     where
@@ -47,7 +47,7 @@ module _ (W : ℕ) (row : List ℕ) (x : ℕ) (inside : x / wordBits < length ro
           ∙ rw (has-power (x % wordBits) (k % wordBits), same-bit k e, here k e)
       go (no n) = set-there v k n ∙ rw (other-event k n, or-false)
 
-  without-bit : (k : ℕ)
+  pub without-bit : (k : ℕ)
       → holds W (set row (x / wordBits) (bitAnd (getD row (x / wordBits) 0) (2 ^ wordBits - 1 - 2 ^ (x % wordBits)))) 0 k
       ≡ (holds W row 0 k && not (eqb k x))
   without-bit k = go (ℕ-discrete (k / wordBits) (x / wordBits))

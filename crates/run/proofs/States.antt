@@ -201,12 +201,16 @@ boards-kept run b buffer long = simp length-set long
 zero-row : (n k : ℕ) → inRow (replicate n 0) k ≡ false
 zero-row n k = alone-row width (replicate n 0) k ∙ rw (replicate-at {A = ℕ} n (k / wordBits) 0) (has-zero (k % wordBits))
 
-zero-buffers : (n b k : ℕ) → inRow (getD {A = Buffer} (replicate n (record { held = replicate width 0 })) b (record { held = [] }) .held) k ≡ false
+pub zero-buffers : (n b k : ℕ) → inRow (getD {A = Buffer} (replicate n (record { held = replicate width 0 })) b (record { held = [] }) .held) k ≡ false
 zero-buffers zero b k = zero-row 0 k
 zero-buffers (suc n) zero k = zero-row width k
 zero-buffers (suc n) (suc b) k = zero-buffers n b k
 
-start-state : stateOf (record { done = replicate width 0; way = replicate width 0; buffers = replicate boards (record { held = replicate width 0 }) }) ≡ start
+-- the run that `Run::start` makes
+abbrev pub start-run : Run
+start-run = record { done = replicate width 0; way = replicate width 0; buffers = replicate boards (record { held = replicate width 0 }) }
+
+start-state : stateOf start-run ≡ start
 start-state = λ i.
     record {
       done = fun-ext (λ (x : Event). zero-row width (number x)) i;
@@ -214,5 +218,5 @@ start-state = λ i.
       holds = fun-ext (λ (b : ℕ). fun-ext (λ (m : ℕ). zero-buffers boards b (2 * m))) i;
     }
 
-pub starts : Starts (record { done = replicate width 0; way = replicate width 0; buffers = replicate boards (record { held = replicate width 0 }) })
+pub starts : Starts start-run
 starts = record { state = start-state; boards = refl }

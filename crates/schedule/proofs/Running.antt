@@ -4,7 +4,7 @@ use mathlib.Core.List.{List, [], _∷_, _++_, append-assoc, append-nil}
 use mathlib.Core.Option.{Option, none, some}
 use Prim.Native.Nat.{ℕ, suc, _+_, _*_, _-_, _<_, _≤_}
 use native.Mathlib.Omega.{arith}
-use lib.ListN.{length, getD, drop, set, length-append, length-drop, length-set}
+use lib.ListN.{length, drop, set, replicate, length-append, length-drop, length-set, length-replicate}
 use lib.Seq.{set-at, drop-drop, append-snoc}
 use mir.Val.{Fits}
 use mir.Syntax.{w64}
@@ -14,6 +14,8 @@ use Rattle.model.specs.Channel.{Channel}
 use Rattle.model.specs.Run.{State, start, Step, next}
 use Rattle.model.specs.Schedule.{classesFor, choose, scheduleFrom, schedule, kindOf, messageOfStep, bytesOf}
 use Rattle.model.proofs.Trace.{bytes-length, bytes-more}
+use Rattle.model.proofs.Bounded.{not-both}
+use Rattle.relation.specs.Width.{width}
 use Rattle.relation.specs.Scenario.{scenarioIn}
 use Rattle.channel_table.specs.declared.Channel as channel
 use Rattle.channel_table.specs.Table.{channelIn}
@@ -25,13 +27,14 @@ use Rattle.step.specs.declared.Step as code
 use Rattle.step.specs.declared.StepOrNone.{StepOrNone}
 use Rattle.step.specs.declared.StepOrNone.the-variants as maybe
 use Rattle.step.specs.Steps.{stepIn, messageIn, stepOrNone}
-use Rattle.run.specs.State.{stateOf, DoneBehind, WayBehind, HeldBehind, Starts, Reaches, TargetOf, Follows}
-use Rattle.run.proofs.States.{reaches, next-follows, boards-kept}
-use Rattle.buffers.specs.Held.{HeldIn, PutsRow, HeldAnywhere}
-use Rattle.buffers.proofs.Rows.{row-put}
+use Rattle.run.specs.State.{inRow, bufferOf, stateOf, DoneBehind, WayBehind, HeldBehind, Reaches, TargetOf, Follows}
+use Rattle.run.proofs.States.{start-run, starts, zero-buffers, reaches, next-follows}
+use Rattle.buffers.specs.Held.{HeldIn, RowsBehind, HeldAnywhere}
+use Rattle.buffers.proofs.Rows.{Lays, start-laid, step-laid, rows-kept}
 use Rattle.next_step.specs.Search.{ChosenIn}
-use Rattle.schedule.specs.Schedule.{GathersBehind, Scheduled}
 use Rattle.next_step.proofs.Searching.{chosen-inside}
+use Rattle.schedule.specs.Schedule.{Scheduled}
+use Rattle.schedule.proofs.Gathering.{Gathered, gathered-anywhere, gathered-behind}
 
 pub two-bytes : (trace : List ℕ) (i k m : ℕ) (s : code.Step) → k ≡ kindOf (stepIn s) → m ≡ messageIn s
     → set (set trace (2 * i) k) (2 * i + 1) m ≡ set (set trace (2 * i) (kindOf (stepIn s))) (2 * i + 1) (messageIn s)
@@ -137,44 +140,57 @@ module _ (S : Scenario) (c : Channel) (e : ℕ) (trace : List ℕ) where
       let z : 3 * S .count - i ≡ 0 = omega arith in
       ended s i now R (ap (λ f. scheduleFrom S c e f s) z)
 
--- The loop of the schedule: i steps were taken and written, and the run's state is the one behind them.
+-- The loop of the schedule: i steps were taken and written, and the state behind them is that of a run with these parts.
 module _ (count : ℕ) (boards words masks : List ℕ) (c : channel.Channel) (e : ℕ) (trace : List ℕ) where
   abbrev S : Scenario
   S = scenarioIn count boards words
 
-  -- with the buffers in rows too, for the search
-  pub record Goes (end : ℕ) (now : List ℕ) (run : Run) (rows held : List ℕ) (i : ℕ) : Type 0 where
+  pub record Goes (end : ℕ) (now done way rows held : List ℕ) (i : ℕ) : Type 0 where
+    pub buffers : List Buffer
     pub standing : Standing count boards words masks
     pub whole : end ≡ 3 * count
     pub within : i ≤ end
-    pub wide : length (run .buffers) ≡ boardsMost
-    pub laid : HeldIn run rows
-    pub gathered : HeldAnywhere rows held
+    pub laid : HeldIn (record { done = done; way = way; buffers = buffers }) rows
+    pub long : length rows ≡ boardsMost * width
+    pub gathered : Gathered boards (record { done = done; way = way; buffers = buffers }) held
+    pub anywhere : HeldAnywhere rows held
     pub room : 2 * (3 * count) ≤ length now
     pub same-length : length now ≡ length trace
-    pub running : Running S (channelIn c) e trace (stateOf run) i now
+    pub running : Running S (channelIn c) e trace (stateOf (record { done = done; way = way; buffers = buffers })) i now
 
-  pub goes-start : (run : Run) (rows held : List ℕ) → Standing count boards words masks → 2 * (3 * count) ≤ length trace → Starts run → HeldIn run rows → HeldAnywhere rows held
-      → Goes (3 * count) trace run rows held 0
-  goes-start run rows held s l h laid anywhere =
+  pub goes-start : Standing count boards words masks → 2 * (3 * count) ≤ length trace
+      → Goes (3 * count) trace (replicate width 0) (replicate width 0) (replicate (boardsMost * width) 0) (replicate width 0) 0
+  goes-start s l =
       record {
+        buffers = start-run .buffers;
         standing = s;
         whole = refl;
         within = omega arith;
-        wide = h .boards;
-        laid = laid;
-        gathered = anywhere;
+        laid = start-laid;
+        long = length-replicate {A = ℕ} (boardsMost * width) 0;
+        gathered = nothing;
+        anywhere = gathered-anywhere boards start-run (replicate (boardsMost * width) 0) (replicate width 0) nothing start-laid;
         room = l;
         same-length = refl;
-        running = subst⁻¹ (λ (s : State). Running S (channelIn c) e trace s 0 trace) (h .state) (running-starts S (channelIn c) e trace l);
+        running = subst⁻¹ (λ (s : State). Running S (channelIn c) e trace s 0 trace) (starts .state) (running-starts S (channelIn c) e trace l);
       }
+    where
+      nothing : Gathered boards start-run (replicate width 0)
+      nothing =
+          record {
+            receiver = λ a k t. not-both (inRow (bufferOf start-run a .held) k) t (zero-buffers boardsMost a k);
+            all = λ a k t. not-both (inRow (bufferOf start-run a .held) k) t (zero-buffers boardsMost a k);
+          }
 
-  pub next-fits : (end : ℕ) (now : List ℕ) (run : Run) (rows held : List ℕ) (i : ℕ) → Goes end now run rows held i → i < end → Fits w64 (i + 1)
-  next-fits end now run rows held i G l = omega (arith, G .whole, G .standing .few)
+  pub next-fits : (end : ℕ) (now done way rows held : List ℕ) (i : ℕ) → Goes end now done way rows held i → i < end → Fits w64 (i + 1)
+  next-fits end now done way rows held i G l = omega (arith, G .whole, G .standing .few)
 
   -- the step chosen is on a message of the scenario
-  module _ (end : ℕ) (now : List ℕ) (run : Run) (rows held : List ℕ) (k : ℕ) (G : Goes end now run rows held k) (r : StepOrNone) (s : code.Step)
-      (h : ChosenIn count boards words c (run .done) (run .way) rows e r) (i : r ≡ maybe.Step s) where
+  module _ (end : ℕ) (now done way rows held : List ℕ) (k : ℕ) (G : Goes end now done way rows held k) (r : StepOrNone) (s : code.Step)
+      (h : ChosenIn count boards words c done way rows e r) (i : r ≡ maybe.Step s) where
+    abbrev run : Run
+    run = record { done = done; way = way; buffers = G .buffers }
+
     taken : choose S (channelIn c) (classesFor S e) (stateOf run) ≡ some (stepIn s)
     taken = sym (h run refl refl (G .laid)) ∙ ap stepOrNone i
 
@@ -187,23 +203,27 @@ module _ (count : ℕ) (boards words masks : List ℕ) (c : channel.Channel) (e 
     pub step-few : messageIn s < messagesMost
     step-few = step-reaches .few
 
-    pub goes-on : (later : List ℕ) (b : ℕ) (other : Buffer) (done way own behind all : List ℕ)
+    pub goes-on : (later : List ℕ) (b : ℕ) (done-now way-now rows-now held-now : List ℕ)
         → later ≡ set (set now (2 * k) (kindOf (stepIn s))) (2 * k + 1) (messageIn s)
-        → DoneBehind (run .done) s done → WayBehind (run .way) s way → HeldBehind (getD (run .buffers) b other .held) s own → TargetOf boards s b
-        → PutsRow rows b own behind → GathersBehind held behind own all → b < boardsMost → k < end
-        → Goes end later (record { done = done; way = way; buffers = set (run .buffers) b (record { held = own }) }) behind all (k + 1)
-    goes-on later b other done way own behind all w p q h target put gathers few l =
-        let last : Run = record { done = done; way = way; buffers = set (run .buffers) b (record { held = own }) } in
-        let v : Follows boards run (stepIn s) last = next-follows run s boards b other done way own p q h target (G .wide) in
+        → TargetOf boards s b → DoneBehind done s done-now → WayBehind way s way-now → RowsBehind rows b s rows-now → HeldBehind held s held-now → k < end
+        → Goes end later done-now way-now rows-now held-now (k + 1)
+    goes-on later b done-now way-now rows-now held-now w target p q o g l =
+        let L : Lays run b s done-now way-now rows-now = step-laid run rows rows-now b done-now way-now (G .laid) (target .below) s o (G .long) step-few in
+        let last : Run = record { done = done-now; way = way-now; buffers = set (G .buffers) b (record { held = L .own }) } in
+        let v : Follows boards run (stepIn s) last = next-follows run s boards b (record { held = [] }) done-now way-now (L .own) p q (L .behind) target (G .laid .boards) in
         let R = running-goes-on S (channelIn c) e trace (stateOf run) k now (stepIn s) (G .running) taken (omega (arith, G .whole)) in
         let kept : length later ≡ length now = ap length w ∙ simp length-set in
+        let inside : b < length (G .buffers) = omega (arith, target .below, G .laid .boards) in
+        let gathered : Gathered boards last held-now = gathered-behind boards run held held-now (L .own) done-now way-now b (G .gathered) inside s target (L .behind) g in
         record {
+          buffers = last .buffers;
           standing = G .standing;
           whole = G .whole;
           within = omega arith;
-          wide = boards-kept run b (record { held = own }) (G .wide);
-          laid = row-put run rows behind b own done way (G .laid) put few;
-          gathered = gathers rows b few (G .gathered) put;
+          laid = L .laid;
+          long = rows-kept rows rows-now b s o ∙ G .long;
+          gathered = gathered;
+          anywhere = gathered-anywhere boards last rows-now held-now gathered (L .laid);
           room = omega (arith, G .room);
           same-length = kept ∙ G .same-length;
           running =
@@ -211,13 +231,15 @@ module _ (count : ℕ) (boards words masks : List ℕ) (c : channel.Channel) (e 
               (subst⁻¹ (λ (t : State). Running S (channelIn c) e trace t (k + 1) (set (set now (2 * k) (kindOf (stepIn s))) (2 * k + 1) (messageIn s))) (v count words) R);
         }
 
-  pub goes-stops : (end : ℕ) (now : List ℕ) (run : Run) (rows held : List ℕ) (i : ℕ) (r : StepOrNone) → Goes end now run rows held i
-      → ChosenIn count boards words c (run .done) (run .way) rows e r → r ≡ maybe.Nothing → i < end → Scheduled S (channelIn c) e trace now i
-  goes-stops end now run rows held i r G h n l =
+  pub goes-stops : (end : ℕ) (now done way rows held : List ℕ) (i : ℕ) (r : StepOrNone) → Goes end now done way rows held i
+      → ChosenIn count boards words c done way rows e r → r ≡ maybe.Nothing → i < end → Scheduled S (channelIn c) e trace now i
+  goes-stops end now done way rows held i r G h n l =
+      let run : Run = record { done = done; way = way; buffers = G .buffers } in
       running-stops S (channelIn c) e trace (stateOf run) i now (G .running) (sym (h run refl refl (G .laid)) ∙ ap stepOrNone n) (omega (arith, G .whole))
 
-  pub goes-ends : (end : ℕ) (now : List ℕ) (run : Run) (rows held : List ℕ) (i : ℕ) → Goes end now run rows held i → end ≤ i → Scheduled S (channelIn c) e trace now (3 * count)
-  goes-ends end now run rows held i G l =
+  pub goes-ends : (end : ℕ) (now done way rows held : List ℕ) (i : ℕ) → Goes end now done way rows held i → end ≤ i
+      → Scheduled S (channelIn c) e trace now (3 * count)
+  goes-ends end now done way rows held i G l =
       let k : i ≡ 3 * count = omega (arith, G .whole, G .within) in
       subst (λ (j : ℕ). Scheduled S (channelIn c) e trace now j) k
-      (running-ends S (channelIn c) e trace (stateOf run) i now (G .running) (omega arith))
+      (running-ends S (channelIn c) e trace (stateOf (record { done = done; way = way; buffers = G .buffers })) i now (G .running) (omega arith))

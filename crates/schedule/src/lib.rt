@@ -8,13 +8,12 @@ ghost use Rattle.relation.specs.Scenario.{scenarioIn};
 ghost use Rattle.channel_table.specs.Table.{channelIn};
 ghost use Rattle.board.specs.Masks.{Standing};
 ghost use Rattle.step.specs.Steps.{stepIn, messageIn};
-ghost use Rattle.schedule.specs.Schedule.{GathersBehind, Scheduled};
+ghost use Rattle.schedule.specs.Schedule.{Scheduled};
 use buffers::HELD_WORDS;
+use buffers::rows_behind;
 use channel_table::Channel;
 use next_step::choose;
 use relation::WIDTH;
-use run::Buffer;
-use run::Run;
 use run::done_behind;
 use run::held_behind;
 use run::target_of;
@@ -35,20 +34,8 @@ fn write_step(trace: &mut [u8], i: usize, step: Step)
     trace[behind] = message as u8;
 }
 
-// What some buffer holds, behind a step that left this buffer: all is gathered again only where a message was consumed.
-fn gather(held: &mut [u64; WIDTH], rows: &[u64; HELD_WORDS], buffer: Buffer, step: Step)
-    ensures { λ _. ⌜ GathersBehind (now (held .entry)) (now (rows .entry)) (buffer .held) (now (held .exit)) ⌝ }
-{
-    match step {
-        Step::Send(_) | Step::Deliver(_) => relation::join_from(held, 0, &buffer.held, 0),
-        Step::Consume(_) => {
-            let all = buffers::held_anywhere(rows);
-            relation::copy_from(held, 0, &all, 0);
-        }
-    }
-}
-
-// The schedule for e on a channel, written into the trace: the number of its steps. Three steps a message are always enough.
+// The schedule for e on a channel, written into the trace: the number of its steps. Three steps a message are always enough. The run is kept
+// by its parts: what is done, what is under way, the buffers' rows, and what they hold together.
 pub fn schedule(
     words: &[u64],
     masks: &[u64],
@@ -63,34 +50,21 @@ pub fn schedule(
     requires { ⌜ 2 * (3 * count) ≤ length (now trace) ⌝ }
     ensures { λ r. ⌜ Scheduled (scenarioIn count (now (boards .entry)) (now (words .entry))) (channelIn c) e (now (trace .entry)) (now (trace .exit)) r ⌝ }
 {
-    let mut run = Run::start();
-    let mut rows = buffers::held_rows(run);
-    let mut held = buffers::held_anywhere(&rows);
+    let mut done = [0u64; WIDTH];
+    let mut way = [0u64; WIDTH];
+    let mut rows = [0u64; HELD_WORDS];
+    let mut held = [0u64; WIDTH];
     for i in 0..3 * count {
-        let chosen = choose(
-            words,
-            masks,
-            boards,
-            count,
-            c,
-            &run.done,
-            &run.way,
-            &rows,
-            &held,
-            e,
-        );
+        let chosen = choose(words, masks, boards, count, c, &done, &way, &rows, &held, e);
         let StepOrNone::Step(step) = chosen else {
             return i;
         };
         write_step(trace, i, step);
         let target = target_of(boards, step);
-        let mut buffer = run.buffers[target];
-        done_behind(&mut run.done, step);
-        way_behind(&mut run.way, step);
-        held_behind(&mut buffer.held, step);
-        buffers::put_row(&mut rows, target, buffer);
-        gather(&mut held, &rows, buffer, step);
-        run.buffers[target] = buffer;
+        done_behind(&mut done, step);
+        way_behind(&mut way, step);
+        rows_behind(&mut rows, target, step);
+        held_behind(&mut held, step);
     }
     3 * count
 }

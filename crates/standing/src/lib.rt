@@ -57,43 +57,16 @@ fn is_held_up<'a>(
     requires { ⌜ m < count ⌝ }
     ensures { λ r. ⌜ SaysStill count (now (boards .entry)) (now (words .entry)) c (now (done .entry)) (now (way .entry)) (now (rows .entry)) m r ⌝ }
 {
-    if may_step(
-        words,
-        masks,
-        boards,
-        count,
-        c,
-        done,
-        way,
-        rows,
-        Step::Send(m),
-    ) {
+    let send = Step::Send(m);
+    if may_step(words, masks, boards, count, c, done, way, rows, send) {
         return false;
     }
-    if may_step(
-        words,
-        masks,
-        boards,
-        count,
-        c,
-        done,
-        way,
-        rows,
-        Step::Deliver(m),
-    ) {
+    let deliver = Step::Deliver(m);
+    if may_step(words, masks, boards, count, c, done, way, rows, deliver) {
         return false;
     }
-    !may_step(
-        words,
-        masks,
-        boards,
-        count,
-        c,
-        done,
-        way,
-        rows,
-        Step::Consume(m),
-    )
+    let consume = Step::Consume(m);
+    !may_step(words, masks, boards, count, c, done, way, rows, consume)
 }
 
 // No step is allowed.
@@ -103,7 +76,8 @@ fn is_still(run: Run, words: &[u64], masks: &[u64], boards: &[u8], count: usize,
 {
     let done = run.done;
     let way = run.way;
-    let rows = buffers::held_rows(run);
+    let mut rows = [0u64; HELD_WORDS];
+    buffers::lay_rows(&mut rows, run);
     for m in 0..count {
         if !is_held_up(words, masks, boards, count, c, &done, &way, &rows, m) {
             return false;

@@ -2,6 +2,7 @@
 mod lists;
 
 use expansion::Expanded;
+use libc::STDOUT_FILENO;
 use lists::Listed;
 use model::EVENTS_MOST;
 
@@ -10,22 +11,12 @@ fn wide(event: u16) -> usize {
     event as usize
 }
 
-// The event, by what it is of its message.
-fn print_event(event: u16) {
-    if event % 2 == 0 {
-        report::print(b"send of message ");
-    } else {
-        report::print(b"receive of message ");
-    }
-    report::print_decimal(event as u32 / 2);
-}
-
 // A line of the course: the event, and where it is.
 fn print_line(event: u16, board: u8) {
     report::print(b"event ");
     report::print_decimal(event as u32);
     report::print(b": ");
-    print_event(event);
+    commands::print_kind(event);
     report::print(b" on board ");
     report::print_decimal(board as u32);
     report::print(b"\n");
@@ -52,19 +43,9 @@ fn print_fit(text: &[u8], course: &[u16]) {
 }
 
 fn print_clash(event: u32) {
-    report::print(b"clash: event ");
-    report::print_decimal(event);
-    report::print(b" (");
-    print_event((event % 65536) as u16);
-    report::print(b") would have to precede itself\n");
-}
-
-fn print_refusal(number: u32, line: u32) {
-    report::print(b"refused ");
-    report::print_decimal(number);
-    report::print(b" ");
-    report::print_decimal(line);
-    report::print(b"\n");
+    report::print(b"clash: ");
+    commands::print_event((event % 65536) as u16);
+    report::print(b" would have to precede itself\n");
 }
 
 // What the check says of a sheet and two lists.
@@ -78,7 +59,7 @@ fn print_answer(text: &[u8], first: &[u16], second: &[u16]) {
     } else if a.word == 1 {
         print_clash(a.one);
     } else {
-        print_refusal(a.one, a.two);
+        commands::print_refusal(STDOUT_FILENO, a.one, a.two);
     }
 }
 

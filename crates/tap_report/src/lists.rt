@@ -1,11 +1,10 @@
 // A tap's list from a file: event numbers in decimal, with any white space between them.
+use commands::File;
+use commands::INPUT_MOST;
 use libc::STDERR_FILENO;
 
 // One more than a sheet has events: a longer list has an event twice, or one that no sheet has, in its first numbers too.
 pub const MOST: usize = model::EVENTS_MOST + 1;
-
-// Room for a file's name.
-const NAME_MOST: usize = 4096;
 
 // A list of so many numbers, or none that can be read.
 pub enum Listed {
@@ -96,22 +95,25 @@ fn unread(why: &[u8]) -> Listed {
     Listed::Unread
 }
 
-// The list in the file that an argument names. One of more bytes than a sheet's text may have is not read.
-pub fn read(argument: usize, list: &mut [u16]) -> Listed {
-    let mut name = [0u8; NAME_MOST];
-    let length = os::arg(argument, &mut name);
-    let file = os::open_read(&name[..length]);
-    if file < 0 {
-        return unread(b"a list's file cannot be opened\n");
-    }
-    let mut bytes = [0u8; model::TEXT_MOST + 1];
-    let n = io::read_full(file, &mut bytes);
-    libc::close(file);
-    if model::TEXT_MOST < n {
+// The list in the bytes of a file. One of more bytes than a sheet's text may have is not read.
+fn list_in(bytes: &[u8], list: &mut [u16]) -> Listed {
+    if model::TEXT_MOST < bytes.len() {
         return unread(b"a list's file is too long\n");
     }
-    if !are_numbers(&bytes[..n]) {
+    if !are_numbers(bytes) {
         return unread(b"a list has event numbers alone\n");
     }
-    Listed::Numbers(numbers_in(&bytes[..n], list))
+    Listed::Numbers(numbers_in(bytes, list))
+}
+
+// The list in the file that an argument names.
+pub fn read(argument: usize, list: &mut [u16]) -> Listed {
+    let mut bytes = [0u8; INPUT_MOST];
+    match commands::read_file(argument, b"a list's", &mut bytes) {
+        File::Missing => Listed::Unread,
+        File::Read(n) => {
+            let end = n % (INPUT_MOST + 1);
+            list_in(&bytes[..end], list)
+        }
+    }
 }

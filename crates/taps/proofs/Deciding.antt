@@ -8,11 +8,11 @@ use native.Mathlib.Omega.{arith}
 use lib.ListN.{length, drop}
 use borrow.Author.Tests.{not-true, not-false}
 use Rattle.model.specs.Limits.{tapNumbersLeast}
-use Rattle.model.specs.Bounded.{lowest}
+use Rattle.model.specs.Bounded.{lowest, eachOnce}
 use Rattle.model.specs.Refusal.{Out, ok, refusal, andThen, tapRefusal}
 use Rattle.model.specs.Order.{event, Scenario}
 use Rattle.model.specs.Answer.{sheetOf}
-use Rattle.model.specs.Taps.{Tapped, eachOnce, withLists, isSooner, precedes, courseOf, fit, clash, refused, fitWord, tappedOn, tappedFor, tapNumbersOf, outputAfter}
+use Rattle.model.specs.Taps.{Tapped, withLists, isSooner, precedes, courseOf, fit, clash, refused, fitWord, tappedOn, tappedFor, tapNumbersOf, outputAfter}
 use Rattle.model.proofs.Accepted.{sheet-causal}
 use Rattle.relation.specs.Width.{width}
 use Rattle.relation.specs.Order.{before, Transitive}

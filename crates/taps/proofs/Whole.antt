@@ -10,7 +10,8 @@ use Rattle.model.specs.Limits.{scratchLeast, tapNumbersLeast}
 use Rattle.model.specs.Refusal.{Out, ok, refusal, andThen, benchRefusal, tapRefusal}
 use Rattle.model.specs.Order.{Scenario}
 use Rattle.model.specs.Answer.{refusedWord, sheetOf, scratchBehind}
-use Rattle.model.specs.Taps.{TapNumbers, eachOnce, withLists, tapsAcceptedOf, tappedFor, tappedOf, tapNumbersOf, outputAfter, Fitted, TapsChecked}
+use Rattle.model.specs.Bounded.{eachOnce}
+use Rattle.model.specs.Taps.{TapNumbers, withLists, tapsAcceptedOf, tappedFor, tappedOf, tapNumbersOf, outputAfter, Fitted, TapsChecked}
 use Rattle.model.proofs.Accepted.{sheet-meets}
 use Rattle.model.proofs.Taps.{taps-accepted-parts, taps-course}
 use Rattle.relation.specs.Rows.{cleared}

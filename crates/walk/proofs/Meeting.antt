@@ -23,7 +23,7 @@ use Rattle.relation.proofs.Inserted.{length-inserted}
 use Rattle.sheet.specs.Bridge.{rowFrom, rowsAt, rowsOf}
 use Rattle.sheet.proofs.Bridge.{rows-drop as rows-at-drop, row-message as row-is-message, row-order as row-is-order}
 use Rattle.blocks.specs.Store.{Store, storeOf, seated, added, passed, storeOps}
-use Rattle.walk.specs.Block.{stateOf, rowsFrom, inBlock, blockWalked, Leaves, AllStand, Ready}
+use Rattle.walk.specs.Block.{opened, stateOf, rowsFrom, inBlock, blockWalked, Leaves, AllStand, Ready}
 use Rattle.walk.specs.declared.Walk.{Walk}
 use Rattle.walk.specs.declared.Walked.{Walked}
 use Rattle.walk.specs.declared.Walked.the-variants.{To, Stopped}
@@ -247,12 +247,14 @@ module _ (kind one two : List ℕ) (count row : ℕ) (w₀ : Walk) (t₀ : Store
               (other-ends (rowsFrom kind one two count (i + 1)) i s (getD kind i 0) (getD one i 0) (getD two i 0) (rw (lt-ltb i count h) at (sym test ∙ over)))
           go (no n) = rw (rows-end kind one two count i (omega arith))
 
-      pub meeting-end : (past′ : List ℕ) → past′ ≡ passed width past events words (2 * w₀ .first) (2 * met)
-          → Leaves (To i (record { calls = w₀ .calls; choices = w₀ .choices; first = met; count = met })) (storeOf events words past′) whole
+      pub meeting-end : (past′ : List ℕ) (next : Walk) → past′ ≡ passed width past events words (2 * w₀ .first) (2 * met)
+          → next ≡ opened (w₀ .calls) (w₀ .choices) met
+          → Leaves (To i next) (storeOf events words past′) whole
       unfolding blockOpened storeOps
-      meeting-end past′ f =
+      meeting-end past′ next f e =
           let room = j .ready .room in
-          record {
+          rw e
+          (record {
             exact = rw f (sym ends ∙ j .exact);
             room = record {
               eventsLong = room .eventsLong;
@@ -262,4 +264,4 @@ module _ (kind one two : List ℕ) (count row : ℕ) (w₀ : Walk) (t₀ : Store
               countMost = room .countMost;
               boardsMost = room .boardsMost;
             };
-          }
+          })

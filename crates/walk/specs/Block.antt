@@ -23,6 +23,10 @@ use Rattle.walk.specs.declared.Walked.the-variants.{To, Stopped}
 abbrev pub fresh : Walk
 fresh = record { calls = 0; choices = 0; first = 0; count = 0 }
 
+-- a walk at the beginning of a block: none of the block's messages is met
+abbrev pub opened : ℕ → ℕ → ℕ → Walk
+opened calls choices met = record { calls = calls; choices = choices; first = met; count = met }
+
 -- a walk, and what it has collected
 abbrev pub stateOf : Walk → Store → Progress Store
 stateOf w t = record { walk = record { calls = w .calls; choices = w .choices; first = w .first; count = w .count }; kept = t }

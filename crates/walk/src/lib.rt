@@ -3,7 +3,7 @@ ghost use mathlib.Core.Path.{_≡_};
 ghost use Prim.Native.Nat.{_≤_};
 ghost use lib.ListN.{length};
 ghost use Rattle.blocks.specs.Store.{storeOf};
-ghost use Rattle.walk.specs.Block.{fresh, stateOf, rowsFrom, inBlock, RowsFew, Ready, Leaves, blockWalked};
+ghost use Rattle.walk.specs.Block.{fresh, opened, stateOf, rowsFrom, inBlock, RowsFew, Ready, Leaves, blockWalked};
 
 // How far a walk is: calls made, A rows met, the number of the open block's first message, and messages met.
 pub struct Walk {
@@ -29,6 +29,18 @@ impl Walk {
             choices: 0,
             first: 0,
             count: 0,
+        }
+    }
+
+    // A block is open, and none of its messages is met yet.
+    pub fn opened(calls: usize, choices: usize, met: usize) -> Walk
+        ensures { λ r. ⌜ r ≡ opened calls choices met ⌝ }
+    {
+        Walk {
+            calls,
+            choices,
+            first: met,
+            count: met,
         }
     }
 }
@@ -83,13 +95,5 @@ pub fn walk_block(
         at += 1;
     }
     blocks::close_block(boards, words, past, first, met);
-    Walked::To(
-        at,
-        Walk {
-            calls: walk.calls,
-            choices: walk.choices,
-            first: met,
-            count: met,
-        },
-    )
+    Walked::To(at, Walk::opened(walk.calls, walk.choices, met))
 }

@@ -21,7 +21,7 @@ enum-known-step-3 : tie.Need-enum-known-step-3
 enum-known-step-3 c = search needs
 
 may-consume-requires : tie.Need-may-consume-requires
-may-consume-requires c κs = (search needs, search (inside Consume))
+may-consume-requires c κs = (search needs, (search (inside Consume), search needs))
 
 returns : tie.Need-returns
 returns c = search step-sends

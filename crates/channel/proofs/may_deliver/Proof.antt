@@ -1,9 +1,8 @@
--- `channel::may_deliver` meets its contract: under way, free, and the further condition, in this order.
--- Assumes nothing.
+-- `channel::may_deliver` meets its contract: under way, and the further condition, in this order. Assumes nothing.
 use borrow.Author.Tests.{not-true, not-false}
 use Prim.Native.Nat.{_+_, _*_}
 use native.Mathlib.Omega.{arith}
-use Rattle.channel.proofs.StepTests.{deliver-absent, deliver-unfree, deliver-ruled}
+use Rattle.channel.proofs.StepTests.{deliver-absent, deliver-ruled}
 use borrow.Author.Needs.{needs}
 use Rattle.channel.proofs.may_deliver.Statement.{statement}
 use Rattle.channel.proofs.may_deliver.Tie as tie
@@ -17,16 +16,7 @@ test-requires c κs = search needs
 returns : tie.Need-returns
 returns c =
     let s = c .before .before .before .before .before .before in
-    deliver-absent _ _ _ _ (s .pre .0) _ (s .pre .1) (s .args .c) _ _ _ (not-true _ (c .if1 .taken)) (c .before .test .ensures)
-
-board-free-requires : tie.Need-board-free-requires
-board-free-requires c κs = search needs
-
-returns-2 : tie.Need-returns-2
-returns-2 c =
-    let s = c .before .before .before .before .before .before .before .before in
-    deliver-unfree _ _ _ _ (s .pre .0) _ (s .pre .1) (s .args .c) _ _ _ _ (not-false _ (c .before .before .if1 .left)) (not-true _ (c .if2 .taken)) (c .before .before .before .test .ensures)
-    (c .before .board-free .ensures)
+    deliver-absent _ _ _ _ (s .pre .0) _ (s .pre .1) (s .args .c) _ _ (not-true _ (c .if1 .taken)) (c .before .test .ensures)
 
 add-receive : tie.Need-add-receive
 add-receive c = search needs
@@ -36,16 +26,15 @@ board-of-requires c κs = search needs
 
 deliver-rule-requires : tie.Need-deliver-rule-requires
 deliver-rule-requires c κs =
-    let s = c .before .before .before .before .before .before .before .before .before in
+    let s = c .before .before .before .before .before .before .before in
     let target = s .pre .0 .boardsBelow (2 * s .args .m + 1) (omega arith) in
     search needs
 
-returns-3 : tie.Need-returns-3
-returns-3 c =
-    let s = c .before .before .before .before .before .before .before .before .before .before in
-    deliver-ruled _ _ _ _ (s .pre .0) _ (s .pre .1) (s .args .c) _ _ _ _ _ _ (c .deliver-rule .ensures) (not-false _ (c .before .before .before .before .if1 .left))
-    (not-false _ (c .before .before .if2 .left)) (c .before .before .before .before .before .test .ensures)
-    (c .before .before .before .board-free .ensures) (c .before .board-of .ensures)
+returns-2 : tie.Need-returns-2
+returns-2 c =
+    let s = c .before .before .before .before .before .before .before .before in
+    deliver-ruled _ _ _ _ (s .pre .0) _ (s .pre .1) (s .args .c) _ _ _ _ (c .deliver-rule .ensures) (not-false _ (c .before .before .if1 .left))
+    (c .before .before .before .test .ensures) (c .before .board-of .ensures)
 
 pub may-deliver-spec : {M : Type 1} → statement M
 may-deliver-spec =
@@ -54,9 +43,7 @@ may-deliver-spec =
     mul-send
     test-requires
     returns
-    board-free-requires
-    returns-2
     add-receive
     board-of-requires
     deliver-rule-requires
-    returns-3)
+    returns-2)

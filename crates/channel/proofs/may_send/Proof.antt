@@ -1,7 +1,6 @@
--- `channel::may_send` meets its contract: ready, free, and the further condition, in this order.
+-- `channel::may_send` meets its contract: ready, and the further condition, in this order.
 -- Assumes nothing.
-use borrow.Author.Tests.{not-true, not-false}
-use Rattle.channel.proofs.StepTests.{send-done, send-waits, send-unfree, send-ruled}
+use Rattle.channel.proofs.StepTests.{send-done, send-waits, send-ruled}
 use borrow.Author.Needs.{needs}
 use Rattle.channel.proofs.may_send.Statement.{statement}
 use Rattle.channel.proofs.may_send.Tie as tie
@@ -27,17 +26,11 @@ enum-told-3 c = search needs
 returns-2 : tie.Need-returns-2
 returns-2 c = search send-waits
 
-board-free-requires : tie.Need-board-free-requires
-board-free-requires c κs = search needs
-
-returns-3 : tie.Need-returns-3
-returns-3 c = search (send-unfree, not-true)
-
 send-rule-requires : tie.Need-send-rule-requires
 send-rule-requires c κs = search needs
 
-returns-4 : tie.Need-returns-4
-returns-4 c = search (send-ruled, not-false)
+returns-3 : tie.Need-returns-3
+returns-3 c = search send-ruled
 
 pub may-send-spec : {M : Type 1} → statement M
 may-send-spec =
@@ -50,7 +43,5 @@ may-send-spec =
     returns
     enum-told-3
     returns-2
-    board-free-requires
-    returns-3
     send-rule-requires
-    returns-4)
+    returns-3)

@@ -1,14 +1,14 @@
 -- `channel_check::channel_check` meets its contract: the numbers are those of the answer. Assumes nothing.
 use borrow.Author.Needs.{needs}
-use Rattle.channel_check.proofs.Told.{small-checked, same-numbers}
+use Rattle.answers.proofs.CheckNumbers.{small-checked, same-numbers}
 use Rattle.channel_check.proofs.channel_check.Statement.{statement}
 use Rattle.channel_check.proofs.channel_check.Tie as tie
 
 check-requires : tie.Need-check-requires
 check-requires c κs = search needs
 
-numbers-requires : tie.Need-numbers-requires
-numbers-requires c κs = search small-checked
+checked-requires : tie.Need-checked-requires
+checked-requires c κs = search small-checked
 
 same-length : tie.Need-same-length
 same-length c = search needs
@@ -21,4 +21,4 @@ returns c = search same-numbers
 
 pub channel-check-spec : {M : Type 1} → statement M
 channel-check-spec =
-    tie.close (tie.spec check-requires numbers-requires same-length same-length-2 returns)
+    tie.close (tie.spec check-requires checked-requires same-length same-length-2 returns)

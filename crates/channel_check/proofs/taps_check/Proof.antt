@@ -1,14 +1,14 @@
 -- `channel_check::taps_check` meets its contract: the numbers are those of the answer. Assumes nothing.
 use borrow.Author.Needs.{needs}
-use Rattle.channel_check.proofs.Fitted.{small-fitted, same-fitted}
+use Rattle.answers.proofs.TapNumbers.{small-fitted, same-fitted}
 use Rattle.channel_check.proofs.taps_check.Statement.{statement}
 use Rattle.channel_check.proofs.taps_check.Tie as tie
 
 fit-requires : tie.Need-fit-requires
 fit-requires c κs = search needs
 
-told-requires : tie.Need-told-requires
-told-requires c κs = search small-fitted
+fitted-requires : tie.Need-fitted-requires
+fitted-requires c κs = search small-fitted
 
 same-length : tie.Need-same-length
 same-length c = search needs
@@ -21,4 +21,4 @@ returns c = search same-fitted
 
 pub taps-check-spec : {M : Type 1} → statement M
 taps-check-spec =
-    tie.close (tie.spec fit-requires told-requires same-length same-length-2 returns)
+    tie.close (tie.spec fit-requires fitted-requires same-length same-length-2 returns)

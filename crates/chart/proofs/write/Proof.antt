@@ -14,11 +14,14 @@ write-check-requires c κs = search needs
 returns : tie.Need-returns
 returns c = search needs
 
-slice-aggregate-read-trace : tie.Need-slice-aggregate-read-trace
-slice-aggregate-read-trace c = search needs
+slice-aggregate-read-file : tie.Need-slice-aggregate-read-file
+slice-aggregate-read-file c = search needs
 
-read-trace-requires : tie.Need-read-trace-requires
-read-trace-requires c κs = search needs
+slice-aggregate-read-file-2 : tie.Need-slice-aggregate-read-file-2
+slice-aggregate-read-file-2 c = search needs
+
+read-file-requires : tie.Need-read-file-requires
+read-file-requires c κs = search needs
 
 enum-known-n : tie.Need-enum-known-n
 enum-known-n c = search needs
@@ -54,8 +57,9 @@ write-spec =
     arg-count-requires
     write-check-requires
     returns
-    slice-aggregate-read-trace
-    read-trace-requires
+    slice-aggregate-read-file
+    slice-aggregate-read-file-2
+    read-file-requires
     enum-known-n
     add-end
     rem-end

@@ -26,7 +26,13 @@ same-length : tie.Need-same-length
 same-length c = search needs
 
 returns-2 : tie.Need-returns-2
-returns-2 c = search leave-none
+returns-2 c =
+    let cleared = c .before .before in
+    let p = cleared .before .before in
+    let unheld = p .before in
+    let h = unheld .before in
+    let s = h .before .before .before in
+    leave-none (s .args .queue) (s .args .number) _ _ _ _ (h .holds .ensures) (unheld .if2 .taken) (h .before .if1 .left) (p .places .ensures) (cleared .clear-free .ensures)
 
 without-requires : tie.Need-without-requires
 without-requires c κs = search is-held
@@ -41,7 +47,14 @@ same-length-2 : tie.Need-same-length-2
 same-length-2 c = search needs
 
 returns-3 : tie.Need-returns-3
-returns-3 c = search leave-leaves
+returns-3 c =
+    let cleared = c .before .before in
+    let p = cleared .before .before in
+    let w = p .before in
+    let h = w .before .before in
+    let s = h .before .before .before in
+    leave-leaves (s .args .queue) (s .args .number) _ _ (w .without .result) _ _ (w .without .ensures) (h .holds .ensures) (w .before .if2 .left) (h .before .if1 .left)
+    (p .places2 .ensures) (cleared .clear-free2 .ensures)
 
 pub leave-spec : {M : Type 1} → statement M
 leave-spec =

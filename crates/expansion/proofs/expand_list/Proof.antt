@@ -71,38 +71,41 @@ returns-2 c =
 enum-known-deep : tie.Need-enum-known-deep Inv-loop μ-loop
 enum-known-deep c = search needs
 
+opened-requires : tie.Need-opened-requires Inv-loop μ-loop
+opened-requires c κs = search needs
+
 slice-aggregate-walk-block : tie.Need-slice-aggregate-walk-block Inv-loop μ-loop
 slice-aggregate-walk-block c = search needs
 
 walk-block-requires : tie.Need-walk-block-requires Inv-loop μ-loop
 walk-block-requires c κs =
-    (sheets-lent _ _ _ _ _ (c .before .before .before .before .before .before .before .before .before .before .before .before .before .before .before .before .before .before .before .before .before .before .pre .0) 0 .rows, block-ready _ _ _ _ _ _ _ _ _ _ (c .before .before .before .before .before .before .before .before .before .loop .inv) _ _ _ _ _ (reaches-as (c .before .before .before .before .deep .given .1) (c .before .before .before .before .before .before .before .next-block .ensures)))
+    (sheets-lent _ _ _ _ _ (c .before .before .before .before .before .before .before .before .before .before .before .before .before .before .before .before .before .before .before .before .before .before .before .pre .0) 0 .rows, block-ready _ _ _ _ _ _ _ _ _ _ (c .before .before .before .before .before .before .before .before .before .before .loop .inv) _ _ _ _ _ (reaches-as (c .before .before .before .before .before .deep .given .1) (c .before .before .before .before .before .before .before .before .next-block .ensures)) _ (c .before .before .before .opened .ensures))
 
 enum-known-number-2 : tie.Need-enum-known-number-2 Inv-loop μ-loop
 enum-known-number-2 c = search needs
 
 same-length-5 : tie.Need-same-length-5 Inv-loop μ-loop
 same-length-5 c =
-    omega (arith, c .before .before .before .before .before .before .before .before .before .before .before .before .before .before .before .before .before .before .before .before .before .before .before .before .before .before .before .before .before .before .before .pre .1 .0)
+    omega (arith, c .before .before .before .before .before .before .before .before .before .before .before .before .before .before .before .before .before .before .before .before .before .before .before .before .before .before .before .before .before .before .before .before .pre .1 .0, c .before .before .before .before .before .before .before .before .before .before .before .before .before .before .before .before .before .before .before .loop .inv .room .eventsLong)
 
 same-length-6 : tie.Need-same-length-6 Inv-loop μ-loop
 same-length-6 c =
-    omega (arith, c .before .before .before .before .before .before .before .before .before .before .before .before .before .before .before .before .before .before .before .before .before .before .before .before .before .before .before .before .before .before .before .pre .1 .1)
+    omega (arith, c .before .before .before .before .before .before .before .before .before .before .before .before .before .before .before .before .before .before .before .before .before .before .before .before .before .before .before .before .before .before .before .before .pre .1 .1, c .before .before .before .before .before .before .before .before .before .before .before .before .before .before .before .before .before .before .before .loop .inv .room .wordsLong)
 
 returns-3 : tie.Need-returns-3 Inv-loop μ-loop
 returns-3 c =
-    walking-refused _ _ _ _ _ _ _ _ _ _ (c .before .before .before .before .before .before .before .before .before .before .before .before .before .before .before .before .before .before .loop .inv) _ _ _ _ _ (reaches-as (c .before .before .before .before .before .before .before .before .before .before .before .before .before .deep .given .1) (c .before .before .before .before .before .before .before .before .before .before .before .before .before .before .before .before .next-block .ensures)) _ _ _ (leaves-as (c .before .number2 .given .1) (c .before .before .before .before .before .before .before .before .walk-block .ensures))
+    walking-refused _ _ _ _ _ _ _ _ _ _ (c .before .before .before .before .before .before .before .before .before .before .before .before .before .before .before .before .before .before .before .loop .inv) _ _ _ _ _ (reaches-as (c .before .before .before .before .before .before .before .before .before .before .before .before .before .before .deep .given .1) (c .before .before .before .before .before .before .before .before .before .before .before .before .before .before .before .before .before .next-block .ensures)) _ (c .before .before .before .before .before .before .before .before .before .before .before .before .opened .ensures) _ _ _ (leaves-as (c .before .number2 .given .1) (c .before .before .before .before .before .before .before .before .walk-block .ensures))
 
 enum-known-behind : tie.Need-enum-known-behind Inv-loop μ-loop
 enum-known-behind c = search needs
 
 loop-less : tie.Need-loop-less Inv-loop μ-loop
 loop-less c =
-    walking-less _ _ _ _ _ _ _ _ _ _ (c .before .before .before .before .before .before .before .before .before .before .before .before .before .before .before .before .before .before .loop .inv) _ _ _ _ _ (reaches-as (c .before .before .before .before .before .before .before .before .before .before .before .before .before .deep .given .1) (c .before .before .before .before .before .before .before .before .before .before .before .before .before .before .before .before .next-block .ensures)) _ _ _ (leaves-as (c .before .behind .given .1) (c .before .before .before .before .before .before .before .before .walk-block .ensures))
+    walking-less _ _ _ _ _ _ _ _ _ _ (c .before .before .before .before .before .before .before .before .before .before .before .before .before .before .before .before .before .before .before .loop .inv) _ _ _ _ _ (reaches-as (c .before .before .before .before .before .before .before .before .before .before .before .before .before .before .deep .given .1) (c .before .before .before .before .before .before .before .before .before .before .before .before .before .before .before .before .before .next-block .ensures)) _ (c .before .before .before .before .before .before .before .before .before .before .before .before .opened .ensures) _ _ _ (leaves-as (c .before .behind .given .1) (c .before .before .before .before .before .before .before .before .walk-block .ensures))
 
 loop-again : tie.Need-loop-again Inv-loop μ-loop
 loop-again c =
-    walking-on _ _ _ _ _ _ _ _ _ _ (c .before .before .before .before .before .before .before .before .before .before .before .before .before .before .before .before .before .before .loop .inv) _ _ _ _ _ (reaches-as (c .before .before .before .before .before .before .before .before .before .before .before .before .before .deep .given .1) (c .before .before .before .before .before .before .before .before .before .before .before .before .before .before .before .before .next-block .ensures)) _ _ _ (leaves-as (c .before .behind .given .1) (c .before .before .before .before .before .before .before .before .walk-block .ensures))
+    walking-on _ _ _ _ _ _ _ _ _ _ (c .before .before .before .before .before .before .before .before .before .before .before .before .before .before .before .before .before .before .before .loop .inv) _ _ _ _ _ (reaches-as (c .before .before .before .before .before .before .before .before .before .before .before .before .before .before .deep .given .1) (c .before .before .before .before .before .before .before .before .before .before .before .before .before .before .before .before .before .next-block .ensures)) _ (c .before .before .before .before .before .before .before .before .before .before .before .before .opened .ensures) _ _ _ (leaves-as (c .before .behind .given .1) (c .before .before .before .before .before .before .before .before .walk-block .ensures))
 
 pub expand-list-spec : {M : Type 1} → statement M
 expand-list-spec =
@@ -126,6 +129,7 @@ expand-list-spec =
     same-length-4
     returns-2
     enum-known-deep
+    opened-requires
     slice-aggregate-walk-block
     walk-block-requires
     enum-known-number-2

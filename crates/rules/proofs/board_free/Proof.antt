@@ -8,7 +8,7 @@ none-of-requires : tie.Need-none-of-requires
 none-of-requires c κs = search needs
 
 returns : tie.Need-returns
-returns c = rw (c .before .before .if1 .taken) (c .none-of .ensures)
+returns c = rw (c .before .if1 .taken) (c .none-of .ensures)
 
 returns-2 : tie.Need-returns-2
 returns-2 c = search needs

@@ -1,25 +1,16 @@
--- `schedule::schedule` meets its contract. Assumes nothing.
+-- `schedule::schedule` meets its contract. The loop keeps `Goes`. Assumes nothing.
 use borrow.Author.Needs.{needs}
 use Prim.Native.Nat.{_-_}
-use native.Mathlib.Omega.{arith}
 use Rattle.schedule.proofs.Running.{Goes, goes-start, next-fits, step-few, step-reaches, goes-on, goes-stops, goes-ends}
 use Rattle.schedule.proofs.schedule.Statement.{statement}
 use Rattle.schedule.proofs.schedule.Tie as tie
 
 abbrev Inv-loop : tie.InvT-loop
-Inv-loop words masks boards count c e trace₀ run₀ rows₀ held₀ i₀ i-end trace run rows held i = Goes count boards words masks c e trace₀ i-end trace run rows held i
+Inv-loop words masks boards count c e trace₀ done₀ way₀ rows₀ held₀ i₀ i-end trace done way rows held i =
+    Goes count boards words masks c e trace₀ i-end trace done way rows held i
 
 abbrev μ-loop : tie.MeasureT-loop
-μ-loop words masks boards count c e trace₀ run₀ rows₀ held₀ i₀ i-end trace run rows held i = i-end - i
-
-start-requires : tie.Need-start-requires Inv-loop μ-loop
-start-requires c κs = search needs
-
-held-rows-requires : tie.Need-held-rows-requires Inv-loop μ-loop
-held-rows-requires c κs = search needs
-
-held-anywhere-requires : tie.Need-held-anywhere-requires Inv-loop μ-loop
-held-anywhere-requires c κs = search needs
+μ-loop words masks boards count c e trace₀ done₀ way₀ rows₀ held₀ i₀ i-end trace done way rows held i = i-end - i
 
 mul-i-end : tie.Need-mul-i-end Inv-loop μ-loop
 mul-i-end c = search needs
@@ -48,14 +39,8 @@ write-step-requires c κs = (search needs, search step-few)
 target-of-requires : tie.Need-target-of-requires Inv-loop μ-loop
 target-of-requires c κs =
     let k = c .before .before .before .before .before .before .before in
-    let l = k .before .before .before .before .before .before .before in
-    step-reaches _ _ _ _ _ _ _ _ _ _ _ _ _ (l .loop .inv) (k .choose .result) _ (k .choose .ensures) (search needs)
-
-mul-buffer : tie.Need-mul-buffer Inv-loop μ-loop
-mul-buffer c = search needs
-
-element-copy-out-buffer : tie.Need-element-copy-out-buffer Inv-loop μ-loop
-element-copy-out-buffer c = search needs
+    let l = k .before .before .before .before .before .before in
+    step-reaches _ _ _ _ _ _ _ _ _ _ _ _ _ _ (l .loop .inv) (k .choose .result) _ (k .choose .ensures) (search needs)
 
 done-behind-requires : tie.Need-done-behind-requires Inv-loop μ-loop
 done-behind-requires c κs = search step-few
@@ -63,39 +48,30 @@ done-behind-requires c κs = search step-few
 way-behind-requires : tie.Need-way-behind-requires Inv-loop μ-loop
 way-behind-requires c κs = search step-few
 
+rows-behind-requires : tie.Need-rows-behind-requires Inv-loop μ-loop
+rows-behind-requires c κs = (search needs, search step-few)
+
 held-behind-requires : tie.Need-held-behind-requires Inv-loop μ-loop
 held-behind-requires c κs = search step-few
 
-put-row-requires : tie.Need-put-row-requires Inv-loop μ-loop
-put-row-requires c κs = search needs
-
-gather-requires : tie.Need-gather-requires Inv-loop μ-loop
-gather-requires c κs = search needs
-
-mul-t29 : tie.Need-mul-t29 Inv-loop μ-loop
-mul-t29 c = search needs
-
-element-set-from-run : tie.Need-element-set-from-run Inv-loop μ-loop
-element-set-from-run c = search needs
-
 add-i : tie.Need-add-i Inv-loop μ-loop
-add-i c =
-    let t = c .before .before .before .before .before .before .before .before .before .before .before .before .before .before .before .before .before .before .before .before .before .before .before .before .before .before in
-    next-fits _ _ _ _ _ _ _ _ _ _ _ _ _ (t .before .loop .inv) (t .loop-test .taken)
+add-i c = search next-fits
 
 loop-less : tie.Need-loop-less Inv-loop μ-loop
-loop-less c =
-    let t = c .before .before .before .before .before .before .before .before .before .before .before .before .before .before .before .before .before .before .before .before .before .before .before .before .before .before in
-    let more = t .loop-test .taken in
-    omega arith
+loop-less c = search needs
 
 loop-again : tie.Need-loop-again Inv-loop μ-loop
 loop-again c =
-    let k = c .before .before .before .before .before .before .before .before .before .before .before .before .before .before .before .before .before .before .before .before in
-    let t = k .before .before .before .before .before .before in
-    goes-on _ _ _ _ _ _ _ _ _ _ _ _ _ (t .before .loop .inv) (k .choose .result) _ (k .choose .ensures) (c .before .before .before .before .before .before .before .before .before .before .before .before .before .before .before .before .before .before .chosen .given .1) _ _ _ _ _ _ _ _
-    (c .before .before .before .before .before .before .before .before .before .before .before .before .before .before .before .write-step .ensures) (c .before .before .before .before .before .before .before .before .before .done-behind .ensures) (c .before .before .before .before .before .before .before .way-behind .ensures) (c .before .before .before .before .before .held-behind .ensures)
-    (c .before .before .before .before .before .before .before .before .before .before .before .before .target-of .ensures) (c .before .before .before .put-row .ensures) (c .gather .ensures) (c .before .before .before .before .before .before .before .before .before .before .before .before .target-of .ensures .below) (t .loop-test .taken)
+    let rows = c .before .before in
+    let way = rows .before .before in
+    let done = way .before .before in
+    let to = done .before .before in
+    let written = to .before .before .before in
+    let picked = written .before .before .before in
+    let k = picked .before .before in
+    let t = k .before .before .before .before .before in
+    goes-on _ _ _ _ _ _ _ _ _ _ _ _ _ _ (t .before .loop .inv) (k .choose .result) _ (k .choose .ensures) (picked .chosen .given .1) _ _ _ _ _ _
+    (written .write-step .ensures) (to .target-of .ensures) (done .done-behind .ensures) (way .way-behind .ensures) (rows .rows-behind .ensures) (c .held-behind .ensures) (t .loop-test .taken)
 
 mul-result : tie.Need-mul-result Inv-loop μ-loop
 mul-result c = search needs
@@ -112,9 +88,6 @@ schedule-spec =
     (tie.spec
     Inv-loop
     μ-loop
-    start-requires
-    held-rows-requires
-    held-anywhere-requires
     mul-i-end
     loop-holds
     choose-requires
@@ -124,15 +97,10 @@ schedule-spec =
     returns
     write-step-requires
     target-of-requires
-    mul-buffer
-    element-copy-out-buffer
     done-behind-requires
     way-behind-requires
+    rows-behind-requires
     held-behind-requires
-    put-row-requires
-    gather-requires
-    mul-t29
-    element-set-from-run
     add-i
     loop-less
     loop-again

@@ -11,8 +11,8 @@ Inv-loop words masks boards count c done way rows m₀ m = Stilled count boards 
 abbrev μ-loop : tie.MeasureT-loop
 μ-loop words masks boards count c done way rows m₀ m = count - m
 
-held-rows-requires : tie.Need-held-rows-requires Inv-loop μ-loop
-held-rows-requires c κs = search needs
+lay-rows-requires : tie.Need-lay-rows-requires Inv-loop μ-loop
+lay-rows-requires c κs = search needs
 
 loop-holds : tie.Need-loop-holds Inv-loop μ-loop
 loop-holds c = search stilled-starts
@@ -41,7 +41,7 @@ is-still-spec =
     (tie.spec
     Inv-loop
     μ-loop
-    held-rows-requires
+    lay-rows-requires
     loop-holds
     is-held-up-requires
     returns

@@ -80,6 +80,9 @@ loop-again-2 c =
 close-block-requires : tie.Need-close-block-requires Inv-loop μ-loop
 close-block-requires c κs = search needs
 
+opened-requires : tie.Need-opened-requires Inv-loop μ-loop
+opened-requires c κs = search needs
+
 same-length-3 : tie.Need-same-length-3 Inv-loop μ-loop
 same-length-3 c = search needs
 
@@ -138,6 +141,7 @@ walk-block-spec =
     loop-less-2
     loop-again-2
     close-block-requires
+    opened-requires
     same-length-3
     same-length-4
     same-length-5

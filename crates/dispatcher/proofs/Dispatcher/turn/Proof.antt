@@ -1,6 +1,6 @@
 -- `Dispatcher::turn` meets its contract. Assumes nothing.
 use Rattle.dispatcher.proofs.Room.{races-room, boards-room}
-use Rattle.dispatcher.proofs.Replies.{parts-of, whole}
+use Rattle.dispatcher.proofs.Replies.{turn-as, whole}
 use borrow.Author.Needs.{needs}
 use Rattle.dispatcher.proofs.Dispatcher.turn.Statement.{statement}
 use Rattle.dispatcher.proofs.Dispatcher.turn.Tie as tie
@@ -41,7 +41,7 @@ returns c =
     let first = served .before .before .before .before .before .before .before in
     let s = first .before .before .before .before .before .before in
     let d = s .args .self in
-    (served .serve .ensures .serves d (parts-of d _ _ _ (races-room d _ (s .good .0)) (boards-room d _ (s .good .0)) (first .first-place .ensures .below)), whole)
+    (turn-as d _ _ _ (races-room d _ (s .good .0)) (boards-room d _ (s .good .0)) (first .first-place .ensures .below) _ _ _ _ (served .serve .result) (served .serve .ensures), whole)
 
 pub turn-spec : {M : Type 1} → statement M
 turn-spec =

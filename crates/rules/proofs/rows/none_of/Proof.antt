@@ -12,13 +12,16 @@ use Rattle.rules.proofs.rows.none_of.Statement.{statement}
 use Rattle.rules.proofs.rows.none_of.Tie as tie
 
 abbrev Inv-loop : tie.InvT-loop
-Inv-loop masks mask given board i₀ i = (noneIn (wordBits * i) width masks mask given ≡ true) × (i ≤ width)
+Inv-loop masks mask given y board row i₀ i = (noneIn (wordBits * i) width masks mask given y ≡ true) × (i ≤ width)
 
 abbrev μ-loop : tie.MeasureT-loop
-μ-loop masks mask given board i₀ i = width - i
+μ-loop masks mask given y board row i₀ i = width - i
 
 mul-board : tie.Need-mul-board Inv-loop μ-loop
 mul-board c = search needs
+
+mul-row : tie.Need-mul-row Inv-loop μ-loop
+mul-row c = search needs
 
 loop-holds : tie.Need-loop-holds Inv-loop μ-loop
 unfolding noneIn every
@@ -26,6 +29,9 @@ loop-holds c = (refl, search needs)
 
 add-by : tie.Need-add-by Inv-loop μ-loop
 add-by c = search needs
+
+add-at : tie.Need-add-at Inv-loop μ-loop
+add-at c = search needs
 
 mul-if1 : tie.Need-mul-if1 Inv-loop μ-loop
 mul-if1 c = search needs
@@ -43,7 +49,7 @@ returns : tie.Need-returns Inv-loop μ-loop
 returns c =
     let s = c .before .before .before .before in
     let a = s .before .args in
-    none-of-found width (a .masks .now) (a .mask) (a .given .now) (s .loop .i) (c .if1 .taken)
+    none-of-found width (a .masks .now) (a .mask) (a .given .now) (a .y) (s .loop .i) (c .if1 .taken)
     (c .before .before .shared-slice-known .given (a .mask * width + s .loop .i) .fits) (c .before .before .before .loop-test .taken)
 
 add-i : tie.Need-add-i Inv-loop μ-loop
@@ -65,8 +71,10 @@ none-of-spec =
     Inv-loop
     μ-loop
     mul-board
+    mul-row
     loop-holds
     add-by
+    add-at
     mul-if1
     shared-slice-read-if1
     mul-if1-2

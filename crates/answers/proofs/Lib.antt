@@ -1,0 +1,5 @@
+pub mod CheckNumbers
+mod Small
+pub mod CureNumbers
+pub mod TableNumbers
+pub mod TapNumbers

@@ -1,0 +1,58 @@
+-- `rows::take_steps` is safe and ends. Assumes nothing.
+use Prim.Native.Nat.{_≤_, _-_}
+use borrow.Author.Needs.{needs}
+use Rattle.chart_layout.proofs.rows.take_steps.Statement.{statement}
+use Rattle.chart_layout.proofs.rows.take_steps.Tie as tie
+
+abbrev Inv-loop : tie.InvT-loop
+Inv-loop trace taken₀ i₀ i-end taken i = i ≤ i-end
+
+abbrev μ-loop : tie.MeasureT-loop
+μ-loop trace taken₀ i₀ i-end taken i = i-end - i
+
+loop-holds : tie.Need-loop-holds Inv-loop μ-loop
+loop-holds c = search needs
+
+mul-at : tie.Need-mul-at Inv-loop μ-loop
+mul-at c = search needs
+
+add-behind : tie.Need-add-behind Inv-loop μ-loop
+add-behind c = search needs
+
+shared-slice-read-take-step : tie.Need-shared-slice-read-take-step Inv-loop μ-loop
+shared-slice-read-take-step c = search needs
+
+shared-slice-read-take-step-2 : tie.Need-shared-slice-read-take-step-2 Inv-loop μ-loop
+shared-slice-read-take-step-2 c = search needs
+
+take-step-requires : tie.Need-take-step-requires Inv-loop μ-loop
+take-step-requires c κs = search needs
+
+add-i : tie.Need-add-i Inv-loop μ-loop
+add-i c = search needs
+
+loop-less : tie.Need-loop-less Inv-loop μ-loop
+loop-less c = search needs
+
+loop-again : tie.Need-loop-again Inv-loop μ-loop
+loop-again c = search needs
+
+returns : tie.Need-returns Inv-loop μ-loop
+returns c = search needs
+
+pub take-steps-spec : {M : Type 1} → statement M
+take-steps-spec =
+    tie.close
+    (tie.spec
+    Inv-loop
+    μ-loop
+    loop-holds
+    mul-at
+    add-behind
+    shared-slice-read-take-step
+    shared-slice-read-take-step-2
+    take-step-requires
+    add-i
+    loop-less
+    loop-again
+    returns)

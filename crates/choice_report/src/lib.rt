@@ -11,13 +11,13 @@ const PASSED_MOST: usize = (model::CALLS_MOST + 1) * (ROWS_MOST + 1);
 
 // The option of A row k: its number, its line and the sheet that it takes.
 fn print_option(k: u32, row: usize, sheet: u16) {
-    report::print(b"A row ");
-    report::print_decimal(k);
-    report::print(b", line ");
-    report::print_decimal((row % ROWS_MOST) as u32 + 2);
-    report::print(b": sheet ");
-    report::print_decimal(sheet as u32);
-    report::print(b"\n");
+    printing::print(b"A row ");
+    printing::print_decimal(k);
+    printing::print(b", line ");
+    printing::print_decimal((row % ROWS_MOST) as u32 + 2);
+    printing::print(b": sheet ");
+    printing::print_decimal(sheet as u32);
+    printing::print(b"\n");
 }
 
 // A row's number, as an index.
@@ -162,8 +162,8 @@ pub fn print(text: &[u8], code: u32) {
     let mut scratch = [0u64; model::SCRATCH_LEAST];
     let mut trace = [0u8; model::TRACE_LEAST];
     let a = channel_check::choice_check(text, code, &mut scratch, &mut trace);
-    report::print_decimal(code);
-    report::print(b" ");
+    printing::print_decimal(code);
+    printing::print(b" ");
     report::print_answer(ChannelCheckAnswer {
         word: a.word,
         one: a.one,
@@ -173,6 +173,6 @@ pub fn print(text: &[u8], code: u32) {
     if a.word == 1 {
         print_list(text, a.length, a.choices);
         let end = 2 * commands::steps_in(&trace, a.three);
-        report::print_steps(&trace[..end]);
+        printing::print_steps(&trace[..end]);
     }
 }

@@ -69,13 +69,13 @@ fn read_sheet(file: i32, slot: &mut [u8]) -> u32 {
 }
 
 fn print_refusal(number: u32, line: u32, name: &[u8]) {
-    report::print(b"refused ");
-    report::print_decimal(number);
-    report::print(b" ");
-    report::print_decimal(line);
-    report::print(b": ");
-    report::print(name);
-    report::print(b"\n");
+    printing::print(b"refused ");
+    printing::print_decimal(number);
+    printing::print(b" ");
+    printing::print_decimal(line);
+    printing::print(b": ");
+    printing::print(name);
+    printing::print(b"\n");
 }
 
 // The job's number, its place, and the messages of its sheet, which stand in the last job of the queue.
@@ -87,15 +87,15 @@ fn print_admission(a: DispatcherAnswer, name: &[u8]) {
     let queue = a.next.queue;
     let last = (queue.held as usize + JOBS_MOST - 1) % JOBS_MOST;
     let job = queue.jobs[last];
-    report::print(b"job ");
-    report::print_decimal(a.one);
-    report::print(b" in place ");
-    report::print_decimal(a.two);
-    report::print(b": ");
-    report::print(name);
-    report::print(b", ");
-    report::print_decimal(job.count as u32);
-    report::print(b" messages\n");
+    printing::print(b"job ");
+    printing::print_decimal(a.one);
+    printing::print(b" in place ");
+    printing::print_decimal(a.two);
+    printing::print(b": ");
+    printing::print(name);
+    printing::print(b", ");
+    printing::print_decimal(job.count as u32);
+    printing::print(b" messages\n");
 }
 
 // The file is read into the place that its admission takes: while no job has left, the one behind those held. With no place free it is not
@@ -200,28 +200,28 @@ fn print_answer(answer: Numbers, trace: &[u8]) {
     if answer.word == 1 {
         let end = 2 * answer.three as usize;
         if end <= trace.len() {
-            report::print_steps(&trace[..end]);
+            printing::print_steps(&trace[..end]);
         }
     }
 }
 
 fn print_turn(turn: usize) {
-    report::print(b"turn ");
+    printing::print(b"turn ");
     io::print_decimal(STDOUT_FILENO, turn as u64);
-    report::print(b": ");
+    printing::print(b": ");
 }
 
 // A turn's answer; one that is not its job's last is not told.
 fn print_outcome(a: DispatcherAnswer, turn: usize, trace: &[u8]) {
     if a.word == 3 {
         print_turn(turn);
-        report::print(b"job ");
-        report::print_decimal(a.one);
-        report::print(b" answered: ");
+        printing::print(b"job ");
+        printing::print_decimal(a.one);
+        printing::print(b" answered: ");
         print_answer(a.answer, trace);
     } else if a.word == 1 {
         print_turn(turn);
-        report::print(b"idle\n");
+        printing::print(b"idle\n");
     }
 }
 

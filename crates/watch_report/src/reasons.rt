@@ -15,11 +15,11 @@ fn print_wait(words: &[u64], boards: &[u8], count: usize, done: &[u64; WIDTH], x
     board::board_masks(boards, count, &mut masks);
     let readiness = rules::readiness_of(words, &masks, boards, count, done, x);
     if let Readiness::Waits(k) = readiness {
-        report::print(b"board ");
-        report::print_decimal((board::board_of(boards, x) % model::BOARDS) as u32);
-        report::print(b" waits for ");
+        printing::print(b"board ");
+        printing::print_decimal((board::board_of(boards, x) % model::BOARDS) as u32);
+        printing::print(b" waits for ");
         commands::print_event((k % model::EVENTS_MOST) as u16);
-        report::print(b"\n");
+        printing::print(b"\n");
     }
 }
 

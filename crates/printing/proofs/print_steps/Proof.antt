@@ -1,8 +1,8 @@
--- `report::print_steps` is safe and ends. Assumes nothing.
+-- `printing::print_steps` is safe and ends. Assumes nothing.
 use Prim.Native.Nat.{_≤_, _-_}
 use borrow.Author.Needs.{needs}
-use Rattle.report.proofs.print_steps.Statement.{statement}
-use Rattle.report.proofs.print_steps.Tie as tie
+use Rattle.printing.proofs.print_steps.Statement.{statement}
+use Rattle.printing.proofs.print_steps.Tie as tie
 
 abbrev Inv-loop : tie.InvT-loop
 Inv-loop trace i₀ i-end i = i ≤ i-end

@@ -1,9 +1,9 @@
--- `report::print_channels` is safe and ends. Assumes nothing.
+-- `channel_report::print_channels` is safe and ends. Assumes nothing.
 use Prim.Native.Nat.{_≤_, _-_}
 use Rattle.model.specs.Limits.{channels}
 use borrow.Author.Needs.{needs}
-use Rattle.report.proofs.print_channels.Statement.{statement}
-use Rattle.report.proofs.print_channels.Tie as tie
+use Rattle.channel_report.proofs.print_channels.Statement.{statement}
+use Rattle.channel_report.proofs.print_channels.Tie as tie
 
 abbrev Inv-loop : tie.InvT-loop
 Inv-loop text code₀ code = code ≤ channels

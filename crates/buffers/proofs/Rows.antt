@@ -14,7 +14,7 @@ use Rattle.model.proofs.Lists.{replicate-at}
 use Rattle.relation.specs.Width.{width, wordBits}
 use Rattle.relation.specs.Rows.{has, holds, marked, unmarked}
 use Rattle.relation.proofs.Bits.{has-zero}
-use Rattle.relation.proofs.Joined.{copied-at, copied-outside}
+use Rattle.joined_rows.proofs.Joined.{copied-at, copied-outside}
 use Rattle.relation.proofs.Marked.{length-marked, length-unmarked}
 use Rattle.relation.proofs.Place.{word-row}
 use Rattle.run.specs.declared.Buffer.{Buffer}

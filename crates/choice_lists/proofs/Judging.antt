@@ -32,7 +32,8 @@ use Rattle.levels.specs.Options.{optionsOf}
 use Rattle.race.specs.declared.Rule.{Rule}
 use Rattle.race.specs.declared.Lowest.{Lowest}
 use Rattle.race.specs.declared.Lowest.the-variants as lowest
-use Rattle.race.specs.Bridge.{Lent, ruleIn, raceIn}
+use Rattle.at_or_before.specs.Lent.{Lent}
+use Rattle.race.specs.Bridge.{ruleIn, raceIn}
 use Rattle.scenario.specs.Contract.{Fit}
 use Rattle.scenario.proofs.Parts.{fit-from}
 use Rattle.expansion.specs.Lent.{RowsRead}

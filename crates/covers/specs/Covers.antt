@@ -9,7 +9,8 @@ use lib.ListN.{length, getD}
 use Rattle.model.specs.Limits.{messagesMost}
 use Rattle.model.specs.Bounded.{any}
 use Rattle.relation.specs.Width.{width, wordBits}
-use Rattle.relation.specs.Rows.{has, holds, joinedFrom}
+use Rattle.relation.specs.Rows.{has, holds}
+use Rattle.joined_rows.specs.Joins.{joinedFrom}
 use Rattle.board.specs.Boards.{BoardsBelow}
 
 -- the events of a row that stands by itself are those that the test says

@@ -22,7 +22,7 @@ fn hide_by(words: &[u64], hidden: &mut [u64], e: usize, k: usize)
     let send = 2 * e;
     let other = 2 * k;
     if relation::test(words, send, other) {
-        relation::join_from(hidden, 0, words, other);
+        joined_rows::join_from(hidden, 0, words, other);
     }
 }
 
@@ -88,7 +88,7 @@ pub fn cover_rows(words: &mut [u64], boards: &[u8], count: usize)
     for e in 0..count {
         let row = cover(words, &masks, boards, count, e);
         let receive = 2 * e + 1;
-        relation::copy_from(words, receive, &row, 0);
+        joined_rows::copy_from(words, receive, &row, 0);
     }
 }
 

@@ -14,8 +14,9 @@ use Rattle.model.specs.Dispatcher as model
 use Rattle.model.specs.Dispatcher.{numbersIn, without, Call, admit, cancel, refused, cancelledWord, refusedWord, touchesNothing, leavesAll, Served, Serves, WholeLists}
 use Rattle.model.proofs.Dispatcher.{whole-lists}
 use Rattle.queue.specs.declared.Queue.{Queue}
-use Rattle.queue.specs.Bridge.{emptyQueue, queueIn, PlacesOf, SparePlace}
+use Rattle.queue.specs.Bridge.{emptyQueue, queueIn, PlacesOf}
 use Rattle.queue.proofs.Apart.{empty-none}
+use Rattle.taken_places.specs.Places.{SparePlace}
 use Rattle.places.specs.Words.{FreeCleared, ClearedBut}
 use Rattle.share.specs.declared.Race.{Race}
 use Rattle.last_turn.specs.declared.Numbers.{Numbers}

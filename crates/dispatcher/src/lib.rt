@@ -70,7 +70,7 @@ impl Dispatcher {
         let queue = self.queue;
         let mut boards = self.boards;
         let mut races = self.races;
-        let place = queue.spare_place();
+        let place = taken_places::spare_place(queue);
         let own = boards[place];
         let race = races[place];
         let part = part_of(queue, self.given, race, own);
@@ -171,8 +171,8 @@ fn leave(queue: Queue, number: u32, words: &mut [u64]) -> Left
             queue,
         };
     }
-    if !queue.holds(number) {
-        let taken = queue.places();
+    if !job_numbers::holds(queue, number) {
+        let taken = taken_places::places(queue);
         places::clear_free(words, taken);
         return Left {
             word: REFUSED,
@@ -180,8 +180,8 @@ fn leave(queue: Queue, number: u32, words: &mut [u64]) -> Left
             queue,
         };
     }
-    let left = queue.without(number);
-    let taken = left.places();
+    let left = job_numbers::without(queue, number);
+    let taken = taken_places::places(left);
     places::clear_free(words, taken);
     Left {
         word: CANCELLED,

@@ -1,7 +1,7 @@
 -- The race test at event numbers, and the search for the lowest message that races. Assumes nothing.
 use mathlib.Core.Path.{_≡_, refl, sym, _∙_, ap, subst, subst⁻¹}
 use mathlib.Core.Logic.{⊎-elim}
-use mathlib.Core.Bool.{Bool, true, false, not, cond, _&&_, _||_}
+use mathlib.Core.Bool.{Bool, true, false, not, cond, _&&_}
 use mathlib.Core.List.{List}
 use mathlib.Core.Option.{Option, none, some}
 use Prim.Native.Nat.{ℕ, _+_, _*_, _-_, _/_, _%_, _<_, _≤_}
@@ -9,11 +9,9 @@ use native.Mathlib.Omega.{arith}
 use native.Mathlib.Numerals.{add-one}
 use lib.Dec.{eqb}
 use lib.ListN.{getD}
-use borrow.Author.Tests.{ne-eqb}
-use Rattle.model.specs.Order.{Event, sendOf, receiveOf, number, event, board, atOrBefore}
+use Rattle.model.specs.Order.{Event, sendOf, receiveOf, event, board, atOrBefore}
 use Rattle.model.specs.Race.{RaceRule, byEvent, byOrigin, never, origin, escapes, isRace, races, lowestEvent, lowestMessage, lowestRace}
 use Rattle.model.specs.Bounded.{lowest}
-use Rattle.model.proofs.Events.{number-event, at-or-before-same}
 use Rattle.model.proofs.Events.{send-event, receive-event}
 use Rattle.model.proofs.Bounded.{which, not-both, any-from, any-some, lowest-none, lowest-some, lowest-hit, lowest-miss, lowest-nowhere}
 use Rattle.relation.specs.Width.{width}
@@ -39,11 +37,6 @@ origin-event x =
     go false = refl
 
 module _ (count : ℕ) (boards words : List ℕ) where
-  pub at-or-before-at : (x y : ℕ) → x < 2 * count → y < 2 * count
-      → atOrBefore (scenarioIn count boards words) (event x) (event y) ≡ (eqb x y || holds width words y x)
-  unfolding atOrBefore
-  at-or-before-at x y l h = rw (before-at count boards words x y l h, number-event x, number-event y)
-
   pub by-event : (e x : ℕ) → escapes (scenarioIn count boards words) byEvent e (event x)
       ≡ not (atOrBefore (scenarioIn count boards words) (event x) (event (2 * e)))
   unfolding escapes
@@ -60,14 +53,6 @@ module _ (count : ℕ) (boards words : List ℕ) where
   unfolding isRace
   race-at r e x l h =
       rw (board-at count boards words x, ← receive-event e, before-at count boards words x (2 * e + 1) h (omega arith))
-
-  -- What each return of the code is to show, from what led there.
-  pub at-same : (x y : ℕ) → x ≡ y → true ≡ atOrBefore (scenarioIn count boards words) (event x) (event y)
-  at-same x y e = sym (at-or-before-same (scenarioIn count boards words) (event x) (event y) (ap event e))
-
-  pub at-other : (x y : ℕ) (r : Bool) → (x ≡ y → ⊥) → r ≡ holds width words y x → (x < 2 * count) × (y < 2 * count)
-      → r ≡ atOrBefore (scenarioIn count boards words) (event x) (event y)
-  at-other x y r d h l = h ∙ sym (at-or-before-at x y (l .0) (l .1) ∙ rw (ne-eqb x y d))
 
   -- a message races where its search finds an event
   races-none : (q : RaceRule) (e : ℕ) → lowestEvent (scenarioIn count boards words) q e ≡ none → races (scenarioIn count boards words) q e ≡ false

@@ -3,7 +3,7 @@ use mathlib.Core.Path.{_≡_, refl, sym, _∙_, ap, subst}
 use mathlib.Core.Bool.{Bool, true, false, not, _&&_, _||_, and-false, or-false}
 use mathlib.Core.List.{List}
 use mathlib.Core.Option.{none, some}
-use Prim.Native.Nat.{ℕ, zero, suc, _+_, _*_, _-_, _/_, _%_, _^_, _<_, _≤_}
+use Prim.Native.Nat.{ℕ, zero, suc, _+_, _*_, _-_, _%_, _^_, _<_, _≤_}
 use native.Mathlib.Decide.{ℕ-discrete, decLt}
 use native.Mathlib.Omega.{arith}
 use lib.Bits.{bitAnd, bitOr}
@@ -14,44 +14,20 @@ use borrow.Author.Tests.{eq-eqb, ne-eqb, lt-ltb, le-ltb, ltb-true}
 use Rattle.model.specs.Limits as limits
 use Rattle.model.specs.Order.{event}
 use Rattle.model.specs.Race.{RaceRule, byEvent, byOrigin, never, escapes, isRace, lowestEvent}
-use Rattle.model.specs.Bounded.{lowest}
 use Rattle.model.proofs.Bounded.{and-left, and-right, lowest-hit, lowest-nowhere}
 use Rattle.relation.specs.Width.{width, wordBits}
 use Rattle.relation.specs.Rows.{has, holds}
 use Rattle.relation.specs.Scenario.{scenarioIn}
-use Rattle.relation.proofs.Bits.{has-zero, has-or, has-power, mask-power}
-use Rattle.relation.proofs.Tests.{eqb-same}
+use Rattle.relation.proofs.Bits.{has-zero, has-or}
 use Rattle.relation.proofs.Words.{has-and, has-not, trailing-clear, trailing-set, trailing-below, shift-lowest, shift-higher, evenBits, has-even-bits, word-holds}
 use Rattle.board.specs.Masks.{Standing}
 use Rattle.race.specs.declared.Rule.{Rule}
 use Rattle.race.specs.declared.Rule.the-variants.{ByEvent, ByOrigin, Never}
 use Rattle.race.specs.Bridge.{ruleIn}
-use Rattle.race.specs.Word.{eventAt, isReached, ReachedWord, isOutside, OutsideWord, RaceWord}
-use Rattle.race.proofs.Races.{at-or-before-at, by-event, by-origin, race-at}
-
--- the word of the events at or before e's send: where the send stands in another word, and in this one
-module _ (words : List ℕ) (e w : ℕ) where
-  pub reached-elsewhere : (w ≡ 2 * e / wordBits → ⊥) → ReachedWord words e w (getD words (2 * e * width + w) 0)
-  reached-elsewhere n b h =
-      sym (rw (ne-eqb (eventAt w b) (2 * e) (λ i. n (omega arith))) (word-holds width words (2 * e) w b h))
-
-  pub reached-here : w ≡ 2 * e / wordBits
-      → ReachedWord words e w (bitOr (getD words (2 * e * width + w) 0) (1 * 2 ^ (2 * e % wordBits) % 2 ^ wordBits))
-  reached-here at b h =
-      rw (
-        mask-power (2 * e),
-        has-or,
-        has-power,
-        ← word-holds width words (2 * e) w b h,
-        eqb-same b (2 * e % wordBits) (eventAt w b) (2 * e) (λ i. omega arith) (λ i. omega arith),
-      )
-      (swaps (holds width words (2 * e) (eventAt w b)) (eqb (eventAt w b) (2 * e)))
-    where
-      swaps : (p q : Bool) → (p || q) ≡ (q || p)
-      swaps true true = refl
-      swaps true false = refl
-      swaps false true = refl
-      swaps false false = refl
+use Rattle.at_or_before.specs.Reached.{eventAt, isReached, ReachedWord}
+use Rattle.at_or_before.proofs.Reached.{at-or-before-at}
+use Rattle.race.specs.Word.{isOutside, OutsideWord, RaceWord}
+use Rattle.race.proofs.Races.{by-event, by-origin, race-at}
 
 module _ (words : List ℕ) (r : Rule) (e w word : ℕ) where
   pub outside-event : r ≡ ByEvent → word < 2 ^ wordBits → ReachedWord words e w word → OutsideWord words (ruleIn r) e w (2 ^ wordBits - 1 - word)

@@ -3,13 +3,14 @@ ghost use mathlib.Core.Path.{_≡_};
 ghost use Prim.Native.Nat.{_+_, _*_, _<_, _≤_};
 ghost use lib.ListN.{length};
 ghost use Rattle.model.specs.Limits.{channels};
-ghost use Rattle.model.specs.Order.{event, atOrBefore};
 ghost use Rattle.model.specs.Race.{raceRuleOf, lowestEvent, lowestRace};
 ghost use Rattle.relation.specs.Width.{width, wordBits};
 ghost use Rattle.relation.specs.Scenario.{scenarioIn};
 ghost use Rattle.board.specs.Masks.{Standing};
-ghost use Rattle.race.specs.Bridge.{Lent, ruleIn, foundIn, raceIn};
-ghost use Rattle.race.specs.Word.{ReachedWord, OutsideWord, RaceWord};
+ghost use Rattle.at_or_before.specs.Lent.{Lent};
+ghost use Rattle.race.specs.Bridge.{ruleIn, foundIn, raceIn};
+ghost use Rattle.race.specs.Word.{OutsideWord, RaceWord};
+use at_or_before::reached_word;
 use relation::SENDS;
 use relation::WIDTH;
 use relation::WORD_BITS;
@@ -36,32 +37,6 @@ pub fn rule_of(code: usize) -> Rule
     ensures { λ r. ⌜ ruleIn r ≡ raceRuleOf code ⌝ }
 {
     TABLE[code]
-}
-
-// Event x is event y, or before it.
-pub fn at_or_before(words: &[u64], boards: &[u8], count: usize, x: usize, y: usize) -> bool
-    requires { ⌜ Lent count (now boards) (now words) ⌝ }
-    requires { ⌜ (x < 2 * count) × (y < 2 * count) ⌝ }
-    ensures { λ r. ⌜ r ≡ atOrBefore (scenarioIn count (now (boards .entry)) (now (words .entry))) (event x) (event y) ⌝ }
-{
-    if x == y {
-        return true;
-    }
-    relation::test(words, y, x)
-}
-
-// Word w of the events at or before e's send: its row, and the send itself.
-fn reached_word(words: &[u64], e: usize, w: usize) -> u64
-    requires { ⌜ 2 * e * width + width ≤ length (now words) ⌝ }
-    requires { ⌜ (2 * e < wordBits * width) × (w < width) ⌝ }
-    ensures { λ r. ⌜ ReachedWord (now (words .entry)) e w r ⌝ }
-{
-    let send = 2 * e;
-    let at = send * WIDTH + w;
-    if w != send / WORD_BITS {
-        return words[at];
-    }
-    words[at] | (1 << (send % WORD_BITS))
 }
 
 // Word w of the events that the rule does not find at or before e's send. By origin a receive is outside with its send.

@@ -51,7 +51,7 @@ fn fit_both(
 {
     let events = 2 * count;
     link_both(words, count, first, second);
-    match relation::lowest_own(words, events) {
+    match closure::lowest_own(words, events) {
         Found::Event(x) => Answer::Clash(x),
         Found::Nothing => {
             course::write_course(words, events, output);

@@ -14,7 +14,7 @@ ghost use Rattle.choice.specs.Bridge as chosen;
 ghost use Rattle.dispatcher.specs.Bridge as desk;
 ghost use Rattle.dispatcher.specs.Bridge.{deskIn, Holds, emptied, lent};
 ghost use Rattle.monitor.specs.Bridge.{heldIn, zeros, answerIn};
-ghost use Rattle.replay.specs.Bridge as replayed;
+ghost use Rattle.trace_answer.specs.Numbers as replayed;
 ghost use Rattle.answers.specs.Numbers.{numbersIn};
 ghost use Rattle.answers.specs.Cures as cured;
 ghost use Rattle.answers.specs.Tables as judged;
@@ -28,7 +28,7 @@ use dispatcher::Dispatcher;
 use dispatcher::DispatcherAnswer;
 use monitor::Monitor;
 use monitor::MonitorAnswer;
-use replay::TraceCheckAnswer;
+use trace_answer::TraceCheckAnswer;
 
 // The check: any text, any channel code, any lengths.
 #[no_mangle]

@@ -4,7 +4,7 @@ use crate::jams;
 use commands::File;
 use commands::TRACE_MOST;
 use libc::STDOUT_FILENO;
-use replay::TraceCheckAnswer;
+use trace_answer::TraceCheckAnswer;
 
 // The step that is not allowed, as its two bytes say it.
 fn print_not_allowed(trace: &[u8], index: u32) {

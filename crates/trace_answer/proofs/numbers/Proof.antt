@@ -1,9 +1,9 @@
--- `replay::answer::numbers` meets its contract, verdict by verdict. Assumes nothing.
+-- `trace_answer::numbers` meets its contract, verdict by verdict. Assumes nothing.
 use native.Mathlib.Omega.{arith}
-use Rattle.replay.proofs.Parts.{small-index, small-line, finished-numbers, stuck-numbers, open-numbers, not-allowed-numbers, refused-numbers}
+use Rattle.trace_answer.proofs.Telling.{small-index, small-line, finished-numbers, stuck-numbers, open-numbers, not-allowed-numbers, refused-numbers}
 use borrow.Author.Needs.{needs}
-use Rattle.replay.proofs.answer.numbers.Statement.{statement}
-use Rattle.replay.proofs.answer.numbers.Tie as tie
+use Rattle.trace_answer.proofs.numbers.Statement.{statement}
+use Rattle.trace_answer.proofs.numbers.Tie as tie
 
 enum-told : tie.Need-enum-told
 enum-told c = search needs

@@ -1,7 +1,8 @@
-// The verdict as C gets it.
-ghost use Rattle.model.specs.Replay.{replayNumbers};
+// The length that a trace from another tool has, and the verdict on it as C gets it.
+ghost use mathlib.Core.Path.{_≡_};
+ghost use Rattle.model.specs.Replay.{replayNumbers, isTrace};
 ghost use Rattle.trace_steps.specs.Bridge.{replayIn};
-ghost use Rattle.replay.specs.Bridge.{Numbers, Small};
+ghost use Rattle.trace_answer.specs.Numbers.{Numbers, Small};
 use trace_steps::Outcome;
 use trace_steps::Replay;
 
@@ -54,4 +55,14 @@ pub fn numbers(outcome: Outcome) -> TraceCheckAnswer
             waits,
         },
     }
+}
+
+// A trace has an even length, of two bytes for each of three steps a message at most.
+pub fn is_trace(length: usize) -> bool
+    ensures { λ r. ⌜ r ≡ isTrace length ⌝ }
+{
+    if length % 2 != 0 {
+        return false;
+    }
+    length <= model::TRACE_LEAST
 }

@@ -23,7 +23,7 @@ use Rattle.relation.specs.Own.{foundIn}
 use Rattle.board.specs.Masks.{Standing}
 use Rattle.run.specs.declared.Run.{Run}
 use Rattle.run.specs.State.{inRow, stateOf}
-use Rattle.row_tests.specs.Tests.{leftOf}
+use Rattle.first_left.specs.Left.{leftOf}
 use Rattle.row_tests.proofs.Words.{events-fit}
 use Rattle.readiness.specs.declared.Readiness.the-variants.{Ready, Done, Waits}
 use Rattle.readiness.specs.Says.{SaysReadiness}

@@ -3,9 +3,9 @@ ghost use Prim.Native.Nat.{_*_, _<_};
 ghost use Rattle.board.specs.Masks.{Standing};
 ghost use Rattle.readiness.specs.Says.{SaysReadiness};
 use board::board_of;
+use first_left::first_left;
 use relation::Found;
 use relation::WIDTH;
-use row_tests::first_left;
 
 // An event is ready; or done already; or it waits for the lowest event before it on its board that is not yet done.
 pub enum Readiness {

@@ -6,3 +6,4 @@ pub mod Cleared
 pub mod Scenario
 pub mod Loops
 pub mod Words
+pub mod Alone

@@ -3,22 +3,20 @@ use mathlib.Core.Path.{_≡_, sym, ap, _∙_}
 use mathlib.Core.Bool.{Bool, true, false, not, _&&_}
 use mathlib.Core.Logic.{⊎-elim}
 use mathlib.Core.List.{List}
-use mathlib.Core.Option.{none, some}
 use Prim.Native.Nat.{ℕ, _+_, _-_, _*_, _/_, _%_, _^_, _<_, _≤_}
 use native.Mathlib.Nat.{le-antisymm, lt-of-le-of-lt}
 use native.Mathlib.Decide.{decLt}
 use native.Mathlib.Omega.{arith}
 use lib.Bits.{bitAnd, and-le-l, and-le-r}
-use lib.Count.{trailingZeros}
 use lib.ListN.{getD}
 use Rattle.model.specs.Limits.{messagesMost}
-use Rattle.model.specs.Bounded.{every, lowest}
-use Rattle.model.proofs.Bounded.{every-at, every-from, which, not-both, not-is-true, lowest-none, lowest-hit, lowest-nowhere}
+use Rattle.model.specs.Bounded.{every}
+use Rattle.model.proofs.Bounded.{every-at, every-from, which, not-both, not-is-true}
 use Rattle.relation.specs.Width.{width, wordBits}
 use Rattle.relation.specs.Rows.{has, holds}
 use Rattle.relation.proofs.Bits.{has-zero}
-use Rattle.relation.proofs.Words.{has-and, some-bit, trailing-clear, trailing-set, trailing-below, alone-row, flipped, has-flipped}
-use Rattle.row_tests.specs.Tests.{undone, leftOf, noneOfRow, noneIn}
+use Rattle.relation.proofs.Words.{has-and, some-bit}
+use Rattle.row_tests.specs.Tests.{noneOfRow, noneIn}
 
 -- a row has a bit for each event
 pub events-fit : (count : ℕ) → count ≤ messagesMost → 2 * count ≤ wordBits * width
@@ -50,61 +48,25 @@ module _ (W : ℕ) (w : ℕ → ℕ) (q : ℕ → Bool) (bits : (k : ℕ) → k 
       (λ f. f)
       (which (every (wordBits * W) (λ k. not (q k)))))
 
-  -- the lowest bit, by the trailing zeros of the first word that is not zero
-  pub lowest-more : (i : ℕ) → i < W → w i ≡ 0 → lowest (wordBits * i) q ≡ none → lowest (wordBits * (i + 1)) q ≡ none
-  lowest-more i h z so-far = lowest-nowhere (wordBits * (i + 1)) q (λ k g. go k g (decLt k (wordBits * i)))
-    where
-      go : (k : ℕ) → k < wordBits * (i + 1) → Dec (k < wordBits * i) → q k ≡ false
-      go k g (yes b) = lowest-none (wordBits * i) q so-far k b
-      go k g (no b) =
-          let word : k / wordBits ≡ i = omega arith in
-          rw (bits k (omega arith), word, z) (has-zero (k % wordBits))
-
-  pub lowest-here : (i : ℕ) → i < W → w i < 2 ^ wordBits → (w i ≡ 0 → ⊥) → lowest (wordBits * i) q ≡ none
-      → some (wordBits * i + trailingZeros wordBits (w i)) ≡ lowest (wordBits * W) q
-  lowest-here i h small z so-far =
-      let t = trailingZeros wordBits (w i) in
-      let low : t < wordBits = trailing-below wordBits (w i) small z in
-      let inside : wordBits * i + t < wordBits * W = omega arith in
-      let word : (wordBits * i + t) / wordBits ≡ i = omega arith in
-      let bit : (wordBits * i + t) % wordBits ≡ t = omega arith in
-      sym (lowest-hit (wordBits * W) (wordBits * i + t) q
-      (lowest-nowhere (wordBits * i + t) q (λ k g. below k g (decLt k (wordBits * i))))
-      (rw (bits (wordBits * i + t) inside, word, bit) (trailing-set wordBits (w i) small z))
-      inside)
-    where
-      below : (k : ℕ) → k < wordBits * i + trailingZeros wordBits (w i) → Dec (k < wordBits * i) → q k ≡ false
-      below k g (yes b) = lowest-none (wordBits * i) q so-far k b
-      below k g (no b) =
-          let low : trailingZeros wordBits (w i) < wordBits = trailing-below wordBits (w i) small z in
-          let word : k / wordBits ≡ i = omega arith in
-          let bit : k % wordBits < trailingZeros wordBits (w i) = omega arith in
-          rw (bits k (omega arith), word) (trailing-clear wordBits (w i) (k % wordBits) bit)
-
 -- no event of the words passed is found; a mask's words are below 2 ^ 64, and so is what is left of them
-below : (u v : ℕ) → u < 2 ^ wordBits → bitAnd u v < 2 ^ wordBits
+pub below : (u v : ℕ) → u < 2 ^ wordBits → bitAnd u v < 2 ^ wordBits
 below u v h = lt-of-le-of-lt (and-le-l u v) h
 
 -- behind the last word
 at-end : (W i : ℕ) (p : ℕ → Bool) → p (wordBits * i) ≡ true → i ≤ W → W ≤ i → true ≡ p (wordBits * W)
 at-end W i p t h g = sym (ap (λ (n : ℕ). p (wordBits * n)) (le-antisymm g h) ∙ t)
 
--- the bits of the events that are not done
-pub undone-words : (done : List ℕ) → ((j : ℕ) → getD done j 0 < 2 ^ wordBits)
-    → (k : ℕ) → undone done k ≡ has (flipped done (k / wordBits)) (k % wordBits)
-undone-words done small k = rw (alone-row width done k) (sym (has-flipped done small k))
-
 module _ (W : ℕ) (words : List ℕ) (y : ℕ) (masks : List ℕ) (b : ℕ) where
   -- the words that row y and mask b have in common
   abbrev pub masked : ℕ → ℕ
   masked i = bitAnd (getD words (y * W + i) 0) (getD masks (b * W + i) 0)
 
-  masked-below : (i : ℕ) → getD masks (b * W + i) 0 < 2 ^ wordBits → masked i < 2 ^ wordBits
+  pub masked-below : (i : ℕ) → getD masks (b * W + i) 0 < 2 ^ wordBits → masked i < 2 ^ wordBits
   masked-below i h = lt-of-le-of-lt (and-le-r (getD words (y * W + i) 0) (getD masks (b * W + i) 0)) h
 
   -- a test r of events, whose words are v
   module _ (r : ℕ → Bool) (v : ℕ → ℕ) (third : (k : ℕ) → r k ≡ has (v (k / wordBits)) (k % wordBits)) where
-    three-bits : (k : ℕ) → k < wordBits * W
+    pub three-bits : (k : ℕ) → k < wordBits * W
         → (holds W words y k && holds W masks b k && r k) ≡ has (bitAnd (masked (k / wordBits)) (v (k / wordBits))) (k % wordBits)
     unfolding holds
     three-bits k h = rw (has-and (masked (k / wordBits)) (v (k / wordBits)) (k % wordBits), has-and, third k)
@@ -119,30 +81,6 @@ module _ (W : ℕ) (words : List ℕ) (y : ℕ) (masks : List ℕ) (b : ℕ) whe
     unfolding noneOfRow
     row-found i z m h =
         some-found W (λ j. bitAnd (masked j) (v j)) _ three-bits i h (below (masked i) (v i) (masked-below i m)) z
-
--- the events of row y in mask b that are not done
-module _ (W : ℕ) (words : List ℕ) (y : ℕ) (masks : List ℕ) (b : ℕ) (done : List ℕ) where
-  -- their words
-  abbrev pub leftWord : ℕ → ℕ
-  leftWord i = bitAnd (masked W words y masks b i) (flipped done i)
-
-  module _ (small : (j : ℕ) → getD done j 0 < 2 ^ wordBits) where
-    left-bits : (k : ℕ) → k < wordBits * W → leftOf W words y masks b done k ≡ has (leftWord (k / wordBits)) (k % wordBits)
-    unfolding leftOf
-    left-bits k h = three-bits W words y masks b (undone done) (flipped done) (undone-words done small) k h
-
-    pub left-more : (i : ℕ) → leftWord i ≡ 0 → lowest (wordBits * i) (leftOf W words y masks b done) ≡ none → i < W
-        → lowest (wordBits * (i + 1)) (leftOf W words y masks b done) ≡ none
-    left-more i z n h = lowest-more W leftWord (leftOf W words y masks b done) left-bits i h z n
-
-    pub left-here : (i : ℕ) → (leftWord i ≡ 0 → ⊥) → getD masks (b * W + i) 0 < 2 ^ wordBits → lowest (wordBits * i) (leftOf W words y masks b done) ≡ none → i < W
-        → some (wordBits * i + trailingZeros wordBits (leftWord i)) ≡ lowest (wordBits * W) (leftOf W words y masks b done)
-    left-here i z m n h =
-        lowest-here W leftWord (leftOf W words y masks b done) left-bits i h (below (masked W words y masks b i) (flipped done i) (masked-below W words y masks b i m)) z n
-
-pub left-end : (W : ℕ) (words : List ℕ) (y : ℕ) (masks : List ℕ) (b : ℕ) (done : List ℕ) (i : ℕ)
-    → lowest (wordBits * i) (leftOf W words y masks b done) ≡ none → i ≤ W → W ≤ i → none ≡ lowest (wordBits * W) (leftOf W words y masks b done)
-left-end W words y masks b done i n h g = sym (ap (λ (k : ℕ). lowest (wordBits * k) (leftOf W words y masks b done)) (le-antisymm g h) ∙ n)
 
 pub row-end : (W : ℕ) (words : List ℕ) (y : ℕ) (masks : List ℕ) (b : ℕ) (r : ℕ → Bool) (i : ℕ)
     → noneOfRow (wordBits * i) W words y masks b r ≡ true → i ≤ W → W ≤ i → true ≡ noneOfRow (wordBits * W) W words y masks b r

@@ -5,15 +5,6 @@ use mathlib.Core.List.{List}
 use Prim.Native.Nat.{ℕ}
 use Rattle.model.specs.Bounded.{every}
 use Rattle.relation.specs.Rows.{holds}
-use Rattle.run.specs.State.{inRow}
-
--- an event that is not done
-abbrev pub undone : List ℕ → ℕ → Bool
-undone done k = not (inRow done k)
-
--- an event of row y that is in mask b and not done
-unfoldable pub leftOf : ℕ → List ℕ → ℕ → List ℕ → ℕ → List ℕ → ℕ → Bool
-leftOf W words y masks b done k = holds W words y k && holds W masks b k && undone done k
 
 -- no event of row y that is in mask b passes the test
 unfoldable pub noneOfRow : ℕ → ℕ → List ℕ → ℕ → List ℕ → ℕ → (ℕ → Bool) → Bool

@@ -1,4 +1,4 @@
--- `levels::behind_blocks` meets its contract: its loop keeps `BlocksTo`. Assumes nothing.
+-- `behind_blocks` meets its contract: its loop keeps `BlocksTo`. Assumes nothing.
 use Prim.Native.Nat.{_-_}
 use borrow.Author.Needs.{needs}
 use Rattle.next_block.proofs.BlockRows.{BlocksTo, blocks-none, blocks-stop, blocks-end, blocks-more}

@@ -12,7 +12,7 @@ ghost use Rattle.race.specs.Bridge.{ruleIn};
 ghost use Rattle.expansion.specs.Lent.{RowsRead};
 ghost use Rattle.choice_lists.specs.Walked.{firstFrom, WalkedAs};
 use expansion::Counted;
-use race::Lowest;
+use lowest_race::Lowest;
 use race::Rule;
 
 // The lists of eight options are numbers, A row 0 the highest bit, so that they come in their order. This many is behind the last.
@@ -49,7 +49,7 @@ fn first_locked(
     if first != LISTS {
         return first;
     }
-    let lowest = race::lowest_race(words, boards, count, rule);
+    let lowest = lowest_race::lowest_race(words, boards, count, rule);
     match lowest {
         Lowest::Nothing => LISTS,
         Lowest::Race(_, _) => list,

@@ -10,9 +10,10 @@ use Rattle.model.specs.Race.{raceRuleOf, lowestRace}
 use Rattle.model.specs.Schedule.{schedule}
 use Rattle.model.specs.Answer.{lockedWord, free, locked, verdictOf, answerFor, numbersOf, traceAfter}
 use Rattle.race.specs.declared.Rule.{Rule}
-use Rattle.race.specs.declared.Lowest.{Lowest}
-use Rattle.race.specs.declared.Lowest.the-variants as lowest
-use Rattle.race.specs.Bridge.{ruleIn, raceIn}
+use Rattle.lowest_race.specs.declared.Lowest.{Lowest}
+use Rattle.lowest_race.specs.declared.Lowest.the-variants as lowest
+use Rattle.race.specs.Bridge.{ruleIn}
+use Rattle.lowest_race.specs.Named.{raceIn}
 use Rattle.schedule.specs.Schedule.{Scheduled}
 use Rattle.verdict.specs.declared.Answer.the-variants.{Free, Locked}
 use Rattle.verdict.specs.Parts.{IsRace, Decides}

@@ -9,7 +9,7 @@ ghost use Rattle.relation.specs.Scenario.{scenarioIn};
 ghost use Rattle.scenario.specs.Contract.{Fit};
 ghost use Rattle.schedule.specs.Schedule.{Scheduled};
 ghost use Rattle.verdict.specs.Parts.{Decides, IsRace};
-use race::Lowest;
+use lowest_race::Lowest;
 
 // Free; locked, with the race's message and event and the number of steps in the trace; or refused, with number and line.
 pub enum Answer {
@@ -64,7 +64,7 @@ pub fn decide(words: &[u64], boards: &[u8], count: usize, code: usize, trace: &m
     ensures { λ r. ⌜ Decides (ok (scenarioIn count (now (boards .entry)) (now (words .entry)))) code (now (trace .entry)) (now (trace .exit)) r ⌝ }
 {
     let rule = race::rule_of(code);
-    let lowest = race::lowest_race(words, boards, count, rule);
+    let lowest = lowest_race::lowest_race(words, boards, count, rule);
     match lowest {
         Lowest::Nothing => Answer::Free,
         Lowest::Race(e, x) => lock(words, boards, count, code, e, x, trace),

@@ -1,10 +1,10 @@
--- `race::lowest_message` meets its contract. Assumes nothing.
+-- `lowest_message` meets its contract. Assumes nothing.
 use Prim.Native.Nat.{_-_}
 use borrow.Author.Needs.{needs}
 use Rattle.race.specs.Bridge.{ruleIn}
-use Rattle.race.proofs.Races.{Passed, messages-begin, messages-go-on, messages-find, messages-end}
-use Rattle.race.proofs.lowest_message.Statement.{statement}
-use Rattle.race.proofs.lowest_message.Tie as tie
+use Rattle.lowest_race.proofs.Messages.{Passed, messages-begin, messages-go-on, messages-find, messages-end}
+use Rattle.lowest_race.proofs.lowest_message.Statement.{statement}
+use Rattle.lowest_race.proofs.lowest_message.Tie as tie
 
 abbrev Inv-loop : tie.InvT-loop
 Inv-loop words masks boards count rule e₀ e = Passed count boards words (ruleIn rule) e

@@ -1,12 +1,12 @@
--- `race::lowest_event` meets its contract. Assumes nothing.
+-- `lowest_event` meets its contract. Assumes nothing.
 use Prim.Native.Nat.{_-_}
 use native.Mathlib.Omega.{arith}
 use borrow.Author.Needs.{needs}
 use Rattle.relation.specs.Width.{width}
 use Rattle.race.specs.Bridge.{ruleIn}
-use Rattle.race.proofs.Words.{zeros-few, Searched, search-begins, search-goes-on, search-finds, search-ends}
-use Rattle.race.proofs.lowest_event.Statement.{statement}
-use Rattle.race.proofs.lowest_event.Tie as tie
+use Rattle.lowest_race.proofs.Events.{zeros-few, Searched, search-begins, search-goes-on, search-finds, search-ends}
+use Rattle.lowest_race.proofs.lowest_event.Statement.{statement}
+use Rattle.lowest_race.proofs.lowest_event.Tie as tie
 
 abbrev Inv-loop : tie.InvT-loop
 Inv-loop words masks boards count rule e w₀ w = Searched count boards words (ruleIn rule) e w

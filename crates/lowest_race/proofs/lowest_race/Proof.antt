@@ -1,8 +1,8 @@
--- `race::lowest_race` meets its contract. Assumes nothing.
+-- `lowest_race` meets its contract. Assumes nothing.
 use borrow.Author.Needs.{needs}
-use Rattle.race.proofs.Races.{never-races}
-use Rattle.race.proofs.lowest_race.Statement.{statement}
-use Rattle.race.proofs.lowest_race.Tie as tie
+use Rattle.lowest_race.proofs.Messages.{never-races}
+use Rattle.lowest_race.proofs.lowest_race.Statement.{statement}
+use Rattle.lowest_race.proofs.lowest_race.Tie as tie
 
 enum-told : tie.Need-enum-told
 enum-told c = search needs

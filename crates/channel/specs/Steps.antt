@@ -11,7 +11,7 @@ use Rattle.step.specs.declared.Step.{Step}
 use Rattle.step.specs.Steps.{eventIn}
 use Rattle.run.specs.State.{bufferOf}
 use Rattle.buffers.specs.Held.{HeldIn}
-pub use Rattle.step_rules.specs.Steps.{Says}
+use Rattle.step_rules.specs.Steps.{Says}
 
 -- the scenario of `count` messages, event k being on board `getD on k 0`
 module _ (count : ℕ) (on words : List ℕ) where

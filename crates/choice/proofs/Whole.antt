@@ -17,7 +17,7 @@ use Rattle.model.proofs.Lines.{Reads, read-well}
 use Rattle.model.proofs.WithoutChoices.{choice-checked-from}
 use Rattle.model.proofs.ChoiceBounds.{choice-small}
 use Rattle.relation.specs.Rows.{cleared}
-use Rattle.relation.proofs.Cleared.{cleared-behind}
+use Rattle.relation.proofs.Cleared.{cleared-behind, cleared-all}
 use Rattle.choice_answer.specs.Bridge.{numbersFor, Small}
 use Rattle.choice_verdict.specs.Judged.{Judged}
 use Rattle.choice_answer.specs.declared.Choice.{Choice}
@@ -55,7 +55,6 @@ module _ (text : List ℕ) (code : ℕ) (scratch trace : List ℕ) where
       go (refusal number line) w = rw (lt-leb number benchRefusal (w .behind))
       go (ok rows) w = refl
 
-  -- the call clears so many words; that they are all is asked apart, so that another number is refused at that equation
   pub answers : (scratchExit traceExit used : List ℕ) (n : ℕ) (r : Choice) (w : ℕ) → code < channels → scratchLeast ≤ length scratch → traceLeast ≤ length trace
       → length used ≡ n → n ≤ scratchLeast → scratchExit ≡ cleared w (used ++ drop n scratch) → w ≡ scratchLeast
       → Judged (choiceAnswerFor (readWith true text) code) trace traceExit r
@@ -64,7 +63,7 @@ module _ (text : List ℕ) (code : ℕ) (scratch trace : List ℕ) where
   answers scratchExit traceExit used n r w h l k e m s all d =
       choice-checked-from text code scratch scratchExit trace traceExit (numbersFor r) (readWith true text)
       (rw (lt-ltb code channels h, le-ltb (length scratch) scratchLeast l, le-ltb (length trace) traceLeast k))
-      (d .answer) (s ∙ ap (λ (i : ℕ). cleared i (used ++ drop n scratch)) all ∙ scratch-behind used n e m) (d .traceLeft)
+      (d .answer) (cleared-all scratchLeast w (used ++ drop n scratch) scratchExit s all ∙ scratch-behind used n e m) (d .traceLeft)
 
 -- the numbers answered are small, and handing them on keeps the promise
 pub small-checked : (text : List ℕ) (code : ℕ) (scratch scratchExit trace traceExit : List ℕ) (r : ChoiceNumbers)

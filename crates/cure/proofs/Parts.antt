@@ -15,6 +15,7 @@ use Rattle.model.specs.Cure.{Written, headingText, rowsText, curedRows, curedTe
 use Rattle.model.proofs.Accepted.{sheet-causal, sheet-count}
 use Rattle.model.proofs.Cure.{cure-promised}
 use Rattle.relation.specs.Rows.{cleared}
+use Rattle.relation.proofs.Cleared.{cleared-all}
 use Rattle.relation.specs.Scenario.{scenarioIn}
 use Rattle.expansion.specs.declared.Expanded.{Expanded}
 use Rattle.expansion.specs.declared.Expanded.the-variants as expanded
@@ -97,7 +98,6 @@ module _ (text scratch output : List ℕ) where
       go true = refl
       go false = refl
 
-  -- the call clears so many words; that they are all is asked apart, so that another number is refused at that equation
   pub answers : (scratchExit outputExit used : List ℕ) (n : ℕ) (r : Answer) (w : ℕ) → scratchLeast ≤ length scratch → sheetOutputLeast ≤ length output → length used ≡ n
       → n ≤ scratchLeast → scratchExit ≡ cleared w (used ++ drop n scratch) → w ≡ scratchLeast → Decides (andThen (sheetOf text) curedOf) output outputExit r
       → CureChecked text scratch scratchExit output outputExit (numbersFor r)
@@ -107,5 +107,5 @@ module _ (text scratch output : List ℕ) where
       rw (le-ltb (length scratch) scratchLeast l, le-ltb (length output) sheetOutputLeast k) in
       cure-promised text scratch scratchExit output outputExit (numbersFor r)
       (d .answer ∙ ap cureNumbers (sym outcome))
-      (s ∙ ap (λ (i : ℕ). cleared i (used ++ drop n scratch)) all ∙ scratch-behind text scratch used n e m ∙ scratch-same (sheetOf text) ∙ ap (λ (o : Out (List ℕ)). scratchBehind o scratch) (sym outcome))
+      (cleared-all scratchLeast w (used ++ drop n scratch) scratchExit s all ∙ scratch-behind text scratch used n e m ∙ scratch-same (sheetOf text) ∙ ap (λ (o : Out (List ℕ)). scratchBehind o scratch) (sym outcome))
       (d .outputLeft ∙ ap (λ (o : Out (List ℕ)). outputWith o output) (sym outcome))

@@ -19,6 +19,7 @@ use Rattle.model.proofs.Refusal.{not-refused}
 use Rattle.model.proofs.Accepted.{sheet-meets}
 use Rattle.model.proofs.Monitor.{held-code, whole-lists}
 use Rattle.relation.specs.Rows.{cleared}
+use Rattle.relation.proofs.Cleared.{cleared-all}
 use Rattle.scenario.proofs.Laws.{scratch-behind}
 use Rattle.run.specs.State.{stateOf}
 use Rattle.monitor.specs.declared.Monitor.{Monitor}
@@ -57,11 +58,6 @@ untouched : (number : ℕ) (words : List ℕ) (o : Out Scenario) → number ≤ 
 unfolding scratchBehind
 untouched number words o l e = sym (rw (e, le-leb number benchRefusal l))
 
--- A call clears so many words. That they are all is asked apart, so that another number is refused at that equation.
-all-cleared : (used : List ℕ) (n : ℕ) (scratch scratchExit : List ℕ) (k : ℕ) → scratchExit ≡ cleared k (used ++ drop n scratch) → k ≡ scratchLeast
-    → scratchExit ≡ cleared scratchLeast (used ++ drop n scratch)
-all-cleared used n scratch scratchExit k s all = s ∙ ap (λ (i : ℕ). cleared i (used ++ drop n scratch)) all
-
 -- ---- opening
 
 module _ (text : List ℕ) (code : ℕ) (scratch : List ℕ) (m : Monitor) (r : Reply) (z : m ≡ zeros) where
@@ -94,7 +90,7 @@ opens text code scratch scratchExit used n r k h l e m s all b =
       record {
         refusedWhen = λ number line i. at (refusal number line) i;
         openedWhen = λ S i. let f = at (ok S) i in (f .word, f .one, f .two, f .state, sheet-meets text S (sym w ∙ i));
-        scratchLeft = all-cleared used n scratch scratchExit k s all ∙ scratch-behind text scratch used n e m ∙ ap (λ (o : Out Scenario). scratchBehind o scratch) (sym w);
+        scratchLeft = cleared-all scratchLeast k (used ++ drop n scratch) scratchExit s all ∙ scratch-behind text scratch used n e m ∙ ap (λ (o : Out Scenario). scratchBehind o scratch) (sym w);
       },
       whole-lists heldIn zeros,
     )
@@ -179,7 +175,7 @@ module _ (m : Monitor) (kind message : ℕ) (text scratch : List ℕ) (r : Reply
       let w = lent text (m .code) (length scratch) h l in (
         record {
           refusedWhen = λ number line i. subst (λ (o : Out Scenario). Steps o m told r) (sym w ∙ i) b;
-          scratchLeft = all-cleared used n scratch scratchExit k s all ∙ scratch-behind text scratch used n e f ∙ ap (λ (o : Out Scenario). scratchBehind o scratch) (sym w);
+          scratchLeft = cleared-all scratchLeast k (used ++ drop n scratch) scratchExit s all ∙ scratch-behind text scratch used n e f ∙ ap (λ (o : Out Scenario). scratchBehind o scratch) (sym w);
           byTheRules = λ S code cs isSheet known held. step-rules S told t l (subst (λ (o : Out Scenario). Steps o m told r) isSheet b);
         },
         whole-lists heldIn zeros,
@@ -290,7 +286,7 @@ module _ (m : Monitor) (code : ℕ) (text scratch : List ℕ) (r : Reply) where
       let w = switch-judged h l in (
         record {
           refusedWhen = λ number line i. judged-refused (sheetOf text) number line b (sym w ∙ i);
-          scratchLeft = all-cleared used n scratch scratchExit k s all ∙ scratch-behind text scratch used n e f ∙ same-scratch (sheetOf text) ∙ ap (λ (o : Out Scenario). scratchBehind o scratch) (sym w);
+          scratchLeft = cleared-all scratchLeast k (used ++ drop n scratch) scratchExit s all ∙ scratch-behind text scratch used n e f ∙ same-scratch (sheetOf text) ∙ ap (λ (o : Out Scenario). scratchBehind o scratch) (sym w);
           byTheRules = λ S opened cs isSheet known held. switch-rules S h l (subst (λ (o : Out Scenario). Switches o m code r) isSheet b);
         },
         whole-lists heldIn zeros,

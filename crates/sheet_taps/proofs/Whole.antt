@@ -15,6 +15,7 @@ use Rattle.model.specs.Taps.{TapNumbers, withLists, tapsAcceptedOf, tappedFor, 
 use Rattle.model.proofs.Accepted.{sheet-meets}
 use Rattle.model.proofs.Taps.{taps-accepted-parts, taps-course}
 use Rattle.relation.specs.Rows.{cleared}
+use Rattle.relation.proofs.Cleared.{cleared-all}
 use Rattle.scenario.proofs.Laws.{scratch-behind}
 use Rattle.taps.specs.declared.Answer.{Answer}
 use Rattle.taps.specs.Parts.{numbersFor, Decides}
@@ -70,7 +71,6 @@ module _ (text scratch first second output : List ℕ) where
       go true false = refl
       go false b = refl
 
-  -- the call clears so many words; that they are all is asked apart, so that another number is refused at that equation
   pub answers : (scratchExit outputExit used : List ℕ) (n : ℕ) (r : Answer) (w : ℕ) → scratchLeast ≤ length scratch → tapNumbersLeast ≤ length output
       → length used ≡ n → n ≤ scratchLeast → scratchExit ≡ cleared w (used ++ drop n scratch) → w ≡ scratchLeast
       → Decides first second (andThen (sheetOf text) (withLists first second)) output outputExit r
@@ -79,4 +79,4 @@ module _ (text scratch first second output : List ℕ) where
   answers scratchExit outputExit used n r w l k e m s all d =
       checked-from text scratch scratchExit first second output outputExit (numbersFor r) (andThen (sheetOf text) (withLists first second))
       (rw (le-ltb (length scratch) scratchLeast l, le-ltb (length output) tapNumbersLeast k))
-      (d .answer) (s ∙ ap (λ (i : ℕ). cleared i (used ++ drop n scratch)) all ∙ scratch-behind text scratch used n e m ∙ scratch-same (sheetOf text)) (d .outputLeft)
+      (d .answer) (cleared-all scratchLeast w (used ++ drop n scratch) scratchExit s all ∙ scratch-behind text scratch used n e m ∙ scratch-same (sheetOf text)) (d .outputLeft)

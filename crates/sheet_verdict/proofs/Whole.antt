@@ -13,6 +13,7 @@ use Rattle.model.specs.Answer.{refusedWord, sheetOf, acceptedOf, answerFor, scr
 use Rattle.model.specs.Verdict.{Checked}
 use Rattle.model.proofs.PointThree.{checked-from}
 use Rattle.relation.specs.Rows.{cleared}
+use Rattle.relation.proofs.Cleared.{cleared-all}
 use Rattle.scenario.proofs.Laws.{scratch-behind}
 use Rattle.verdict.specs.declared.Answer.{Answer}
 use Rattle.verdict.specs.Parts.{numbersFor, Decides}
@@ -41,7 +42,6 @@ module _ (text : List ℕ) (code : ℕ) (scratch trace : List ℕ) where
       refuses benchRefusal (omega arith)
       (rw (lt-ltb code channels h, lt-ltb (length trace) traceLeast l, or-true (ltb (length scratch) scratchLeast)))
 
-  -- the call clears so many words; that they are all is asked apart, so that another number is refused at that equation
   pub answers : (scratchExit traceExit used : List ℕ) (n : ℕ) (r : Answer) (w : ℕ) → code < channels → scratchLeast ≤ length scratch → traceLeast ≤ length trace
       → length used ≡ n → n ≤ scratchLeast → scratchExit ≡ cleared w (used ++ drop n scratch) → w ≡ scratchLeast → Decides (sheetOf text) code trace traceExit r
       → Checked text code scratch scratchExit trace traceExit (numbersFor r)
@@ -49,4 +49,4 @@ module _ (text : List ℕ) (code : ℕ) (scratch trace : List ℕ) where
   answers scratchExit traceExit used n r w h l k e m s all d =
       checked-from text code scratch scratchExit trace traceExit (numbersFor r) (sheetOf text)
       (rw (lt-ltb code channels h, le-ltb (length scratch) scratchLeast l, le-ltb (length trace) traceLeast k))
-      (d .answer) (s ∙ ap (λ (i : ℕ). cleared i (used ++ drop n scratch)) all ∙ scratch-behind text scratch used n e m) (d .traceLeft)
+      (d .answer) (cleared-all scratchLeast w (used ++ drop n scratch) scratchExit s all ∙ scratch-behind text scratch used n e m) (d .traceLeft)

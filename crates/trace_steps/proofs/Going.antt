@@ -34,7 +34,8 @@ use Rattle.run.specs.State.{stateOf, Starts, Reaches, BoardAt, TargetOf}
 use Rattle.run.proofs.States.{buffer-read, reaches}
 use Rattle.next_state.specs.Behind.{DoneBehind, WayBehind, HeldBehind, Follows}
 use Rattle.next_state.proofs.Behind.{next-follows, boards-kept}
-use Rattle.channel.specs.Steps.{Says, SaysStep}
+use Rattle.step_rules.specs.Steps.{Says}
+use Rattle.channel.specs.Steps.{SaysStep}
 use Rattle.channel.proofs.StepTests.{unknown-step}
 use Rattle.standing.specs.declared.Stand.{Stand}
 use Rattle.standing.specs.declared.Stand.the-variants as stand

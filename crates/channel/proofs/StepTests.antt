@@ -23,9 +23,9 @@ use Rattle.step.specs.Steps.{stepIn, messageIn}
 use Rattle.run.specs.State.{inRow, stateOf, BoardAt}
 use Rattle.buffers.proofs.Rows.{row-holds}
 use Rattle.rules.specs.Rules.{BufferRow}
-use Rattle.step_rules.specs.Steps.{heldUp, SaysRow}
+use Rattle.step_rules.specs.Steps.{heldUp, Says, SaysRow}
 use Rattle.step_rules.proofs.StepKinds.{never}
-use Rattle.channel.specs.Steps.{Says, SaysStep, SaysIn}
+use Rattle.channel.specs.Steps.{SaysStep, SaysIn}
 
 -- the step, by a row that is the buffer of its board: with that buffer, and in every run with these buffers in rows
 module _ (count : ℕ) (on words : List ℕ) (c : Channel) (done way : List ℕ) (t : Step) where

@@ -2,7 +2,8 @@
 ghost use Prim.Native.Nat.{_<_};
 ghost use Rattle.board.specs.Masks.{Standing};
 ghost use Rattle.step.specs.Steps.{messageIn};
-ghost use Rattle.channel.specs.Steps.{Says, SaysStep, SaysIn};
+ghost use Rattle.step_rules.specs.Steps.{Says};
+ghost use Rattle.channel.specs.Steps.{SaysStep, SaysIn};
 use buffers::HELD_WORDS;
 use channel_table::Channel;
 use relation::WIDTH;

@@ -20,9 +20,10 @@ use Rattle.expansion.specs.declared.Expanded.{Expanded}
 use Rattle.expansion.specs.declared.Expanded.the-variants as expanded
 use Rattle.scenario.proofs.Laws.{sheet-refused, sheet-is, sheet-fits}
 use Rattle.queue.specs.declared.Queue.{Queue}
-use Rattle.queue.specs.declared.Place.{Place}
-use Rattle.queue.specs.declared.Place.the-variants as places
-use Rattle.queue.specs.Bridge.{queueIn, PlacesOf, isFreeIn, placeIn, freePlaceIn, SparePlace}
+use Rattle.queue.specs.Bridge.{queueIn, PlacesOf, isFreeIn, freePlaceIn}
+use Rattle.taken_places.specs.declared.Place.{Place}
+use Rattle.taken_places.specs.declared.Place.the-variants as places
+use Rattle.taken_places.specs.Places.{placeIn, SparePlace}
 use Rattle.places.specs.Words.{FreeCleared, ClearedBut}
 use Rattle.share.specs.declared.Race.{Race}
 use Rattle.lent_sheet.specs.Sheet.{sheetIn, ReadsSheet}

@@ -4,16 +4,17 @@ ghost use mathlib.Core.Option.{none, some};
 ghost use Prim.Native.Nat.{_^_, _<_, _≤_};
 ghost use lib.ListN.{length};
 ghost use Rattle.model.specs.Limits.{channels, messagesMost, textMost, jobsMost, jobNumbers, jobWordsLeast};
-ghost use Rattle.queue.specs.Bridge.{queueIn, freePlaceIn, SparePlace};
+ghost use Rattle.queue.specs.Bridge.{queueIn, freePlaceIn};
+ghost use Rattle.taken_places.specs.Places.{SparePlace};
 ghost use Rattle.admission.specs.Admission.{refusedBy, FullOf, HoldsNew, ReadsIn, AdmitIn};
 use expansion::Expanded;
 use held_jobs::ADMITTED;
 use held_jobs::Boards;
 use held_jobs::REFUSED;
 use queue::Job;
-use queue::Place;
 use queue::Queue;
 use share::Race;
+use taken_places::Place;
 
 // What an admission may change: the queue, how many numbers were given out, and what stands in the new job's place.
 pub struct Part {
@@ -86,9 +87,9 @@ fn hold(
         place: place as u8,
         code: code as u8,
     };
-    let held = queue.taken();
-    let longer = queue.behind_last(job, held.count);
-    places::clear_free(words, longer.places());
+    let held = taken_places::taken(queue);
+    let longer = queue_moves::behind_last(queue, job, held.count);
+    places::clear_free(words, taken_places::places(longer));
     let race = Race {
         found: 0,
         message: 0,
@@ -126,7 +127,7 @@ fn read(
     match outcome {
         Expanded::Refused(number, line) => {
             let queue = part.queue;
-            let taken = queue.places();
+            let taken = taken_places::places(queue);
             places::clear_free(words, taken);
             refused(part, number, line)
         }
@@ -147,7 +148,7 @@ pub fn admit_into(
     ensures { λ r. ⌜ AdmitIn part spare (now (sheets .entry)) (now (lengths .entry)) (now (codes .entry)) (now (words .entry)) (now (words .exit)) r ⌝ }
 {
     let queue = part.queue;
-    let found = queue.free_place();
+    let found = taken_places::free_place(queue);
     let Place::At(place) = found else {
         return full(part, words);
     };
@@ -158,7 +159,7 @@ pub fn admit_into(
     if words.len() < model::JOB_WORDS_LEAST {
         return refused(part, model::BENCH, 0);
     }
-    let taken = queue.places();
+    let taken = taken_places::places(queue);
     if model::JOB_NUMBERS <= part.given as usize {
         places::clear_free(words, taken);
         return refused(part, model::JOBS, 0);

@@ -16,13 +16,15 @@ use Rattle.model.proofs.Bounded.{or-cases, or-left, or-right, both-ways}
 use Rattle.model.proofs.Lists.{replicate-at}
 use Rattle.model.proofs.Block.{Inside, inside-more, listed-first, blockBefore, NoCircle, before-below, before-transitive, block-exact, before-more, more-split, circle-exactly, message-old, message-new, message-split}
 use Rattle.relation.specs.Width.{width, wordBits}
-use Rattle.relation.specs.Rows.{holds, copiedFrom, inserted}
+use Rattle.relation.specs.Rows.{holds}
 use Rattle.relation.specs.Order.{before, Transitive, Covers, linked}
 use Rattle.relation.proofs.Bits.{has-zero}
 use Rattle.relation.proofs.Marked.{length-marked, holds-marked}
-use Rattle.relation.proofs.Joined.{length-copied-from, copied-row, copied-other}
-use Rattle.relation.proofs.Inserted.{length-inserted, holds-inserted}
-use Rattle.relation.proofs.Closed.{inserted-linked}
+use Rattle.joined_rows.specs.Joins.{copiedFrom}
+use Rattle.closure.specs.Insertion.{inserted}
+use Rattle.joined_rows.proofs.Joined.{length-copied-from, copied-row, copied-other}
+use Rattle.closure.proofs.Inserted.{length-inserted, holds-inserted}
+use Rattle.closure.proofs.Closed.{inserted-linked}
 use Rattle.block_order.specs.Noted.{nothing, begun, HoldsOrder}
 
 -- a test that is true only where it is not is false

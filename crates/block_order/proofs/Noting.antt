@@ -10,10 +10,12 @@ use lib.ListN.{length}
 use Rattle.model.specs.Limits.{messagesMost}
 use Rattle.model.specs.Rows.{sheet, order, block, call, choice}
 use Rattle.relation.specs.Width.{width}
-use Rattle.relation.specs.Rows.{holds, marked, copiedFrom, inserted}
+use Rattle.relation.specs.Rows.{holds, marked}
 use Rattle.relation.proofs.Marked.{length-marked}
-use Rattle.relation.proofs.Joined.{length-copied-from}
-use Rattle.relation.proofs.Inserted.{length-inserted}
+use Rattle.joined_rows.specs.Joins.{copiedFrom}
+use Rattle.closure.specs.Insertion.{inserted}
+use Rattle.joined_rows.proofs.Joined.{length-copied-from}
+use Rattle.closure.proofs.Inserted.{length-inserted}
 use Rattle.place.specs.Letters.{rowFrom}
 use Rattle.place.proofs.Letters.{row-message, row-order}
 use Rattle.block_order.specs.Noted.{nothing, begun, noted, circles, Within, NotedAs}

@@ -10,7 +10,9 @@ use Rattle.model.specs.Closure.{reads}
 use Rattle.model.specs.Rows.{Row, sheet, message, order, block, call, choice}
 use Rattle.model.specs.Place.{blockTable}
 use Rattle.relation.specs.Width.{width, wordBits}
-use Rattle.relation.specs.Rows.{holds, marked, copiedFrom, inserted}
+use Rattle.relation.specs.Rows.{holds, marked}
+use Rattle.joined_rows.specs.Joins.{copiedFrom}
+use Rattle.closure.specs.Insertion.{inserted}
 
 -- a row of no events
 abbrev pub nothing : ℕ → List ℕ

@@ -17,8 +17,8 @@ fn add_message(words: &mut [u64], m: usize)
     let nothing = [0u64; relation::WIDTH];
     let send = 2 * m;
     let receive = send + 1;
-    relation::copy_from(words, send, &nothing, 0);
-    relation::copy_from(words, receive, &nothing, 0);
+    joined_rows::copy_from(words, send, &nothing, 0);
+    joined_rows::copy_from(words, receive, &nothing, 0);
     relation::mark(words, receive, send);
 }
 
@@ -32,7 +32,7 @@ fn add_order(words: &mut [u64], messages: usize, x: u16, y: u16) -> bool
     if relation::test(words, first, second) {
         return true;
     }
-    relation::insert(words, first, second, 0, 2 * messages);
+    closure::insert(words, first, second, 0, 2 * messages);
     false
 }
 

@@ -10,9 +10,10 @@ use lib.Dec.{eqb}
 use lib.ListN.{length}
 use borrow.Author.Tests.{eq-eqb, ne-eqb}
 use Rattle.relation.specs.Width.{wordBits}
-use Rattle.relation.specs.Rows.{holds, joined, copiedFrom}
+use Rattle.relation.specs.Rows.{holds}
 use Rattle.relation.proofs.Marked.{length-marked, holds-marked}
-use Rattle.relation.proofs.Joined.{length-joined, holds-joined, length-copied-from, copied-row, copied-other}
+use Rattle.joined_rows.specs.Joins.{joined, copiedFrom}
+use Rattle.joined_rows.proofs.Joined.{length-joined, holds-joined, length-copied-from, copied-row, copied-other}
 use Rattle.blocks.specs.Store.{begun, added}
 
 module _ (W : ℕ) (words past : List ℕ) (m a b : ℕ) where

@@ -12,9 +12,10 @@ use lib.ListN.{length, getD}
 use borrow.Author.Tests.{eq-eqb, eqb-true}
 use Rattle.model.proofs.Bounded.{and-left, and-right, and-both, or-cases, or-left, or-right}
 use Rattle.relation.specs.Width.{wordBits}
-use Rattle.relation.specs.Rows.{holds, joinedFrom}
+use Rattle.relation.specs.Rows.{holds}
 use Rattle.relation.proofs.Marked.{length-marked, holds-marked}
-use Rattle.relation.proofs.Joined.{length-joined-from, holds-joined-from}
+use Rattle.joined_rows.specs.Joins.{joinedFrom}
+use Rattle.joined_rows.proofs.Joined.{length-joined-from, holds-joined-from}
 use Rattle.blocks.specs.Store.{passedAt, passedIn, passed}
 
 -- what a row had stays; it gains an event and what is before it; and nothing else

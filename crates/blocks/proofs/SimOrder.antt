@@ -17,10 +17,11 @@ use Rattle.model.specs.Order.{Met, metOps}
 use Rattle.model.proofs.Bounded.{and-left, and-right, or-cases, or-left, or-right, which}
 use Rattle.model.proofs.Walked.{Sound}
 use Rattle.relation.specs.Width.{width}
-use Rattle.relation.specs.Rows.{holds, inserted}
+use Rattle.relation.specs.Rows.{holds}
 use Rattle.relation.specs.Order.{before, Within, linked}
-use Rattle.relation.proofs.Inserted.{length-inserted, holds-inserted}
-use Rattle.relation.proofs.Closed.{linked-holds, linked-pair, linked-least, inserted-linked, inserted-closed}
+use Rattle.closure.specs.Insertion.{inserted}
+use Rattle.closure.proofs.Inserted.{length-inserted, holds-inserted}
+use Rattle.closure.proofs.Closed.{linked-holds, linked-pair, linked-least, inserted-linked, inserted-closed}
 use Rattle.blocks.specs.Store.{Store, passed, storeOps}
 use Rattle.blocks.proofs.Passed.{length-passed, passed-kept, passed-event, passed-only}
 use Rattle.blocks.proofs.Sim.{Orders, Sim, inRow, bits}

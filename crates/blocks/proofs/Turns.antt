@@ -8,9 +8,10 @@ use mathlib.Core.List.{List}
 use lib.ListN.{length, getD}
 use Rattle.model.specs.Limits.{boards}
 use Rattle.relation.specs.Width.{width}
-use Rattle.relation.specs.Rows.{marked, joined, joinedFrom, copiedFrom}
+use Rattle.relation.specs.Rows.{marked}
 use Rattle.relation.proofs.Marked.{length-marked}
-use Rattle.relation.proofs.Joined.{length-joined-from}
+use Rattle.joined_rows.specs.Joins.{joined, joinedFrom, copiedFrom}
+use Rattle.joined_rows.proofs.Joined.{length-joined-from}
 use Rattle.blocks.specs.Store.{storeOf, begun, added, passedAt, passedIn, passed}
 use Rattle.blocks.specs.Room.{Room}
 

@@ -10,8 +10,10 @@ use Rattle.model.specs.Rows.{Row}
 use Rattle.model.specs.Order.{Scenario, nothingMet, metOps, exchangeOf, scenarioOf}
 use Rattle.model.specs.Expansion.{Ops, Progress, expand}
 use Rattle.relation.specs.Width.{width}
-use Rattle.relation.specs.Rows.{marked, joined, joinedFrom, copiedFrom, inserted}
+use Rattle.relation.specs.Rows.{marked}
 use Rattle.relation.specs.Scenario.{scenarioIn}
+use Rattle.joined_rows.specs.Joins.{joined, joinedFrom, copiedFrom}
+use Rattle.closure.specs.Insertion.{inserted}
 
 -- row p of `past` holds board p's events of earlier blocks and all before them
 pub record Store : Type 0 where

@@ -5,7 +5,7 @@ ghost use Prim.Native.Nat.{_+_, _*_, _<_, _≤_};
 ghost use lib.ListN.{length};
 ghost use Rattle.model.specs.Limits.{boards as boardsMost, messagesMost};
 ghost use Rattle.relation.specs.Width.{width};
-ghost use Rattle.relation.specs.Rows.{inserted};
+ghost use Rattle.closure.specs.Insertion.{inserted};
 ghost use Rattle.blocks.specs.Store.{storeOf, seated, added, passed};
 ghost use Rattle.blocks.specs.Room.{Room};
 
@@ -26,9 +26,9 @@ pub fn add_message(boards: &mut [u8], words: &mut [u64], past: &[u64], m: usize,
     let receive = send + 1;
     boards[send] = a as u8;
     boards[receive] = b as u8;
-    relation::copy_from(words, send, past, a as usize);
-    relation::copy_from(words, receive, past, b as usize);
-    relation::join(words, receive, send);
+    joined_rows::copy_from(words, send, past, a as usize);
+    joined_rows::copy_from(words, receive, past, b as usize);
+    joined_rows::join(words, receive, send);
     relation::mark(words, receive, send);
 }
 
@@ -40,7 +40,7 @@ pub fn add_order(words: &mut [u64], first: usize, count: usize, x: u16, y: u16)
     ensures { λ _. ⌜ now (words .exit) ≡ inserted width (now (words .entry)) (2 * first + x) (2 * first + y) (2 * first) (2 * count) ⌝ }
 {
     let base = 2 * first;
-    relation::insert(words, base + x as usize, base + y as usize, base, 2 * count);
+    closure::insert(words, base + x as usize, base + y as usize, base, 2 * count);
 }
 
 // The open block is closed: each of its events is past on its board, with all before it.
@@ -50,7 +50,7 @@ pub fn close_block(boards: &[u8], words: &[u64], past: &mut [u64], first: usize,
 {
     for e in 2 * first..2 * count {
         let board = boards[e] as usize;
-        relation::join_from(past, board, words, e);
+        joined_rows::join_from(past, board, words, e);
         relation::mark(past, board, e);
     }
 }

@@ -14,18 +14,19 @@ use Rattle.model.proofs.Lists.{replicate-at}
 use Rattle.relation.specs.Width.{width, wordBits}
 use Rattle.relation.specs.Rows.{has, holds, marked, unmarked}
 use Rattle.relation.proofs.Bits.{has-zero}
-use Rattle.relation.proofs.Joined.{copied-at, copied-outside}
+use Rattle.joined_rows.proofs.Joined.{copied-at, copied-outside}
 use Rattle.relation.proofs.Marked.{length-marked, length-unmarked}
 use Rattle.relation.proofs.Place.{word-row}
+use Rattle.relation.proofs.Alone.{with-bit, without-bit}
 use Rattle.run.specs.declared.Buffer.{Buffer}
 use Rattle.run.specs.declared.Run.{Run}
 use Rattle.board.specs.Boards.{boardsMost}
 use Rattle.step.specs.declared.Step.{Step}
 use Rattle.step.specs.declared.Step.the-variants.{Send, Deliver, Consume}
 use Rattle.step.specs.Steps.{messageIn}
-use Rattle.run.specs.State.{inRow, bufferOf, HeldBehind}
-use Rattle.run.proofs.Rows.{with-bit, without-bit}
+use Rattle.run.specs.State.{inRow, bufferOf}
 use Rattle.run.proofs.States.{start-run, starts}
+use Rattle.next_state.specs.Behind.{HeldBehind}
 use Rattle.relation.proofs.Words.{alone-row}
 use Rattle.buffers.specs.Held.{HeldIn, LaysRow, RowsBehind}
 

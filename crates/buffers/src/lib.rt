@@ -17,7 +17,7 @@ fn lay_row(rows: &mut [u64; HELD_WORDS], board: usize, buffer: Buffer)
     requires { ⌜ board < boardsMost ⌝ }
     ensures { λ _. ⌜ LaysRow (now (rows .entry)) board (buffer .held) (now (rows .exit)) ⌝ }
 {
-    relation::copy_from(rows, board, &buffer.held, 0);
+    joined_rows::copy_from(rows, board, &buffer.held, 0);
 }
 
 // The rows become the buffers of a run. They are lent: an array handed back is copied once more.

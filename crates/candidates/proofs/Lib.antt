@@ -1,2 +1,1 @@
-pub mod EachClass
 pub mod Skipped

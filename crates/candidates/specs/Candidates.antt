@@ -2,7 +2,7 @@
 use mathlib.Core.Path.{_≡_}
 use mathlib.Core.Bool.{Bool, true, false, _&&_}
 use mathlib.Core.List.{List}
-use Prim.Native.Nat.{ℕ, _+_, _*_, _<_, _≤_}
+use Prim.Native.Nat.{ℕ, _+_, _*_, _<_}
 use Rattle.model.specs.Limits.{messagesMost}
 use Rattle.model.specs.Run.{allowed}
 use Rattle.relation.specs.Width.{width, wordBits}
@@ -13,8 +13,8 @@ use Rattle.channel_table.specs.Table.{channelIn}
 use Rattle.run.specs.declared.Run.{Run}
 use Rattle.run.specs.State.{inRow, stateOf}
 use Rattle.buffers.specs.Held.{HeldIn, HeldAnywhere}
-use Rattle.candidates.specs.declared.classes.Class.{Class}
-use Rattle.candidates.specs.Classes.{classIn}
+use Rattle.step_classes.specs.declared.Class.{Class}
+use Rattle.step_classes.specs.Classes.{classIn}
 
 -- message m is of the class, and its step is allowed
 abbrev pub fits : ℕ → List ℕ → List ℕ → Channel → Run → ℕ → Class → ℕ → Bool
@@ -53,8 +53,3 @@ Candidates words done way rows e class row =
 -- so in every run of whose buffers these are all the messages held
 abbrev pub CandidatesIn : List ℕ → List ℕ → List ℕ → List ℕ → ℕ → Class → List ℕ → Type 0
 CandidatesIn words done way held e class row = (rows : List ℕ) → HeldAnywhere rows held → Candidates words done way rows e class row
-
--- no message from m on and before r is in the row
-pub record NextIn (row : List ℕ) (m r : ℕ) : Type 0 where
-  pub from : m ≤ r
-  pub absent : (j : ℕ) → m ≤ j → j < r → inRow row (2 * j) ≡ false

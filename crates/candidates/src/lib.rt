@@ -1,17 +1,12 @@
 // The messages that the search of a class looks at: those whose step can be allowed at all.
-mod classes;
-
 ghost use Prim.Native.Nat.{_+_, _*_, _<_, _≤_};
 ghost use lib.ListN.{length};
 ghost use Rattle.model.specs.Limits.{messagesMost};
 ghost use Rattle.relation.specs.Width.{width};
-ghost use Rattle.candidates.specs.Candidates.{Unsent, Needed, NeededDeliveries, OwnDelivery, CandidatesIn, NextIn};
-pub use crate::classes::Class;
-pub use crate::classes::step_of;
-pub use crate::classes::takes;
+ghost use Rattle.candidates.specs.Candidates.{Unsent, Needed, NeededDeliveries, OwnDelivery, CandidatesIn};
 use relation::SENDS;
 use relation::WIDTH;
-use relation::WORD_BITS;
+use step_classes::Class;
 
 // The sends that are not done.
 fn unsent(done: [u64; WIDTH]) -> [u64; WIDTH]
@@ -88,24 +83,4 @@ pub fn candidates<'a>(
         Class::NeededSend => needed(words, e, unsent(*done)),
         Class::AnySend => unsent(*done),
     }
-}
-
-// The next message from m on with a bit in the row, its send's or its receive's; where there is none, the most messages.
-pub fn next_in(row: &[u64], m: usize) -> usize
-    requires { ⌜ (m < messagesMost) × (width ≤ length (now row)) ⌝ }
-    ensures { λ r. ⌜ NextIn (now (row .entry)) m r ⌝ }
-{
-    let send = 2 * m;
-    let at = send / WORD_BITS;
-    let rest = row[at] >> (send % WORD_BITS);
-    if rest != 0 {
-        return m + u64::trailing_zeros(rest) as usize / 2;
-    }
-    for i in at + 1..WIDTH {
-        let word = row[i];
-        if word != 0 {
-            return (WORD_BITS * i + u64::trailing_zeros(word) as usize) / 2;
-        }
-    }
-    model::MESSAGES_MOST
 }

@@ -10,11 +10,11 @@ ghost use Rattle.model.specs.Dispatcher as desks;
 ghost use Rattle.model.specs.Dispatcher.{admit, turn, cancel, Serves};
 ghost use Rattle.model.specs.Senders.{TableJudged, PermittedCheck};
 ghost use Rattle.model.specs.Taps.{TapsChecked};
-ghost use Rattle.choice.specs.Bridge as chosen;
+ghost use Rattle.choice_answer.specs.Bridge as chosen;
 ghost use Rattle.dispatcher.specs.Bridge as desk;
 ghost use Rattle.dispatcher.specs.Bridge.{deskIn, Holds, emptied, lent};
 ghost use Rattle.monitor.specs.Bridge.{heldIn, zeros, answerIn};
-ghost use Rattle.replay.specs.Bridge as replayed;
+ghost use Rattle.trace_answer.specs.Numbers as replayed;
 ghost use Rattle.answers.specs.Numbers.{numbersIn};
 ghost use Rattle.answers.specs.Cures as cured;
 ghost use Rattle.answers.specs.Tables as judged;
@@ -23,12 +23,12 @@ pub use answers::ChannelCheckAnswer;
 pub use answers::CureSheetAnswer;
 pub use answers::SendersCheckAnswer;
 pub use answers::TapsCheckAnswer;
-use choice::ChoiceCheckAnswer;
+use choice_answer::ChoiceCheckAnswer;
 use dispatcher::Dispatcher;
 use dispatcher::DispatcherAnswer;
 use monitor::Monitor;
 use monitor::MonitorAnswer;
-use replay::TraceCheckAnswer;
+use trace_answer::TraceCheckAnswer;
 
 // The check: any text, any channel code, any lengths.
 #[no_mangle]
@@ -40,7 +40,7 @@ pub extern "C" fn channel_check(
 ) -> ChannelCheckAnswer
     ensures { λ r. ⌜ Checked (now (text .entry)) code (now (scratch .entry)) (now (scratch .exit)) (now (trace .entry)) (now (trace .exit)) (numbersIn r) ⌝ }
 {
-    answers::checked(verdict::check(text, code, scratch, trace))
+    answers::checked(sheet_verdict::check(text, code, scratch, trace))
 }
 
 // A trace from another tool: any text, any channel code, any trace, any lengths.
@@ -197,5 +197,5 @@ pub extern "C" fn taps_check(
 ) -> TapsCheckAnswer
     ensures { λ r. ⌜ TapsChecked (now (text .entry)) (now (scratch .entry)) (now (scratch .exit)) (now (first .entry)) (now (second .entry)) (now (output .entry)) (now (output .exit)) (fitted.numbersIn r) ⌝ }
 {
-    answers::fitted(taps::fit(text, scratch, first, second, output))
+    answers::fitted(sheet_taps::fit(text, scratch, first, second, output))
 }

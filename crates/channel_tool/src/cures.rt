@@ -8,7 +8,7 @@ pub fn write(text: &[u8]) {
     let a = channel_check::cure_sheet(text, &mut scratch, &mut output);
     if a.word == 0 {
         let end = a.one as usize % (model::SHEET_OUTPUT_LEAST + 1);
-        report::print(&output[..end]);
+        printing::print(&output[..end]);
     } else {
         commands::print_refusal(STDERR_FILENO, a.one, a.two);
     }

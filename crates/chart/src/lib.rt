@@ -109,7 +109,7 @@ fn draw_title(page: Page, subject: Subject) {
     let height = chart_layout::height_of(page);
     svg::begin_picture(width, height);
     print_title(subject);
-    report::print(b"; ");
+    printing::print(b"; ");
     print_remark(subject);
     svg::end_title(width, height);
     svg::begin_text(svg::TITLE, MARGIN, chart_layout::TITLE_BASE);

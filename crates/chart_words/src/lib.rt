@@ -12,74 +12,74 @@ pub enum Verdict {
 
 fn print_verdict(verdict: Verdict) {
     match verdict {
-        Verdict::Free => report::print(b"free"),
-        Verdict::Locked(_, _) => report::print(b"locked"),
-        Verdict::Finished => report::print(b"trace finished"),
-        Verdict::Stuck => report::print(b"trace stuck"),
-        Verdict::Open => report::print(b"trace open"),
-        Verdict::NotAllowed(_, _) => report::print(b"step not allowed"),
+        Verdict::Free => printing::print(b"free"),
+        Verdict::Locked(_, _) => printing::print(b"locked"),
+        Verdict::Finished => printing::print(b"trace finished"),
+        Verdict::Stuck => printing::print(b"trace stuck"),
+        Verdict::Open => printing::print(b"trace open"),
+        Verdict::NotAllowed(_, _) => printing::print(b"step not allowed"),
     }
 }
 
 // A channel's rule, and whether its boards are eager, as the paper's table names them.
 fn print_channel(code: u32) {
     if code == 0 {
-        report::print(b"eager free-running");
+        printing::print(b"eager free-running");
     } else if code == 1 {
-        report::print(b"lazy free-running");
+        printing::print(b"lazy free-running");
     } else if code == 2 {
-        report::print(b"eager FIFO");
+        printing::print(b"eager FIFO");
     } else if code == 3 {
-        report::print(b"lazy FIFO");
+        printing::print(b"lazy FIFO");
     } else if code == 4 {
-        report::print(b"synchronous, eager");
+        printing::print(b"synchronous, eager");
     } else {
-        report::print(b"token ring, eager");
+        printing::print(b"token ring, eager");
     }
 }
 
 pub fn print_title(verdict: Verdict, code: u32) {
     print_verdict(verdict);
-    report::print(b" on channel ");
-    report::print_decimal(code);
-    report::print(b", ");
+    printing::print(b" on channel ");
+    printing::print_decimal(code);
+    printing::print(b", ");
     print_channel(code);
 }
 
 // The race that the check names.
 fn print_race(message: u32, event: u32) {
-    report::print(b"race: message ");
-    report::print_decimal(message);
-    report::print(b", ");
+    printing::print(b"race: message ");
+    printing::print_decimal(message);
+    printing::print(b", ");
     commands::print_event((event % 65536) as u16);
-    report::print(b"; ");
+    printing::print(b"; ");
 }
 
 // What is drawn: a course of a free sheet's events, or so many steps.
 pub fn print_remark(verdict: Verdict, steps: u32) {
     match verdict {
         Verdict::Free => {
-            report::print(b"a course of its events");
+            printing::print(b"a course of its events");
             return;
         }
         Verdict::Locked(message, event) => print_race(message, event),
         Verdict::Finished | Verdict::Stuck | Verdict::Open | Verdict::NotAllowed(_, _) => {}
     }
-    report::print(b"steps: ");
-    report::print_decimal(steps);
+    printing::print(b"steps: ");
+    printing::print_decimal(steps);
 }
 
 pub fn print_board(board: usize) {
-    report::print(b"board ");
-    report::print_decimal((board % model::BOARDS) as u32);
+    printing::print(b"board ");
+    printing::print_decimal((board % model::BOARDS) as u32);
 }
 
 // What a jammed board waits for.
 pub fn print_jam(board: usize, held: usize, event: u16) {
     print_board(board);
-    report::print(b" holds message ");
-    report::print_decimal((held % model::MESSAGES_MOST) as u32);
-    report::print(b", waits for ");
+    printing::print(b" holds message ");
+    printing::print_decimal((held % model::MESSAGES_MOST) as u32);
+    printing::print(b", waits for ");
     commands::print_event(event);
 }
 
@@ -106,29 +106,29 @@ pub fn letters_of_jam(board: usize, held: usize, event: u16) -> u32 {
 
 // A step of the row that it has.
 pub fn print_row(row: u16, kind: u8, message: u8) {
-    report::print_decimal(row as u32);
-    report::print(b" ");
-    report::print_told(kind, message);
+    printing::print_decimal(row as u32);
+    printing::print(b" ");
+    printing::print_told(kind, message);
 }
 
 // An event of the row that it has.
 pub fn print_event_row(event: u16) {
-    report::print(b"event ");
-    report::print_decimal(event as u32);
+    printing::print(b"event ");
+    printing::print_decimal(event as u32);
     if event % 2 == 0 {
-        report::print(b" send ");
+        printing::print(b" send ");
     } else {
-        report::print(b" receive ");
+        printing::print(b" receive ");
     }
-    report::print_decimal(event as u32 / 2);
+    printing::print_decimal(event as u32 / 2);
 }
 
 // What the marks mean.
 pub fn print_legend(free: bool) {
     if free {
-        report::print(b"arrow: send to receive");
+        printing::print(b"arrow: send to receive");
     } else {
-        report::print(
+        printing::print(
             b"arrow: send to delivery; disc: consumed; box: in the buffer; dashed: under way; pale: outstanding",
         );
     }

@@ -7,5 +7,5 @@ const MOST: usize = model::TEXT_MOST + 1;
 fn main() {
     let mut text = [0u8; MOST];
     let n = io::read_full(STDIN_FILENO, &mut text);
-    report::print_channels(&text[..n]);
+    channel_report::print_channels(&text[..n]);
 }

@@ -1,3 +1,2 @@
-mod Numbering
-mod Deciding
+mod Reading
 mod Whole

@@ -1,7 +1,7 @@
 -- The whole promise, from what the parts of the call hand on. Assumes nothing.
-use Prim.Native.Nat.{ℕ, _^_, _<_, _≤_}
+use Prim.Native.Nat.{ℕ, _<_, _≤_}
 use native.Mathlib.Omega.{arith}
-use mathlib.Core.Path.{_≡_, refl, sym, _∙_, ap, subst, subst⁻¹}
+use mathlib.Core.Path.{_≡_, refl, _∙_, ap, subst⁻¹}
 use mathlib.Core.Bool.{true, or-true}
 use mathlib.Core.List.{List, _++_}
 use borrow.Author.Tests.{lt-ltb, le-ltb, le-leb, lt-leb}
@@ -17,10 +17,11 @@ use Rattle.model.proofs.Lines.{Reads, read-well}
 use Rattle.model.proofs.WithoutChoices.{choice-checked-from}
 use Rattle.model.proofs.ChoiceBounds.{choice-small}
 use Rattle.relation.specs.Rows.{cleared}
-use Rattle.relation.proofs.Cleared.{cleared-behind}
-use Rattle.choice.specs.Bridge.{numbersFor, Small, Judged}
-use Rattle.choice.specs.declared.Choice.{Choice}
-use Rattle.choice.specs.declared.Choice.the-variants.{Free, Locked, Refused}
+use Rattle.relation.proofs.Cleared.{cleared-behind, cleared-all}
+use Rattle.choice_answer.specs.Bridge.{numbersFor, Small}
+use Rattle.choice_verdict.specs.Judged.{Judged}
+use Rattle.choice_answer.specs.declared.Choice.{Choice}
+use Rattle.choice_answer.specs.declared.Choice.the-variants.{Refused}
 
 -- What each return of `check` is to show: refusal 1 for a code above 5, refusal 2 for a short buffer, else what the text decides.
 module _ (text : List ℕ) (code : ℕ) (scratch trace : List ℕ) where
@@ -54,35 +55,15 @@ module _ (text : List ℕ) (code : ℕ) (scratch trace : List ℕ) where
       go (refusal number line) w = rw (lt-leb number benchRefusal (w .behind))
       go (ok rows) w = refl
 
-  pub answers : (scratchExit traceExit used : List ℕ) (n : ℕ) (r : Choice) → code < channels → scratchLeast ≤ length scratch → traceLeast ≤ length trace
-      → length used ≡ n → n ≤ scratchLeast → scratchExit ≡ cleared scratchLeast (used ++ drop n scratch)
+  pub answers : (scratchExit traceExit used : List ℕ) (n : ℕ) (r : Choice) (w : ℕ) → code < channels → scratchLeast ≤ length scratch → traceLeast ≤ length trace
+      → length used ≡ n → n ≤ scratchLeast → scratchExit ≡ cleared w (used ++ drop n scratch) → w ≡ scratchLeast
       → Judged (choiceAnswerFor (readWith true text) code) trace traceExit r
       → ChoiceChecked text code scratch scratchExit trace traceExit (numbersFor r)
   unfolding choosable
-  answers scratchExit traceExit used n r h l k e m s d =
+  answers scratchExit traceExit used n r w h l k e m s all d =
       choice-checked-from text code scratch scratchExit trace traceExit (numbersFor r) (readWith true text)
       (rw (lt-ltb code channels h, le-ltb (length scratch) scratchLeast l, le-ltb (length trace) traceLeast k))
-      (d .answer) (s ∙ scratch-behind used n e m) (d .traceLeft)
-
--- What `numbers` asks and shows, by the answer.
-module _ (a : Choice) where
-  pub small-locked : (e x steps met number : ℕ) → a ≡ Locked e x steps met number → Small (numbersFor a)
-      → Small (numbersFor (Locked e x steps met number))
-  small-locked e x steps met number i s = subst (λ (b : Choice). Small (numbersFor b)) i s
-
-  pub small-line : (number line : ℕ) → a ≡ Refused number line → Small (numbersFor a) → line < 2 ^ 32
-  small-line number line i s = subst (λ (b : Choice). Small (numbersFor b)) i s .two
-
-  pub free-numbers : a ≡ Free → _≡_ {A = ChoiceNumbers} (record { word = 0; one = 0; two = 0; three = 0; options = 0; choices = 0 }) (numbersFor a)
-  free-numbers i = ap numbersFor (sym i)
-
-  pub locked-numbers : (e x steps met number : ℕ) → a ≡ Locked e x steps met number
-      → _≡_ {A = ChoiceNumbers} (record { word = 1; one = e; two = x; three = steps; options = met; choices = number }) (numbersFor a)
-  locked-numbers e x steps met number i = ap numbersFor (sym i)
-
-  pub refused-numbers : (number line : ℕ) → a ≡ Refused number line
-      → _≡_ {A = ChoiceNumbers} (record { word = 2; one = number; two = line; three = 0; options = 0; choices = 0 }) (numbersFor a)
-  refused-numbers number line i = ap numbersFor (sym i)
+      (d .answer) (cleared-all scratchLeast w (used ++ drop n scratch) scratchExit s all ∙ scratch-behind used n e m) (d .traceLeft)
 
 -- the numbers answered are small, and handing them on keeps the promise
 pub small-checked : (text : List ℕ) (code : ℕ) (scratch scratchExit trace traceExit : List ℕ) (r : ChoiceNumbers)

@@ -30,9 +30,11 @@ use Rattle.sheet.specs.Bridge.{rowsOf}
 use Rattle.blocks.specs.Store.{countedWith}
 use Rattle.levels.specs.Options.{optionsOf}
 use Rattle.race.specs.declared.Rule.{Rule}
-use Rattle.race.specs.declared.Lowest.{Lowest}
-use Rattle.race.specs.declared.Lowest.the-variants as lowest
-use Rattle.race.specs.Bridge.{Lent, ruleIn, raceIn}
+use Rattle.lowest_race.specs.declared.Lowest.{Lowest}
+use Rattle.lowest_race.specs.declared.Lowest.the-variants as lowest
+use Rattle.at_or_before.specs.Lent.{Lent}
+use Rattle.race.specs.Bridge.{ruleIn}
+use Rattle.lowest_race.specs.Named.{raceIn}
 use Rattle.scenario.specs.Contract.{Fit}
 use Rattle.scenario.proofs.Parts.{fit-from}
 use Rattle.expansion.specs.Lent.{RowsRead}

@@ -7,11 +7,12 @@ ghost use Rattle.model.specs.Race.{lowestRace};
 ghost use Rattle.relation.specs.Width.{width};
 ghost use Rattle.relation.specs.Scenario.{scenarioIn};
 ghost use Rattle.sheet.specs.Bridge.{rowsOf};
-ghost use Rattle.race.specs.Bridge.{Lent, ruleIn};
+ghost use Rattle.at_or_before.specs.Lent.{Lent};
+ghost use Rattle.race.specs.Bridge.{ruleIn};
 ghost use Rattle.expansion.specs.Lent.{RowsRead};
 ghost use Rattle.choice_lists.specs.Walked.{firstFrom, WalkedAs};
 use expansion::Counted;
-use race::Lowest;
+use lowest_race::Lowest;
 use race::Rule;
 
 // The lists of eight options are numbers, A row 0 the highest bit, so that they come in their order. This many is behind the last.
@@ -48,7 +49,7 @@ fn first_locked(
     if first != LISTS {
         return first;
     }
-    let lowest = race::lowest_race(words, boards, count, rule);
+    let lowest = lowest_race::lowest_race(words, boards, count, rule);
     match lowest {
         Lowest::Nothing => LISTS,
         Lowest::Race(_, _) => list,

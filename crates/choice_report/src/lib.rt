@@ -1,139 +1,9 @@
 // `choices CODE`: the answer over all choice lists of a file and, where it is locked, the options of the first locked list, its race and
 // its steps.
 use answers::ChannelCheckAnswer;
-use model::LEVELS;
 use model::ROWS_MOST;
 use model::SHEETS;
 use sheet::Verdict;
-
-// More rows than a walk can pass: each call passes the rows of a sheet, and its return one more.
-const PASSED_MOST: usize = (model::CALLS_MOST + 1) * (ROWS_MOST + 1);
-
-// The option of A row k: its number, its line and the sheet that it takes.
-fn print_option(k: u32, row: usize, sheet: u16) {
-    report::print(b"A row ");
-    report::print_decimal(k);
-    report::print(b", line ");
-    report::print_decimal((row % ROWS_MOST) as u32 + 2);
-    report::print(b": sheet ");
-    report::print_decimal(sheet as u32);
-    report::print(b"\n");
-}
-
-// A row's number, as an index.
-fn wide(row: u16) -> usize {
-    row as usize
-}
-
-// Where the rows of a sheet begin.
-fn begins(start: &[u16; SHEETS], sheet: u16) -> usize {
-    let at = sheet as usize % SHEETS;
-    wide(start[at])
-}
-
-// Bit k of the list: A row k takes its second sheet.
-fn takes_second(choices: u32, k: u32) -> bool {
-    k < 32 && (choices >> k) & 1 == 1
-}
-
-// Where a walk is: the row, the level, the rows of the open calls, and the A rows met.
-struct Place {
-    row: usize,
-    level: usize,
-    from: [usize; LEVELS],
-    met: u32,
-}
-
-// The place behind a call of the sheet at a row, whose rows begin at `to`.
-fn called(place: Place, at: usize, to: usize, met: u32) -> Place {
-    let level = place.level % LEVELS;
-    let mut from = place.from;
-    from[level] = at;
-    Place {
-        row: to,
-        level: level + 1,
-        from,
-        met,
-    }
-}
-
-// The place behind the end of a sheet: behind the call that was open, or at the end of the walk.
-fn returned(place: Place) -> Place {
-    let from = place.from;
-    let level = place.level % (LEVELS + 1);
-    if level == 0 {
-        return place;
-    }
-    let open = (level - 1) % LEVELS;
-    Place {
-        row: from[open] % ROWS_MOST + 1,
-        level: open,
-        from,
-        met: place.met,
-    }
-}
-
-// The next row of the sheet.
-fn passed(place: Place, at: usize) -> Place {
-    let from = place.from;
-    Place {
-        row: at % ROWS_MOST + 1,
-        level: place.level,
-        from,
-        met: place.met,
-    }
-}
-
-// The place behind a row that is read as letter and sheets. An A row prints its option.
-fn step(
-    place: Place,
-    letter: u8,
-    one: u16,
-    two: u16,
-    start: &[u16; SHEETS],
-    choices: u32,
-) -> Place {
-    let at = place.row % ROWS_MOST;
-    let met = place.met % 64;
-    if letter == b'A' {
-        let sheet = if takes_second(choices, met) { two } else { one };
-        print_option(met, at, sheet);
-        return called(place, at, begins(start, sheet), met + 1);
-    }
-    if letter == b'C' {
-        return called(place, at, begins(start, one), met);
-    }
-    if letter == b'S' {
-        return returned(place);
-    }
-    passed(place, at)
-}
-
-// The options of a list, as the walk meets its A rows. The rows and the list are those of a file that was answered.
-fn print_options(
-    kind: &[u8; ROWS_MOST],
-    one: &[u16; ROWS_MOST],
-    two: &[u16; ROWS_MOST],
-    rows: usize,
-    start: &[u16; SHEETS],
-    length: u32,
-    choices: u32,
-) {
-    let mut place = Place {
-        row: begins(start, 0),
-        level: 0,
-        from: [0; LEVELS],
-        met: 0,
-    };
-    for _ in 0..PASSED_MOST {
-        if length <= place.met {
-            return;
-        }
-        let at = place.row % ROWS_MOST;
-        let letter = if place.row < rows { kind[at] } else { b'S' };
-        place = step(place, letter, one[at], two[at], start, choices);
-    }
-}
 
 // The rows again, for the options of the list.
 fn print_list(text: &[u8], length: u32, choices: u32) {
@@ -153,7 +23,7 @@ fn print_list(text: &[u8], length: u32, choices: u32) {
     ) {
         Verdict::Refused(_, _) => {}
         Verdict::Rows(rows) => {
-            print_options(&kind, &one, &two, rows, &start, length, choices);
+            choice_options::print_options(&kind, &one, &two, rows, &start, length, choices);
         }
     }
 }
@@ -162,8 +32,8 @@ pub fn print(text: &[u8], code: u32) {
     let mut scratch = [0u64; model::SCRATCH_LEAST];
     let mut trace = [0u8; model::TRACE_LEAST];
     let a = channel_check::choice_check(text, code, &mut scratch, &mut trace);
-    report::print_decimal(code);
-    report::print(b" ");
+    printing::print_decimal(code);
+    printing::print(b" ");
     report::print_answer(ChannelCheckAnswer {
         word: a.word,
         one: a.one,
@@ -173,6 +43,6 @@ pub fn print(text: &[u8], code: u32) {
     if a.word == 1 {
         print_list(text, a.length, a.choices);
         let end = 2 * commands::steps_in(&trace, a.three);
-        report::print_steps(&trace[..end]);
+        printing::print_steps(&trace[..end]);
     }
 }

@@ -22,28 +22,28 @@ pub enum File {
 // What an event is of its message.
 pub fn print_kind(event: u16) {
     if event % 2 == 0 {
-        report::print(b"send of message ");
+        printing::print(b"send of message ");
     } else {
-        report::print(b"receive of message ");
+        printing::print(b"receive of message ");
     }
-    report::print_decimal(event as u32 / 2);
+    printing::print_decimal(event as u32 / 2);
 }
 
 // The event, by its number and by what it is of its message.
 pub fn print_event(event: u16) {
-    report::print(b"event ");
-    report::print_decimal(event as u32);
-    report::print(b" (");
+    printing::print(b"event ");
+    printing::print_decimal(event as u32);
+    printing::print(b" (");
     print_kind(event);
-    report::print(b")");
+    printing::print(b")");
 }
 
 // A step that is not allowed, by its index and as its two bytes say it.
 pub fn print_not_allowed(index: u32, kind: u8, message: u8) {
-    report::print(b"step ");
-    report::print_decimal(index);
-    report::print(b" is not allowed: ");
-    report::print_told(kind, message);
+    printing::print(b"step ");
+    printing::print_decimal(index);
+    printing::print(b" is not allowed: ");
+    printing::print_told(kind, message);
 }
 
 // A refusal: on standard output, or on standard error where a command writes a file to standard output.

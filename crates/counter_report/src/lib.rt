@@ -1,8 +1,6 @@
 // `counter SHEETFILE:CODE ...`: the jobs of several makers, admitted in the order given, and their turns until none is held.
-use answers::ChannelCheckAnswer;
 use dispatcher::Dispatcher;
 use dispatcher::DispatcherAnswer;
-use last_turn::Numbers;
 use libc::STDERR_FILENO;
 use libc::STDOUT_FILENO;
 use model::JOB_WORDS_LEAST;
@@ -59,23 +57,14 @@ fn named_in(argument: &[u8]) -> Named {
     Named::File(end, digit_of(digit))
 }
 
-// Reads the sheet's file into its place. Of one that is too long a byte more is counted: the dispatcher then refuses it.
-fn read_sheet(file: i32, slot: &mut [u8]) -> u32 {
-    let mut more = [0u8; 1];
-    let n = io::read_full(file, slot);
-    let behind = io::read_full(file, &mut more);
-    libc::close(file);
-    (n % (TEXT_MOST + 1) + behind % 2) as u32
-}
-
 fn print_refusal(number: u32, line: u32, name: &[u8]) {
-    report::print(b"refused ");
-    report::print_decimal(number);
-    report::print(b" ");
-    report::print_decimal(line);
-    report::print(b": ");
-    report::print(name);
-    report::print(b"\n");
+    printing::print(b"refused ");
+    printing::print_decimal(number);
+    printing::print(b" ");
+    printing::print_decimal(line);
+    printing::print(b": ");
+    printing::print(name);
+    printing::print(b"\n");
 }
 
 // The job's number, its place, and the messages of its sheet, which stand in the last job of the queue.
@@ -87,42 +76,15 @@ fn print_admission(a: DispatcherAnswer, name: &[u8]) {
     let queue = a.next.queue;
     let last = (queue.held as usize + JOBS_MOST - 1) % JOBS_MOST;
     let job = queue.jobs[last];
-    report::print(b"job ");
-    report::print_decimal(a.one);
-    report::print(b" in place ");
-    report::print_decimal(a.two);
-    report::print(b": ");
-    report::print(name);
-    report::print(b", ");
-    report::print_decimal(job.count as u32);
-    report::print(b" messages\n");
-}
-
-// The file is read into the place that its admission takes: while no job has left, the one behind those held. With no place free it is not
-// read, since there is no sheet to judge then. False where it cannot be opened.
-fn lend(
-    state: Dispatcher,
-    name: &[u8],
-    code: u32,
-    sheets: &mut [u8],
-    lengths: &mut [u32; JOBS_MOST],
-    codes: &mut [u32; JOBS_MOST],
-) -> bool {
-    let queue = state.queue;
-    let place = queue.held as usize % JOBS_MOST;
-    let from = place * TEXT_MOST;
-    let to = from + TEXT_MOST;
-    if JOBS_MOST <= queue.held as usize || sheets.len() < to {
-        return true;
-    }
-    let file = os::open_read(name);
-    if file < 0 {
-        io::write_all(STDERR_FILENO, b"a sheet's file cannot be opened\n");
-        return false;
-    }
-    lengths[place] = read_sheet(file, &mut sheets[from..to]);
-    codes[place] = code;
-    true
+    printing::print(b"job ");
+    printing::print_decimal(a.one);
+    printing::print(b" in place ");
+    printing::print_decimal(a.two);
+    printing::print(b": ");
+    printing::print(name);
+    printing::print(b", ");
+    printing::print_decimal(job.count as u32);
+    printing::print(b" messages\n");
 }
 
 // The file that an argument names, admitted or refused.
@@ -135,7 +97,7 @@ fn admit(
     codes: &mut [u32; JOBS_MOST],
     words: &mut [u64],
 ) -> Dispatcher {
-    if !lend(state, name, code, sheets, lengths, codes) {
+    if !counter_sheets::lend(state, name, code, sheets, lengths, codes) {
         return state;
     }
     let a = state.admit(sheets, lengths, codes, words);
@@ -189,39 +151,23 @@ fn admit_files(words: &mut [u64]) -> Dispatcher {
     state
 }
 
-// The check's answer and, where it is locked, the steps that stop the boards.
-fn print_answer(answer: Numbers, trace: &[u8]) {
-    report::print_answer(ChannelCheckAnswer {
-        word: answer.word,
-        one: answer.one,
-        two: answer.two,
-        three: answer.three,
-    });
-    if answer.word == 1 {
-        let end = 2 * answer.three as usize;
-        if end <= trace.len() {
-            report::print_steps(&trace[..end]);
-        }
-    }
-}
-
 fn print_turn(turn: usize) {
-    report::print(b"turn ");
+    printing::print(b"turn ");
     io::print_decimal(STDOUT_FILENO, turn as u64);
-    report::print(b": ");
+    printing::print(b": ");
 }
 
 // A turn's answer; one that is not its job's last is not told.
 fn print_outcome(a: DispatcherAnswer, turn: usize, trace: &[u8]) {
     if a.word == 3 {
         print_turn(turn);
-        report::print(b"job ");
-        report::print_decimal(a.one);
-        report::print(b" answered: ");
-        print_answer(a.answer, trace);
+        printing::print(b"job ");
+        printing::print_decimal(a.one);
+        printing::print(b" answered: ");
+        counter_answer::print_answer(a.answer, trace);
     } else if a.word == 1 {
         print_turn(turn);
-        report::print(b"idle\n");
+        printing::print(b"idle\n");
     }
 }
 

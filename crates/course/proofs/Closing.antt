@@ -16,13 +16,14 @@ use Rattle.model.proofs.Ahead.{among-here, among-cases, ahead-cases, ahead-here
 use Rattle.model.proofs.Course.{course-holds, course-closure}
 use Rattle.model.proofs.Taps.{sooner-cases, by-sheet, by-first, by-second}
 use Rattle.relation.specs.Width.{width}
-use Rattle.relation.specs.Rows.{holds, inserted}
+use Rattle.relation.specs.Rows.{holds}
 use Rattle.relation.specs.Order.{before, Transitive, Within, Covers, linked}
 use Rattle.relation.specs.Own.{isOwn}
 use Rattle.relation.specs.Scenario.{scenarioIn}
 use Rattle.relation.proofs.Tests.{both-ways}
-use Rattle.relation.proofs.Inserted.{length-inserted}
-use Rattle.relation.proofs.Closed.{linked-holds, linked-pair, linked-least, inserted-linked, inserted-closed}
+use Rattle.closure.specs.Insertion.{inserted}
+use Rattle.closure.proofs.Inserted.{length-inserted}
+use Rattle.closure.proofs.Closed.{linked-holds, linked-pair, linked-least, inserted-linked, inserted-closed}
 use Rattle.relation.proofs.Scenario.{before-at}
 use Rattle.course.specs.Left.{NoCircle}
 use Rattle.course.specs.Links.{Room, chained, linkedBy}

@@ -1,4 +1,4 @@
 pub mod Lists
-pub mod Taking
+pub mod Filling
 pub mod Written
 pub mod Closing

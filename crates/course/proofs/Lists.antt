@@ -15,13 +15,14 @@ use Rattle.model.proofs.Bounded.{which, not-both}
 use Rattle.model.proofs.Lists.{replicate-at}
 use Rattle.model.proofs.Ahead.{among-snoc, once-snoc, once-at}
 use Rattle.relation.specs.Width.{width, wordBits}
-use Rattle.relation.specs.Rows.{marked, inserted}
+use Rattle.relation.specs.Rows.{marked}
 use Rattle.relation.proofs.Bits.{has-zero}
 use Rattle.relation.proofs.Words.{alone-row}
 use Rattle.relation.proofs.Marked.{length-marked, holds-marked}
-use Rattle.relation.proofs.Inserted.{length-inserted}
+use Rattle.closure.specs.Insertion.{inserted}
+use Rattle.closure.proofs.Inserted.{length-inserted}
 use Rattle.run.specs.State.{inRow}
-use Rattle.course.specs.Left.{rowBits}
+use Rattle.free_event.specs.Free.{rowBits}
 use Rattle.course.specs.Links.{Room, chained, linkedBy}
 
 -- a row of zeros has no event, and one event more in a row

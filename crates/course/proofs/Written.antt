@@ -22,7 +22,8 @@ use Rattle.relation.specs.Rows.{holds}
 use Rattle.relation.specs.Order.{before}
 use Rattle.relation.specs.Own.{isOwn}
 use Rattle.run.specs.State.{inRow, Without}
-use Rattle.course.specs.Left.{rowBits, AllLeft, nothingLeft, isFree, lowestFree, NoCircle}
+use Rattle.free_event.specs.Free.{rowBits, nothingLeft, isFree, lowestFree}
+use Rattle.course.specs.Left.{AllLeft, NoCircle}
 
 -- the first i events of the course are written, and the row has the events that are left
 pub record Writing (n : ℕ) (words out : List ℕ) (i : ℕ) (now left : List ℕ) : Type 0 where

@@ -1,42 +1,19 @@
--- The events that are left, in a row that stands by itself, and the next of them. Assumes nothing.
+-- The events that are left, in a row that stands by itself, and a relation that a course can be taken from. Assumes nothing.
 use mathlib.Core.Path.{_≡_}
-use mathlib.Core.Bool.{Bool, true, false, not, _&&_}
 use mathlib.Core.List.{List}
-use mathlib.Core.Option.{none, some}
-use Prim.Native.Nat.{ℕ, _+_, _*_, _<_, _≤_}
+use mathlib.Core.Option.{none}
+use Prim.Native.Nat.{ℕ, _<_}
 use lib.Dec.{ltb}
-use Rattle.model.specs.Bounded.{every, lowest}
-use Rattle.relation.specs.Width.{width, wordBits}
-use Rattle.relation.specs.Rows.{holds}
+use Rattle.model.specs.Bounded.{lowest}
+use Rattle.relation.specs.Width.{width}
 use Rattle.relation.specs.Order.{before, Transitive}
 use Rattle.relation.specs.Own.{isOwn}
 use Rattle.run.specs.State.{inRow}
-
--- the bits of a row
-abbrev pub rowBits : ℕ
-rowBits = wordBits * width
+use Rattle.free_event.specs.Free.{rowBits}
 
 -- the first n events are left
 abbrev pub AllLeft : ℕ → List ℕ → Type 0
 AllLeft n left = (k : ℕ) → k < rowBits → inRow left k ≡ ltb k n
-
--- no event that is left is before event k
-unfoldable pub nothingLeft : List ℕ → List ℕ → ℕ → Bool
-nothingLeft words left k = every rowBits (λ x. not (holds width words k x && inRow left x))
-
--- event k is left, and has nothing left before it
-unfoldable pub isFree : List ℕ → List ℕ → ℕ → Bool
-isFree words left k = inRow left k && nothingLeft words left k
-
--- r is such an event, up to word w, unless it is the bits of a row; and none of word w below r is one
-pub record FreeInWord (words left : List ℕ) (w r : ℕ) : Type 0 where
-  pub found : r < rowBits → (isFree words left r ≡ true) × (r < wordBits * w + wordBits)
-  pub absent : (j : ℕ) → wordBits * w ≤ j → j < wordBits * w + wordBits → j < r → isFree words left j ≡ false
-  pub most : r ≤ rowBits
-
--- the lowest such event, or the bits of a row
-unfoldable pub lowestFree : List ℕ → List ℕ → ℕ
-lowestFree words left = elim (lowest rowBits (isFree words left)) [ none ↦ rowBits | some k ↦ k ]
 
 -- the relation of the first n events is closed, and none of them is before itself
 pub record NoCircle (n : ℕ) (words : List ℕ) : Type 0 where

@@ -3,7 +3,7 @@ use mathlib.Core.List.{List, [], _∷_}
 use Prim.Native.Nat.{ℕ, _*_, _≤_}
 use lib.ListN.{length}
 use Rattle.relation.specs.Width.{width, wordBits}
-use Rattle.relation.specs.Rows.{inserted}
+use Rattle.closure.specs.Insertion.{inserted}
 
 -- the words have a row for each of n events, and a row has a bit for each
 pub record Room (n : ℕ) (words : List ℕ) : Type 0 where

@@ -1,33 +1,13 @@
--- One rule of a search, as the code goes: a set, a pair, the receivers that are added, the rule that is noted. Assumes nothing.
-use Prim.Native.Nat.{ℕ, _+_, _/_, _^_, _≤_, _<_}
-use native.Mathlib.Nat.{div-eq-of-lt, lt-of-lt-of-le}
+-- One rule of a search, as the code goes: the receivers that are added, the rule that is noted. Assumes nothing.
+use Prim.Native.Nat.{ℕ, _+_}
 use mathlib.Core.Path.{_≡_, _∙_, ap}
 use mathlib.Core.Bool.{Bool, true, false, not, _&&_}
 use borrow.Author.Tests.{eq-eqb, ne-eqb, not-true}
-use lib.Bits.{bitAnd, bitOr, and-mask}
-use lib.Dec.{eqb}
-use lib.Pow.{pow-mono}
-use Rattle.model.specs.Limits.{boards}
+use lib.Bits.{bitAnd, bitOr}
 use Rattle.model.specs.Senders.{inSet}
 use Rattle.coverage.specs.Search.{joinedBy, notedBy, metBy}
 use Rattle.coverage.specs.declared.Rule.{Rule}
 use Rattle.coverage.specs.declared.Search.{Search}
-
--- a board's bit, and no bit above the boards
-pub bit-read : (set board : ℕ) → eqb (bitAnd (set / 2 ^ board) 1) 1 ≡ inSet set board
-unfolding inSet
-bit-read set board = rw (and-mask (set / 2 ^ board) 1)
-
-pub no-board : (set board : ℕ) → boards ≤ board → set < 2 ^ boards → false ≡ inSet set board
-unfolding inSet
-no-board set board h l = rw (div-eq-of-lt (lt-of-lt-of-le l (pow-mono h)))
-
--- the pair: both boards
-pub pair-in : (from to sender receiver : ℕ) (r r′ : Bool) → r ≡ inSet from sender → r ≡ true → r′ ≡ inSet to receiver → r′ ≡ (inSet from sender && inSet to receiver)
-pair-in from to sender receiver r r′ p h q = rw (← p, h, q)
-
-pub pair-out : (from to sender receiver : ℕ) (r : Bool) → r ≡ inSet from sender → r ≡ false → false ≡ (inSet from sender && inSet to receiver)
-pair-out from to sender receiver r p h = rw (← p, h)
 
 -- a rule with the sender, and one without
 pub joined-with : (s : Search) (from to : ℕ) (r : Bool) → r ≡ inSet from (s .sender) → r ≡ true

@@ -1,13 +1,10 @@
-// The coverage search: which pairs of boards the rules of a table of permitted senders are about, and which rules one pair is in.
-use model::BOARDS;
-use model::RULES_MOST;
+// The coverage search, a rule at a time: which pairs of boards the rules of a table of permitted senders are about, and which rules one pair
+// is in.
+use board_set::in_set;
+use board_set::is_covered;
 ghost use mathlib.Core.Path.{_≡_};
-ghost use mathlib.Core.Bool.{_&&_};
-ghost use Prim.Native.Nat.{_+_, _^_, _≤_, _<_};
-ghost use lib.ListN.{take};
-ghost use Rattle.model.specs.Limits.{rulesMost};
-ghost use Rattle.model.specs.Senders.{inSet};
-ghost use Rattle.coverage.specs.Search.{begun, joinedBy, notedBy, metBy, searched};
+ghost use Prim.Native.Nat.{_+_, _^_, _<_};
+ghost use Rattle.coverage.specs.Search.{begun, joinedBy, notedBy, metBy};
 
 // A rule: the boards that may send, or may not, to the boards of the other set. Bit k of a set is board k.
 pub struct Rule {
@@ -41,28 +38,6 @@ pub fn begin(sender: usize, receiver: usize) -> Search
     }
 }
 
-// The board is in the set.
-pub fn in_set(set: u16, board: usize) -> bool
-    ensures { λ r. ⌜ r ≡ inSet set board ⌝ }
-{
-    if board < BOARDS {
-        (set >> board) & 1 == 1
-    } else {
-        false
-    }
-}
-
-// The single-rule test: the pair of sender and receiver is in the rule of these two sets.
-pub fn is_covered(from: u16, to: u16, sender: usize, receiver: usize) -> bool
-    ensures { λ r. ⌜ r ≡ (inSet from sender && inSet to receiver) ⌝ }
-{
-    if in_set(from, sender) {
-        in_set(to, receiver)
-    } else {
-        false
-    }
-}
-
 // The receivers that the rule of these two sets adds.
 fn joined(mut s: Search, from: u16, to: u16) -> Search
     ensures { λ r. ⌜ r ≡ joinedBy s from to ⌝ }
@@ -90,7 +65,7 @@ fn noted(mut s: Search, line: usize) -> Search
 
 // The search behind the rule with the given number, from 0; rule 0 stands at line 2. Most rules of a table are without the sender: one test
 // passes them.
-fn met(s: Search, number: usize, rule: Rule) -> Search
+pub fn met(s: Search, number: usize, rule: Rule) -> Search
     requires { ⌜ number + 2 < 2 ^ 64 ⌝ }
     ensures { λ r. ⌜ r ≡ metBy s number rule ⌝ }
 {
@@ -103,24 +78,4 @@ fn met(s: Search, number: usize, rule: Rule) -> Search
     } else {
         t
     }
-}
-
-// The search over the rules lent.
-fn search_in(rules: &[Rule], mut s: Search) -> Search
-    ensures { λ r. ⌜ r ≡ searched 0 (now (rules .entry)) s ⌝ }
-{
-    let mut i = 0;
-    while i < rules.len() {
-        s = met(s, i, rules[i]);
-        i += 1;
-    }
-    s
-}
-
-// The search over the first `count` rules of a table, which are lent for it.
-pub fn search_among(rules: [Rule; RULES_MOST], count: usize, s: Search) -> Search
-    requires { ⌜ count ≤ rulesMost ⌝ }
-    ensures { λ r. ⌜ r ≡ searched 0 (take count rules) s ⌝ }
-{
-    search_in(&rules[..count], s)
 }

@@ -2,7 +2,7 @@
 use mathlib.Core.Path.{_≡_, refl, sym, _∙_, ap, subst, subst⁻¹}
 use mathlib.Core.Bool.{Bool, true, false, not, cond, _&&_, _||_, or-false}
 use mathlib.Core.List.{List}
-use Prim.Native.Nat.{ℕ, zero, suc, _+_, _*_, _-_, _/_, _%_, _^_, _<_, _≤_}
+use Prim.Native.Nat.{ℕ, suc, _+_, _*_, _-_, _/_, _%_, _^_, _<_, _≤_}
 use native.Mathlib.Decide.{ℕ-discrete, decLt}
 use native.Mathlib.Numerals.{add-one}
 use native.Mathlib.Omega.{arith}
@@ -18,10 +18,11 @@ use Rattle.model.specs.Bounded.{every, any}
 use Rattle.model.proofs.Lists.{replicate-at}
 use Rattle.model.proofs.Bounded.{any-from, any-some, both-ways}
 use Rattle.relation.specs.Width.{width, wordBits}
-use Rattle.relation.specs.Rows.{has, holds, joinedFrom, copiedFrom}
+use Rattle.relation.specs.Rows.{has, holds}
 use Rattle.relation.proofs.Bits.{has-zero, has-or}
 use Rattle.relation.proofs.Words.{has-and, has-not, shifted, evenBits, has-even-bits, word-holds, alone-row}
-use Rattle.relation.proofs.Joined.{length-joined-from, holds-joined-from, length-copied-from, copied-row, copied-other}
+use Rattle.joined_rows.specs.Joins.{joinedFrom, copiedFrom}
+use Rattle.joined_rows.proofs.Joined.{length-joined-from, holds-joined-from, length-copied-from, copied-row, copied-other}
 use Rattle.board.specs.Boards.{BoardsBelow}
 use Rattle.board.specs.Masks.{maskRows, MasksOf, Standing}
 use Rattle.covers.specs.Covers.{RowOf, isHiddenBy, hiddenBy, hiddenAt, receivedAt, coverAt, CoverWord, Sheet, CoverRows}

@@ -1,2 +1,1 @@
 pub mod Covering
-pub mod Counting

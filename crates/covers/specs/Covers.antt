@@ -1,15 +1,16 @@
--- What stands directly before a send, in words, and the P rows in the order in which they are written. The model's sentence is in
--- `Rattle.model.specs.Cure`; that they agree is a law of crate cure. Assumes nothing.
+-- What stands directly before a send, in words. The model's sentence is in `Rattle.model.specs.Cure`; that they agree is a law of crate
+-- cure. Assumes nothing.
 use mathlib.Core.Path.{_≡_}
 use mathlib.Core.Bool.{Bool, not, cond, _&&_, _||_}
-use mathlib.Core.List.{List, [], _∷_, _++_}
-use Prim.Native.Nat.{ℕ, zero, suc, _+_, _*_, _%_, _<_, _≤_}
+use mathlib.Core.List.{List}
+use Prim.Native.Nat.{ℕ, _+_, _*_, _%_, _<_, _≤_}
 use lib.Dec.{eqb, ltb}
 use lib.ListN.{length, getD}
 use Rattle.model.specs.Limits.{messagesMost}
 use Rattle.model.specs.Bounded.{any}
 use Rattle.relation.specs.Width.{width, wordBits}
-use Rattle.relation.specs.Rows.{has, holds, joinedFrom}
+use Rattle.relation.specs.Rows.{has, holds}
+use Rattle.joined_rows.specs.Joins.{joinedFrom}
 use Rattle.board.specs.Boards.{BoardsBelow}
 
 -- the events of a row that stands by itself are those that the test says
@@ -53,12 +54,3 @@ pub record Sheet (count : ℕ) (boards words : List ℕ) : Type 0 where
 pub record CoverRows (count : ℕ) (boards words exit : List ℕ) : Type 0 where
   pub rows : (e x : ℕ) → e < count → x < wordBits * width → holds width exit (2 * e + 1) x ≡ coverAt words boards count e x
   pub same : length exit ≡ length words
-
--- the P rows of event x with the sends of the messages below e; and those of the events below x: by x and then y
-unfoldable pub ordersFrom : List ℕ → ℕ → ℕ → List (ℕ × ℕ)
-ordersFrom words x zero = []
-ordersFrom words x (suc e) = ordersFrom words x e ++ cond (holds width words (2 * e + 1) x) ((x, 2 * e) ∷ []) []
-
-unfoldable pub ordersTo : List ℕ → ℕ → ℕ → List (ℕ × ℕ)
-ordersTo words count zero = []
-ordersTo words count (suc x) = ordersTo words count x ++ ordersFrom words x count

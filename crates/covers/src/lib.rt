@@ -1,14 +1,13 @@
 // What stands directly before each send in the cured order, in words. The row of a message's receive, which the cured order does not need,
 // becomes that of the events directly before its send, on its board.
 ghost use mathlib.Core.Path.{_≡_};
-ghost use mathlib.Core.Bool.{cond};
 ghost use Prim.Native.Nat.{_+_, _*_, _<_, _≤_};
 ghost use lib.ListN.{length, getD};
 ghost use Rattle.model.specs.Limits.{messagesMost};
 ghost use Rattle.relation.specs.Width.{width};
 ghost use Rattle.board.specs.Boards.{BoardsBelow};
 ghost use Rattle.board.specs.Masks.{maskRows, Standing};
-ghost use Rattle.covers.specs.Covers.{RowOf, hiddenBy, hiddenAt, CoverWord, coverAt, Sheet, CoverRows, ordersFrom, ordersTo};
+ghost use Rattle.covers.specs.Covers.{RowOf, hiddenBy, hiddenAt, CoverWord, coverAt, Sheet, CoverRows};
 use relation::SENDS;
 use relation::WIDTH;
 
@@ -22,7 +21,7 @@ fn hide_by(words: &[u64], hidden: &mut [u64], e: usize, k: usize)
     let send = 2 * e;
     let other = 2 * k;
     if relation::test(words, send, other) {
-        relation::join_from(hidden, 0, words, other);
+        joined_rows::join_from(hidden, 0, words, other);
     }
 }
 
@@ -88,44 +87,6 @@ pub fn cover_rows(words: &mut [u64], boards: &[u8], count: usize)
     for e in 0..count {
         let row = cover(words, &masks, boards, count, e);
         let receive = 2 * e + 1;
-        relation::copy_from(words, receive, &row, 0);
+        joined_rows::copy_from(words, receive, &row, 0);
     }
-}
-
-// One for a test that passes.
-fn one_if(passes: bool) -> usize
-    ensures { λ r. ⌜ r ≡ cond passes 1 0 ⌝ }
-    ensures { λ r. ⌜ r ≤ 1 ⌝ }
-{
-    if passes { 1 } else { 0 }
-}
-
-// How many sends event x stands directly before.
-fn count_from(words: &[u64], count: usize, x: usize) -> usize
-    requires { ⌜ (x < 2 * count) × (count ≤ messagesMost) ⌝ }
-    requires { ⌜ 2 * count * width ≤ length (now words) ⌝ }
-    ensures { λ r. ⌜ r ≡ length (ordersFrom (now (words .entry)) x count) ⌝ }
-    ensures { λ r. ⌜ r ≤ count ⌝ }
-{
-    let mut found = 0;
-    for e in 0..count {
-        let receive = 2 * e + 1;
-        found = found + one_if(relation::test(words, receive, x));
-    }
-    found
-}
-
-// The P rows of a cured sheet, counted: the rows of the receives hold what stands directly before the sends.
-pub fn count_orders(words: &[u64], count: usize) -> usize
-    requires { ⌜ count ≤ messagesMost ⌝ }
-    requires { ⌜ 2 * count * width ≤ length (now words) ⌝ }
-    ensures { λ r. ⌜ r ≡ length (ordersTo (now (words .entry)) count (2 * count)) ⌝ }
-    ensures { λ r. ⌜ r ≤ messagesMost * (2 * count) ⌝ }
-{
-    let events = 2 * count;
-    let mut found = 0;
-    for x in 0..events {
-        found = found + count_from(words, count, x);
-    }
-    found
 }

@@ -21,7 +21,8 @@ use Rattle.relation.specs.Width.{width}
 use Rattle.relation.specs.Rows.{holds}
 use Rattle.relation.specs.Scenario.{scenarioIn}
 use Rattle.relation.proofs.Scenario.{before-at, board-at}
-use Rattle.covers.specs.Covers.{isHiddenBy, hiddenAt, receivedAt, coverAt, CoverRows, ordersFrom, ordersTo}
+use Rattle.covers.specs.Covers.{isHiddenBy, hiddenAt, receivedAt, coverAt, CoverRows}
+use Rattle.order_count.specs.Orders.{ordersFrom, ordersTo}
 use Rattle.cured_sheet.specs.Sheet.{messagesIn, sheetRow, rowsIn}
 
 module _ (count : ℕ) (boards words : List ℕ) (few : count ≤ messagesMost) (C : Causal (scenarioIn count boards words)) where

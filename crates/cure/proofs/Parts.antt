@@ -15,13 +15,15 @@ use Rattle.model.specs.Cure.{Written, headingText, rowsText, curedRows, curedTe
 use Rattle.model.proofs.Accepted.{sheet-causal, sheet-count}
 use Rattle.model.proofs.Cure.{cure-promised}
 use Rattle.relation.specs.Rows.{cleared}
+use Rattle.relation.proofs.Cleared.{cleared-all}
 use Rattle.relation.specs.Scenario.{scenarioIn}
 use Rattle.expansion.specs.declared.Expanded.{Expanded}
 use Rattle.expansion.specs.declared.Expanded.the-variants as expanded
 use Rattle.scenario.specs.Contract.{SheetIn}
 use Rattle.scenario.proofs.Laws.{sheet-refused, sheet-is, scratch-behind}
 use Rattle.sheet_text.specs.Writing.{Writes}
-use Rattle.covers.specs.Covers.{CoverRows, ordersTo}
+use Rattle.covers.specs.Covers.{CoverRows}
+use Rattle.order_count.specs.Orders.{ordersTo}
 use Rattle.cured_sheet.specs.Sheet.{rowsIn, textIn}
 use Rattle.cured_sheet.proofs.Rows.{rows-count}
 use Rattle.cure.specs.declared.Answer.{Answer}
@@ -96,14 +98,14 @@ module _ (text scratch output : List ℕ) where
       go true = refl
       go false = refl
 
-  pub answers : (scratchExit outputExit used : List ℕ) (n : ℕ) (r : Answer) → scratchLeast ≤ length scratch → sheetOutputLeast ≤ length output → length used ≡ n
-      → n ≤ scratchLeast → scratchExit ≡ cleared scratchLeast (used ++ drop n scratch) → Decides (andThen (sheetOf text) curedOf) output outputExit r
+  pub answers : (scratchExit outputExit used : List ℕ) (n : ℕ) (r : Answer) (w : ℕ) → scratchLeast ≤ length scratch → sheetOutputLeast ≤ length output → length used ≡ n
+      → n ≤ scratchLeast → scratchExit ≡ cleared w (used ++ drop n scratch) → w ≡ scratchLeast → Decides (andThen (sheetOf text) curedOf) output outputExit r
       → CureChecked text scratch scratchExit output outputExit (numbersFor r)
   unfolding cureOf
-  answers scratchExit outputExit used n r l k e m s d =
+  answers scratchExit outputExit used n r w l k e m s all d =
       let outcome : cureOf text (length scratch) (length output) ≡ andThen (sheetOf text) curedOf =
       rw (le-ltb (length scratch) scratchLeast l, le-ltb (length output) sheetOutputLeast k) in
       cure-promised text scratch scratchExit output outputExit (numbersFor r)
       (d .answer ∙ ap cureNumbers (sym outcome))
-      (s ∙ scratch-behind text scratch used n e m ∙ scratch-same (sheetOf text) ∙ ap (λ (o : Out (List ℕ)). scratchBehind o scratch) (sym outcome))
+      (cleared-all scratchLeast w (used ++ drop n scratch) scratchExit s all ∙ scratch-behind text scratch used n e m ∙ scratch-same (sheetOf text) ∙ ap (λ (o : Out (List ℕ)). scratchBehind o scratch) (sym outcome))
       (d .outputLeft ∙ ap (λ (o : Out (List ℕ)). outputWith o output) (sym outcome))

@@ -26,7 +26,7 @@ fn decide(words: &mut [u64], boards: &[u8], count: usize, output: &mut [u8]) -> 
     ensures { λ r. ⌜ Decides (outcomeIn count (now (boards .entry)) (now (words .exit))) (now (output .entry)) (now (output .exit)) r ⌝ }
 {
     covers::cover_rows(words, boards, count);
-    let orders = covers::count_orders(words, count);
+    let orders = order_count::count_orders(words, count);
     let rows = 1 + count + orders;
     if model::ROWS_MOST < rows {
         return Answer::Refused(model::CURED_ROWS, 0);

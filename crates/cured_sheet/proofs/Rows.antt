@@ -15,7 +15,7 @@ use Rattle.relation.specs.Width.{width}
 use Rattle.relation.specs.Rows.{holds}
 use Rattle.sheet_text.specs.Writing.{Writes, rowOf, rowBytesMost, headingBytes}
 use Rattle.sheet_text.proofs.Putting.{restFrom, withRest, writes-same, rest-written, rest-room, row-few, writes-none}
-use Rattle.covers.specs.Covers.{ordersFrom, ordersTo}
+use Rattle.order_count.specs.Orders.{ordersFrom, ordersTo}
 use Rattle.cured_sheet.specs.Sheet.{messageRow, messagesIn, orderIf, sheetRow, headText, listedText, headMost, rowsIn, textIn}
 
 rows-append : (rs ks : List Written) → rowsText (rs ++ ks) ≡ rowsText rs ++ rowsText ks

@@ -10,7 +10,7 @@ use Rattle.relation.specs.Width.{width}
 use Rattle.relation.specs.Rows.{holds}
 use Rattle.relation.specs.Scenario.{scenarioIn}
 use Rattle.sheet_text.specs.Writing.{rowBytesMost, headingBytes}
-use Rattle.covers.specs.Covers.{ordersTo}
+use Rattle.order_count.specs.Orders.{ordersTo}
 
 -- the M row of message m, whose boards stand at the numbers of its events, and the M rows
 abbrev pub messageRow : List ℕ → ℕ → Written

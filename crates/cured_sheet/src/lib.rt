@@ -6,7 +6,7 @@ ghost use Rattle.model.specs.Limits.{messagesMost, numberMost, rowsMost, sheetO
 ghost use Rattle.model.specs.Cure.{rowText, rowsText, orderRows};
 ghost use Rattle.relation.specs.Width.{width};
 ghost use Rattle.sheet_text.specs.Writing.{Writes, rowBytesMost};
-ghost use Rattle.covers.specs.Covers.{ordersFrom, ordersTo};
+ghost use Rattle.order_count.specs.Orders.{ordersFrom, ordersTo};
 ghost use Rattle.cured_sheet.specs.Sheet.{messageRow, messagesIn, orderIf, headMost, headText, listedText, rowsIn, textIn};
 
 // The letters of the rows.

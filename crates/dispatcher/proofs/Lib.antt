@@ -1,3 +1,2 @@
-pub mod Leaving
 pub mod Room
 pub mod Replies

@@ -7,14 +7,12 @@ use Rattle.model.specs.Limits.{messagesMost, jobsMost}
 use Rattle.model.specs.Order.{Scenario}
 use Rattle.model.specs.Dispatcher as model
 use Rattle.model.specs.Dispatcher.{Desk, admit, turn, cancel, Told, Served, Serves}
-use Rattle.queue.specs.declared.Queue.{Queue}
 use Rattle.queue.specs.Bridge.{emptyQueue}
 use Rattle.last_turn.specs.Answer.{numbersIn}
-use Rattle.held_jobs.specs.Held.{Held, deskOf, HoldsJob, toldWith}
+use Rattle.held_jobs.specs.Held.{Held, deskOf, HoldsJob}
 pub use Rattle.held_jobs.specs.Held.{lent}
 use Rattle.dispatcher.specs.declared.Dispatcher.{Dispatcher}
 use Rattle.dispatcher.specs.declared.DispatcherAnswer.{DispatcherAnswer}
-use Rattle.dispatcher.specs.declared.Left.{Left}
 
 abbrev pub heldIn : Dispatcher → Held
 heldIn d = record { queue = d .queue; given = d .given; races = d .races; boards = d .boards }
@@ -51,11 +49,3 @@ pub record TurnOf (d : Dispatcher) (words trace exit traceExit : List ℕ) (r : 
 
 pub record CancelOf (d : Dispatcher) (n : ℕ) (words exit : List ℕ) (r : Served Dispatcher) : Type 0 where
   pub serves : (sheets lengths codes : List ℕ) → Serves deskIn Holds d (cancel n (lent sheets lengths codes words)) exit [] r
-
--- the dispatcher with the queue that a cancellation leaves; and cancelling as it is of every dispatcher with the queue
-abbrev pub leftBy : Held → Left → Served Held
-leftBy d r = toldWith (r .word) (r .one) 0 (record { queue = r .queue; given = d .given; races = d .races; boards = d .boards })
-
-pub record LeavesIn (queue : Queue) (n : ℕ) (words exit : List ℕ) (r : Left) : Type 0 where
-  pub serves : (d : Held) → d .queue ≡ queue → (sheets lengths codes : List ℕ)
-      → Serves deskOf HoldsJob d (cancel n (lent sheets lengths codes words)) exit [] (leftBy d r)

@@ -1,11 +1,9 @@
 // Several makers at the counter: up to eight jobs, each with its place and its words, and a turn at a time for the head of their queue.
 ghost use mathlib.Core.Path.{_≡_};
 ghost use Rattle.model.specs.Dispatcher.{WholeLists};
-ghost use Rattle.dispatcher.specs.Bridge.{deskIn, Holds, emptied, answerIn, AdmitOf, TurnOf, LeavesIn, CancelOf};
+ghost use Rattle.dispatcher.specs.Bridge.{deskIn, Holds, emptied, answerIn, AdmitOf, TurnOf, CancelOf};
 use admission::Part;
 pub use held_jobs::Boards;
-use held_jobs::CANCELLED;
-use held_jobs::REFUSED;
 use last_turn::Numbers;
 use queue::Queue;
 use share::Race;
@@ -29,13 +27,6 @@ pub struct DispatcherAnswer {
     pub two: u32,
     pub answer: Numbers,
     pub next: Dispatcher,
-}
-
-// What a cancellation leaves: its word and number, and the queue.
-struct Left {
-    word: u32,
-    one: u32,
-    queue: Queue,
 }
 
 impl Dispatcher {
@@ -70,7 +61,7 @@ impl Dispatcher {
         let queue = self.queue;
         let mut boards = self.boards;
         let mut races = self.races;
-        let place = queue.spare_place();
+        let place = taken_places::spare_place(queue);
         let own = boards[place];
         let race = races[place];
         let part = part_of(queue, self.given, race, own);
@@ -131,7 +122,7 @@ impl Dispatcher {
         let queue = self.queue;
         let races = self.races;
         let boards = self.boards;
-        let left = leave(queue, number, words);
+        let left = cancellation::leave(queue, number, words);
         let next = left.queue;
         DispatcherAnswer {
             word: left.word,
@@ -157,35 +148,5 @@ fn part_of(queue: Queue, given: u32, race: Race, boards: Boards) -> Part
         given,
         race,
         boards,
-    }
-}
-
-// A cancellation, from the queue.
-fn leave(queue: Queue, number: u32, words: &mut [u64]) -> Left
-    ensures { λ r. ⌜ LeavesIn queue number (now (words .entry)) (now (words .exit)) r ⌝ }
-{
-    if words.len() < model::JOB_WORDS_LEAST {
-        return Left {
-            word: REFUSED,
-            one: model::BENCH as u32,
-            queue,
-        };
-    }
-    if !queue.holds(number) {
-        let taken = queue.places();
-        places::clear_free(words, taken);
-        return Left {
-            word: REFUSED,
-            one: model::HELD as u32,
-            queue,
-        };
-    }
-    let left = queue.without(number);
-    let taken = left.places();
-    places::clear_free(words, taken);
-    Left {
-        word: CANCELLED,
-        one: number,
-        queue: left,
     }
 }

@@ -28,7 +28,7 @@ use Rattle.sheet.proofs.Bridge.{rows-length, row-call, row-choice}
 use Rattle.walk.specs.Block.{rowsFrom, AllStand}
 use Rattle.walk.proofs.Meeting.{rows-drop}
 use Rattle.levels.specs.Options.{optionsOf, isCall, sheetCalled}
-use Rattle.levels.specs.Levels.{Sheets}
+use Rattle.next_block.specs.Levels.{Sheets}
 use Rattle.levels.proofs.Choosing.{either}
 use Rattle.expansion.specs.Lent.{AreRead, RowsRead}
 

@@ -30,12 +30,12 @@ use Rattle.blocks.proofs.Scenarios.{expanded-same}
 use Rattle.expansion.specs.Lent.{RowsRead}
 use Rattle.expansion.specs.Outcome.{countedOf, zeros}
 use Rattle.levels.specs.Options.{optionsOf}
-use Rattle.levels.specs.Levels.{after, idle, rest, rank, Between, Reaches}
+use Rattle.next_block.specs.Levels.{after, idle, rest, rank, Between, Reaches}
 use Rattle.expansion.specs.declared.Counted.the-variants as counted
-use Rattle.levels.specs.declared.Reached.{Reached}
-use Rattle.levels.specs.declared.Reached.the-variants as reached
+use Rattle.next_block.specs.declared.Reached.{Reached}
+use Rattle.next_block.specs.declared.Reached.the-variants as reached
 use Rattle.expansion.proofs.Reading.{start-zero, start-stand}
-use Rattle.levels.proofs.Closing.{rest-walked, AfterBlock, block-ends, block-more}
+use Rattle.next_block.proofs.Closing.{rest-walked, AfterBlock, block-ends, block-more}
 
 -- the boards are zeros once the loop over them is done
 cleared-zeros : (n : ℕ) (l : List ℕ) → length l ≡ n → cleared n l ≡ zeros n

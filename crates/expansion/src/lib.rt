@@ -1,7 +1,7 @@
 // The expansion of calls: rows in, and a list of options for their A rows; the messages that the walk meets and their causal order in
 // words, or refusal 8 to 10 or 13, out.
 use blocks::PAST;
-use levels::Reached;
+use next_block::Reached;
 use walk::Walk;
 use walk::Walked;
 ghost use mathlib.Core.Path.{_≡_};
@@ -63,7 +63,7 @@ pub fn expand_list(
     let mut at = start[0] as usize;
     let mut here = Walk::fresh();
     loop {
-        match levels::next_block(
+        match next_block::next_block(
             kind,
             one,
             two,

@@ -17,8 +17,9 @@ use Rattle.queue.specs.declared.Queue.{Queue}
 use Rattle.queue.specs.declared.Taken.{Taken}
 use Rattle.queue.specs.declared.Head.{Head}
 use Rattle.queue.specs.declared.Head.the-variants as head
-use Rattle.queue.specs.Bridge.{jobIn, queueIn, PlacesOf, TakenIn, headIn, headOf, FirstPlace}
-use Rattle.queue.proofs.Turns.{turned-places}
+use Rattle.queue.specs.Bridge.{jobIn, queueIn, PlacesOf, headIn, headOf, FirstPlace}
+use Rattle.taken_places.specs.Places.{TakenIn}
+use Rattle.queue_moves.proofs.Turns.{turned-places}
 use Rattle.places.specs.Words.{FreeCleared, ClearedBut}
 use Rattle.places.proofs.Parts.{from, to}
 use Rattle.share.specs.declared.Race.{Race}

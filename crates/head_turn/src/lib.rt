@@ -6,7 +6,8 @@ ghost use Prim.Native.Nat.{_%_, _≤_};
 ghost use lib.ListN.{length};
 ghost use Rattle.model.specs.Limits.{jobsMost, jobWordsLeast, traceLeast};
 ghost use Rattle.model.specs.Dispatcher.{isLast};
-ghost use Rattle.queue.specs.Bridge.{jobIn, queueIn, Counted, TakenIn, headOf, FirstPlace};
+ghost use Rattle.queue.specs.Bridge.{jobIn, queueIn, Counted, headOf, FirstPlace};
+ghost use Rattle.taken_places.specs.Places.{TakenIn};
 ghost use Rattle.last_turn.specs.Answer.{zeros};
 ghost use Rattle.head_turn.specs.Serving.{TakesTurn, TurnIn};
 use held_jobs::ANSWERED;
@@ -69,7 +70,7 @@ fn take(
         job.code as usize,
         job.turns as usize,
     );
-    let turned = queue.turned(job, taken.count);
+    let turned = queue_moves::turned(queue, job, taken.count);
     places::clear_free(words, taken.places);
     let answer = Numbers::zero();
     Turn {
@@ -107,8 +108,8 @@ fn answer(
         job.code as usize,
         trace,
     );
-    let turned = queue.turned(job, count);
-    let left = turned.places();
+    let turned = queue_moves::turned(queue, job, count);
+    let left = taken_places::places(turned);
     places::clear_free(words, left);
     Turn {
         word: ANSWERED,
@@ -137,7 +138,7 @@ pub fn serve(
     if trace.len() < model::TRACE_LEAST {
         return unmoved(REFUSED, model::BENCH as u32, race, queue);
     }
-    let taken = queue.taken();
+    let taken = taken_places::taken(queue);
     let head = queue.head(taken.count);
     let Head::Job(job) = head else {
         places::clear_free(words, taken.places);

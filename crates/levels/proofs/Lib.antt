@@ -1,5 +1,2 @@
 pub mod Choosing
-pub mod Steps
-pub mod Seeking
-pub mod Closing
-pub mod BlockRows
+pub mod Letters

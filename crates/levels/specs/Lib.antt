@@ -1,2 +1,2 @@
 pub mod Options
-pub mod Levels
+pub mod Letters

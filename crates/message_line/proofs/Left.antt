@@ -23,8 +23,8 @@ use Rattle.sheet.specs.Bridge.{rowFrom, rowsOf}
 use Rattle.sheet.proofs.Bridge.{row-sheet, row-message, row-order, row-call, row-choice, row-block}
 use Rattle.walk.specs.Block.{rowsFrom}
 use Rattle.walk.proofs.Meeting.{rows-next, rows-end, rows-drop}
-use Rattle.levels.specs.Levels.{letterAt}
-use Rattle.levels.proofs.Steps.{row-letter}
+use Rattle.levels.specs.Letters.{letterAt}
+use Rattle.levels.proofs.Letters.{row-letter}
 use Rattle.message_line.proofs.Growing.{Lined, KeepsOn, keeps-on, keeps-then, keeps-same, rows-keep, calls-keep}
 
 -- three parts, one after another

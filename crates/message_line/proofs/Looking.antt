@@ -18,8 +18,9 @@ use Rattle.model.specs.Expansion.{freshWalk, startOf, blockOpened, callMade, me
 use Rattle.model.specs.Senders.{withLines, lineOps}
 use Rattle.sheet.specs.Bridge.{rowsOf}
 use Rattle.levels.specs.Options.{isCall, sheetCalled}
-use Rattle.levels.specs.Levels.{letterAt, rank, Sheets}
-use Rattle.levels.proofs.Steps.{row-there, row-letter}
+use Rattle.levels.specs.Letters.{letterAt}
+use Rattle.next_block.specs.Levels.{rank, Sheets}
+use Rattle.levels.proofs.Letters.{row-there, row-letter}
 use Rattle.levels.proofs.Choosing.{called-c}
 use Rattle.expansion.specs.Lent.{RowsRead}
 use Rattle.expansion.proofs.Reading.{start-long, start-zero, sheets-lent}

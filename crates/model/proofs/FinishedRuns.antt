@@ -8,12 +8,14 @@ use mathlib.Core.Bool.{Bool, true, false, not, cond, _&&_, _||_}
 use mathlib.Core.List.{List, [], _∷_, _++_}
 use borrow.Author.Tests.{eqb-true, leb-true, not-true}
 use lib.Dec.{eqb, ltb}
+use lib.ListN.{length}
 use Rattle.model.specs.Refusal.{ok}
 use Rattle.model.specs.Order.{Event, sendOf, receiveOf, number, messageOf, Scenario}
 use Rattle.model.specs.Channel.{Channel, channelOf}
 use Rattle.model.specs.Run.{State, start, Step, send, deliver, consume, withDone, next, everyEvent, isAhead, ready, allowed, isOrderFrom, after, finished, IsOrder, EndsFinished}
 use Rattle.model.specs.Answer.{sheetOf, acceptedOf}
 use Rattle.model.specs.Wired.{eventsOf, occurrences, Rearranged, FinishedRuns}
+use Rattle.model.proofs.Lists.{same-first, same-rest, first-and-rest}
 use Rattle.model.proofs.Bounded.{and-left, and-right, and-both, which}
 use Rattle.model.proofs.Events.{number-injective}
 use Rattle.model.proofs.Causal.{Causal}
@@ -101,16 +103,16 @@ record Cut (ts : List Step) (ahead : List Event) : Type 0 where
 cut : (ts : List Step) (ahead behind : List Event) → eventsOf ts ≡ ahead ++ behind → Cut ts ahead
 unfolding eventsOf
 cut ts [] behind e = record { first = []; rest = ts; whole = refl; events = refl }
-cut [] (x ∷ ahead) behind e = let z : _≡_ {A = ℕ} 0 1 = cc in absurd (omega arith)
+cut [] (x ∷ ahead) behind e = absurd (omega (arith, ap length e))
 cut (send m ∷ ts) (x ∷ ahead) behind e =
-    let k = cut ts ahead behind (cc) in
-    record { first = send m ∷ k .first; rest = k .rest; whole = ap (λ us. send m ∷ us) (k .whole); events = cc (k .events) }
+    let k = cut ts ahead behind (same-rest e) in
+    record { first = send m ∷ k .first; rest = k .rest; whole = ap (λ us. send m ∷ us) (k .whole); events = first-and-rest (same-first e) (k .events) }
 cut (deliver m ∷ ts) (x ∷ ahead) behind e =
     let k = cut ts (x ∷ ahead) behind e in
     record { first = deliver m ∷ k .first; rest = k .rest; whole = ap (λ us. deliver m ∷ us) (k .whole); events = k .events }
 cut (consume m ∷ ts) (x ∷ ahead) behind e =
-    let k = cut ts ahead behind (cc) in
-    record { first = consume m ∷ k .first; rest = k .rest; whole = ap (λ us. consume m ∷ us) (k .whole); events = cc (k .events) }
+    let k = cut ts ahead behind (same-rest e) in
+    record { first = consume m ∷ k .first; rest = k .rest; whole = ap (λ us. consume m ∷ us) (k .whole); events = first-and-rest (same-first e) (k .events) }
 
 module _ (S : Scenario) (C : Causal S) (c : Channel) where
   -- the same over the phases that the order reaches

@@ -29,10 +29,11 @@ use Rattle.step.specs.declared.StepOrNone.{StepOrNone}
 use Rattle.step.specs.declared.StepOrNone.the-variants as told
 use Rattle.step.specs.Steps.{stepIn, stepOrNone}
 use Rattle.run.specs.declared.Run.{Run}
-use Rattle.run.specs.State.{stateOf, Reaches, Follows}
+use Rattle.run.specs.State.{stateOf, Reaches}
 use Rattle.run.proofs.States.{reaches}
+use Rattle.next_state.specs.Behind.{Follows}
 use Rattle.channel.proofs.StepTests.{allowed-inside}
-use Rattle.channel.specs.Steps.{Says}
+use Rattle.step_rules.specs.Steps.{Says}
 use Rattle.monitor.specs.declared.Monitor.{Monitor}
 use Rattle.monitor.specs.Bridge.{heldIn, zeros, refusedAs, forbiddenAs, takenAs, Fresh, Begins, Takes, Steps, Switches}
 

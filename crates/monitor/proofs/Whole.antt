@@ -19,6 +19,7 @@ use Rattle.model.proofs.Refusal.{not-refused}
 use Rattle.model.proofs.Accepted.{sheet-meets}
 use Rattle.model.proofs.Monitor.{held-code, whole-lists}
 use Rattle.relation.specs.Rows.{cleared}
+use Rattle.relation.proofs.Cleared.{cleared-all}
 use Rattle.scenario.proofs.Laws.{scratch-behind}
 use Rattle.run.specs.State.{stateOf}
 use Rattle.monitor.specs.declared.Monitor.{Monitor}
@@ -79,17 +80,17 @@ module _ (text : List ℕ) (code : ℕ) (scratch : List ℕ) (m : Monitor) (r : 
   pub open-short : code < channels → length scratch < scratchLeast → r ≡ refusedAs benchRefusal 0 m → Promise scratch
   open-short h l e = refuses benchRefusal (short text code (length scratch) h l) e (omega arith)
 
-pub opens : (text : List ℕ) (code : ℕ) (scratch scratchExit used : List ℕ) (n : ℕ) (r : Reply) → code < channels → scratchLeast ≤ length scratch
-    → length used ≡ n → n ≤ scratchLeast → scratchExit ≡ cleared scratchLeast (used ++ drop n scratch) → Begins (sheetOf text) code r
+pub opens : (text : List ℕ) (code : ℕ) (scratch scratchExit used : List ℕ) (n : ℕ) (r : Reply) (k : ℕ) → code < channels → scratchLeast ≤ length scratch
+    → length used ≡ n → n ≤ scratchLeast → scratchExit ≡ cleared k (used ++ drop n scratch) → k ≡ scratchLeast → Begins (sheetOf text) code r
     → Opened heldIn zeros text code scratch scratchExit r × WholeLists heldIn zeros
-opens text code scratch scratchExit used n r h l e m s b =
+opens text code scratch scratchExit used n r k h l e m s all b =
     let w = lent text code (length scratch) h l in
     let at : (o : Out Scenario) → watchable text code (length scratch) ≡ o → Begins o code r
     = λ o i. subst (λ (q : Out Scenario). Begins q code r) (sym w ∙ i) b in (
       record {
         refusedWhen = λ number line i. at (refusal number line) i;
         openedWhen = λ S i. let f = at (ok S) i in (f .word, f .one, f .two, f .state, sheet-meets text S (sym w ∙ i));
-        scratchLeft = s ∙ scratch-behind text scratch used n e m ∙ ap (λ (o : Out Scenario). scratchBehind o scratch) (sym w);
+        scratchLeft = cleared-all scratchLeast k (used ++ drop n scratch) scratchExit s all ∙ scratch-behind text scratch used n e m ∙ ap (λ (o : Out Scenario). scratchBehind o scratch) (sym w);
       },
       whole-lists heldIn zeros,
     )
@@ -167,14 +168,14 @@ module _ (m : Monitor) (kind message : ℕ) (text scratch : List ℕ) (r : Reply
             forbidden = λ f. q;
           }
 
-  pub steps : (scratchExit used : List ℕ) (n : ℕ) (told : Option runs.Step) → m .code < channels → scratchLeast ≤ length scratch
-      → length used ≡ n → n ≤ scratchLeast → scratchExit ≡ cleared scratchLeast (used ++ drop n scratch) → told ≡ stepTold kind message
+  pub steps : (scratchExit used : List ℕ) (n : ℕ) (told : Option runs.Step) (k : ℕ) → m .code < channels → scratchLeast ≤ length scratch
+      → length used ≡ n → n ≤ scratchLeast → scratchExit ≡ cleared k (used ++ drop n scratch) → k ≡ scratchLeast → told ≡ stepTold kind message
       → Steps (sheetOf text) m told r → StepPromise scratchExit
-  steps scratchExit used n told h l e f s t b =
+  steps scratchExit used n told k h l e f s all t b =
       let w = lent text (m .code) (length scratch) h l in (
         record {
           refusedWhen = λ number line i. subst (λ (o : Out Scenario). Steps o m told r) (sym w ∙ i) b;
-          scratchLeft = s ∙ scratch-behind text scratch used n e f ∙ ap (λ (o : Out Scenario). scratchBehind o scratch) (sym w);
+          scratchLeft = cleared-all scratchLeast k (used ++ drop n scratch) scratchExit s all ∙ scratch-behind text scratch used n e f ∙ ap (λ (o : Out Scenario). scratchBehind o scratch) (sym w);
           byTheRules = λ S code cs isSheet known held. step-rules S told t l (subst (λ (o : Out Scenario). Steps o m told r) isSheet b);
         },
         whole-lists heldIn zeros,
@@ -278,14 +279,14 @@ module _ (m : Monitor) (code : ℕ) (text scratch : List ℕ) (r : Reply) where
       go false i f = not-refused (sym f)
   judged-refused (refusal n l) number line p e = same-refusal n l number line m r p e
 
-  pub switches : (scratchExit used : List ℕ) (n : ℕ) → code < channels → scratchLeast ≤ length scratch
-      → length used ≡ n → n ≤ scratchLeast → scratchExit ≡ cleared scratchLeast (used ++ drop n scratch)
+  pub switches : (scratchExit used : List ℕ) (n k : ℕ) → code < channels → scratchLeast ≤ length scratch
+      → length used ≡ n → n ≤ scratchLeast → scratchExit ≡ cleared k (used ++ drop n scratch) → k ≡ scratchLeast
       → Switches (sheetOf text) m code r → SwitchPromise scratchExit
-  switches scratchExit used n h l e f s b =
+  switches scratchExit used n k h l e f s all b =
       let w = switch-judged h l in (
         record {
           refusedWhen = λ number line i. judged-refused (sheetOf text) number line b (sym w ∙ i);
-          scratchLeft = s ∙ scratch-behind text scratch used n e f ∙ same-scratch (sheetOf text) ∙ ap (λ (o : Out Scenario). scratchBehind o scratch) (sym w);
+          scratchLeft = cleared-all scratchLeast k (used ++ drop n scratch) scratchExit s all ∙ scratch-behind text scratch used n e f ∙ same-scratch (sheetOf text) ∙ ap (λ (o : Out Scenario). scratchBehind o scratch) (sym w);
           byTheRules = λ S opened cs isSheet known held. switch-rules S h l (subst (λ (o : Out Scenario). Switches o m code r) isSheet b);
         },
         whole-lists heldIn zeros,

@@ -113,7 +113,7 @@ impl Monitor {
         let c = channel_table::channel_of(code as usize);
         let run = self.run;
         if channel::allowed_in(run, words, &masks, boards, count, c, step) {
-            return taken(run.next(boards, step), code);
+            return taken(next_state::next(run, boards, step), code);
         }
         forbidden(self)
     }

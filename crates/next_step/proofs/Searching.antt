@@ -26,11 +26,12 @@ use Rattle.step.specs.declared.StepOrNone.the-variants as maybe
 use Rattle.step.specs.Steps.{stepIn, messageIn, stepOrNone}
 use Rattle.run.specs.State.{stateOf}
 use Rattle.buffers.specs.Held.{HeldAnywhere}
-use Rattle.candidates.specs.declared.classes.Class.{Class}
-use Rattle.candidates.specs.declared.classes.Class.the-variants.{AnySend}
-use Rattle.candidates.specs.Classes.{classIn, stepFor}
-use Rattle.candidates.specs.Candidates.{fits, OfRuns, CandidatesIn, NextIn}
-use Rattle.candidates.proofs.EachClass.{step-is, message-is}
+use Rattle.step_classes.specs.declared.Class.{Class}
+use Rattle.step_classes.specs.declared.Class.the-variants.{AnySend}
+use Rattle.step_classes.specs.Classes.{classIn, stepFor}
+use Rattle.candidates.specs.Candidates.{fits, OfRuns, CandidatesIn}
+use Rattle.next_message.specs.Next.{NextIn}
+use Rattle.step_classes.proofs.EachClass.{step-is, message-is}
 use Rattle.channel.specs.Steps.{SaysIn}
 use Rattle.channel.proofs.StepTests.{allowed-inside}
 use Rattle.next_step.specs.Search.{classAt, Fits, Lowest, ChosenIn}

@@ -12,9 +12,9 @@ use Rattle.run.specs.declared.Run.{Run}
 use Rattle.step.specs.declared.StepOrNone.{StepOrNone}
 use Rattle.step.specs.Steps.{stepOrNone}
 use Rattle.run.specs.State.{stateOf}
-use Rattle.candidates.specs.declared.classes.Class.{Class}
-use Rattle.candidates.specs.declared.classes.Class.the-variants.{AnyConsume, DeliveryOf, NeededDelivery, NeededSend, AnyDelivery, AnySend}
-use Rattle.candidates.specs.Classes.{classIn}
+use Rattle.step_classes.specs.declared.Class.{Class}
+use Rattle.step_classes.specs.declared.Class.the-variants.{AnyConsume, DeliveryOf, NeededDelivery, NeededSend, AnyDelivery, AnySend}
+use Rattle.step_classes.specs.Classes.{classIn}
 use Rattle.candidates.specs.Candidates.{fits, OfRuns}
 
 -- the classes, in the order in which they are tried

@@ -5,11 +5,11 @@ ghost use Rattle.board.specs.Masks.{Standing};
 ghost use Rattle.buffers.specs.Held.{HeldAnywhere};
 ghost use Rattle.next_step.specs.Search.{classAt, Fits, Lowest, ChosenIn};
 use buffers::HELD_WORDS;
-use candidates::Class;
 use channel::may_step;
 use channel_table::Channel;
 use relation::WIDTH;
 use step::StepOrNone;
+use step_classes::Class;
 
 // Message m is of the class and its step is allowed, in every run with these parts: what is done, what is under way, and the
 // rows of the buffers.
@@ -30,10 +30,10 @@ fn fits_class<'a>(
     requires { ⌜ (e < count) × (m < count) ⌝ }
     ensures { λ r. ⌜ Fits count (now (boards .entry)) (now (words .entry)) c (now (done .entry)) (now (way .entry)) (now (rows .entry)) e class m r ⌝ }
 {
-    if !candidates::takes(words, boards, count, e, class, m) {
+    if !step_classes::takes(words, boards, count, e, class, m) {
         return false;
     }
-    let step = candidates::step_of(class, m);
+    let step = step_classes::step_of(class, m);
     may_step(words, masks, boards, count, c, done, way, rows, step)
 }
 
@@ -57,15 +57,15 @@ fn lowest<'a>(
     ensures { λ r. ⌜ Lowest count (now (boards .entry)) (now (words .entry)) c (now (done .entry)) (now (way .entry)) (now (rows .entry)) e class r ⌝ }
 {
     let among = candidates::candidates(words, done, way, held, e, class);
-    let mut m = candidates::next_in(&among, 0);
+    let mut m = next_message::next_in(&among, 0);
     while m < count {
         if fits_class(words, masks, boards, count, c, done, way, rows, e, class, m) {
-            return StepOrNone::Step(candidates::step_of(class, m));
+            return StepOrNone::Step(step_classes::step_of(class, m));
         }
         if m + 1 == count {
             return StepOrNone::Nothing;
         }
-        m = candidates::next_in(&among, m + 1);
+        m = next_message::next_in(&among, m + 1);
     }
     StepOrNone::Nothing
 }

@@ -14,7 +14,7 @@ use Rattle.model.specs.Answer.{refusedWord, answerFor, numbersOf, scratchBehind
 use Rattle.model.specs.Senders.{permittedOf, PermittedCheck}
 use Rattle.model.proofs.Permitted.{permitted-check}
 use Rattle.relation.specs.Rows.{cleared}
-use Rattle.relation.proofs.Cleared.{cleared-behind}
+use Rattle.relation.proofs.Cleared.{cleared-behind, cleared-all}
 use Rattle.verdict.specs.declared.Answer.{Answer}
 use Rattle.verdict.specs.Parts.{numbersFor, Decides}
 use Rattle.permitted.specs.Parts.{sheetWith}
@@ -57,14 +57,14 @@ module _ (text : List ℕ) (code : ℕ) (scratch trace table : List ℕ) where
       refuses benchRefusal (omega arith)
       (rw (lt-ltb code channels h, lt-ltb (length trace) traceLeast l, or-true (ltb (length scratch) scratchLeast)))
 
-  pub answers : (scratchExit traceExit used : List ℕ) (n : ℕ) (r : Answer) → code < channels → scratchLeast ≤ length scratch → traceLeast ≤ length trace
-      → length used ≡ n → n ≤ scratchLeast → scratchExit ≡ cleared scratchLeast (used ++ drop n scratch) → Decides (sheetWith text table) code trace traceExit r
+  pub answers : (scratchExit traceExit used : List ℕ) (n : ℕ) (r : Answer) (w : ℕ) → code < channels → scratchLeast ≤ length scratch → traceLeast ≤ length trace
+      → length used ≡ n → n ≤ scratchLeast → scratchExit ≡ cleared w (used ++ drop n scratch) → w ≡ scratchLeast → Decides (sheetWith text table) code trace traceExit r
       → PermittedCheck text code scratch scratchExit trace traceExit table (numbersFor r)
   unfolding permittedOf sheetWith
-  answers scratchExit traceExit used n r h l k e m s d =
+  answers scratchExit traceExit used n r w h l k e m s all d =
       let same : outcome ≡ sheetWith text table =
       rw (lt-ltb code channels h, le-ltb (length scratch) scratchLeast l, le-ltb (length trace) traceLeast k) in
       permitted-check text code scratch scratchExit trace traceExit table (numbersFor r)
       (d .answer ∙ ap (λ (o : Out Scenario). numbersOf (answerFor o code)) (sym same))
-      (s ∙ scratch-left text table scratch used n e m ∙ ap (λ (o : Out Scenario). scratchBehind o scratch) (sym same))
+      (cleared-all scratchLeast w (used ++ drop n scratch) scratchExit s all ∙ scratch-left text table scratch used n e m ∙ ap (λ (o : Out Scenario). scratchBehind o scratch) (sym same))
       (d .traceLeft ∙ ap (λ (o : Out Scenario). traceAfter (answerFor o code) trace) (sym same))

@@ -1,4 +1,4 @@
 pub mod Room
 pub mod Jobs
 pub mod Apart
-pub mod Turns
+pub mod Heads

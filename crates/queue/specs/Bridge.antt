@@ -3,8 +3,8 @@ use mathlib.Core.Path.{_≡_}
 use mathlib.Core.Bool.{Bool, not, cond, _&&_}
 use mathlib.Core.List.{List, [], _∷_}
 use mathlib.Core.Option.{Option, none, some}
-use Prim.Native.Nat.{ℕ, zero, suc, _%_, _<_, _≤_}
-use lib.Dec.{eqb, ltb}
+use Prim.Native.Nat.{ℕ, _%_, _<_, _≤_}
+use lib.Dec.{ltb}
 use lib.ListN.{length, take, replicate}
 use Rattle.model.specs.Limits.{jobsMost}
 use Rattle.model.specs.Bounded.{among, lowest}
@@ -13,9 +13,6 @@ use Rattle.model.specs.Dispatcher.{placesOf}
 use Rattle.relation.specs.Rows.{has}
 use Rattle.queue.specs.declared.Job.{Job}
 use Rattle.queue.specs.declared.Queue.{Queue}
-use Rattle.queue.specs.declared.Taken.{Taken}
-use Rattle.queue.specs.declared.Place.{Place}
-use Rattle.queue.specs.declared.Place.the-variants as place
 use Rattle.queue.specs.declared.Head.{Head}
 use Rattle.queue.specs.declared.Head.the-variants as head
 
@@ -50,29 +47,12 @@ pub record Counted (q : Queue) (count : ℕ) : Type 0 where
 pub record PlacesOf (js : List model.Job) (bits : ℕ) : Type 0 where
   pub bit : (p : ℕ) → p < jobsMost → has bits p ≡ among p (placesOf js)
 
--- a job may be put in the place, bit p of the word standing for place p: it is one of the eight, and not taken
-pub record MayStand (taken place : ℕ) (r : Bool) : Type 0 where
-  pub is : r ≡ (ltb place jobsMost && not (has taken place))
-
-pub record TakenIn (q : Queue) (r : Taken) : Type 0 where
-  pub counted : Counted q (r .count)
-  pub taken : PlacesOf (queueIn q) (r .places)
-
 -- no job of the queue is in the place; the lowest such place
 abbrev pub isFreeIn : List model.Job → ℕ → Bool
 isFreeIn js p = not (among p (placesOf js))
 
 abbrev pub freePlaceIn : List model.Job → Option ℕ
 freePlaceIn js = lowest jobsMost (isFreeIn js)
-
-abbrev pub placeIn : Place → Option ℕ
-placeIn (place.At p) = some p
-placeIn place.Nothing = none
-
--- the lowest free place, where there is one; one of the eight in any case
-pub record SparePlace (js : List model.Job) (p : ℕ) : Type 0 where
-  pub below : p < jobsMost
-  pub lowest : (k : ℕ) → freePlaceIn js ≡ some k → p ≡ k
 
 -- the head of the queue
 abbrev pub headOf : List model.Job → Option model.Job
@@ -87,8 +67,3 @@ headIn head.Nothing = none
 pub record FirstPlace (js : List model.Job) (p : ℕ) : Type 0 where
   pub below : p < jobsMost
   pub head : (j : model.Job) → headOf js ≡ some j → p ≡ j .place % jobsMost
-
--- where the first job with the number stands; as many as there are, if none has it
-unfoldable pub positionOf : ℕ → List model.Job → ℕ
-positionOf n [] = 0
-positionOf n (j ∷ js) = cond (eqb (j .number) n) 0 (suc (positionOf n js))

@@ -1,30 +1,18 @@
--- The race test at event numbers, and the search for the lowest message that races. Assumes nothing.
-use mathlib.Core.Path.{_≡_, refl, sym, _∙_, ap, subst, subst⁻¹}
-use mathlib.Core.Logic.{⊎-elim}
-use mathlib.Core.Bool.{Bool, true, false, not, cond, _&&_, _||_}
+-- The race test at event numbers. Assumes nothing.
+use mathlib.Core.Path.{_≡_, refl}
+use mathlib.Core.Bool.{Bool, true, false, not, cond, _&&_}
 use mathlib.Core.List.{List}
-use mathlib.Core.Option.{Option, none, some}
-use Prim.Native.Nat.{ℕ, _+_, _*_, _-_, _/_, _%_, _<_, _≤_}
+use Prim.Native.Nat.{ℕ, _+_, _*_, _-_, _/_, _%_, _<_}
 use native.Mathlib.Omega.{arith}
-use native.Mathlib.Numerals.{add-one}
 use lib.Dec.{eqb}
 use lib.ListN.{getD}
-use borrow.Author.Tests.{ne-eqb}
-use Rattle.model.specs.Order.{Event, sendOf, receiveOf, number, event, board, atOrBefore}
-use Rattle.model.specs.Race.{RaceRule, byEvent, byOrigin, never, origin, escapes, isRace, races, lowestEvent, lowestMessage, lowestRace}
-use Rattle.model.specs.Bounded.{lowest}
-use Rattle.model.proofs.Events.{number-event, at-or-before-same}
+use Rattle.model.specs.Order.{sendOf, receiveOf, event, atOrBefore}
+use Rattle.model.specs.Race.{RaceRule, byEvent, byOrigin, origin, escapes, isRace}
 use Rattle.model.proofs.Events.{send-event, receive-event}
-use Rattle.model.proofs.Bounded.{which, not-both, any-from, any-some, lowest-none, lowest-some, lowest-hit, lowest-miss, lowest-nowhere}
 use Rattle.relation.specs.Width.{width}
 use Rattle.relation.specs.Rows.{holds}
 use Rattle.relation.specs.Scenario.{scenarioIn}
 use Rattle.relation.proofs.Scenario.{before-at, board-at}
-use Rattle.race.specs.declared.Rule.{Rule}
-use Rattle.race.specs.declared.Rule.the-variants.{Never}
-use Rattle.race.specs.declared.Found.{Found}
-use Rattle.race.specs.declared.Found.the-variants as found
-use Rattle.race.specs.Bridge.{ruleIn, foundIn}
 
 -- the origin of an event has the even number at or below its own
 pub origin-event : (x : ℕ) → origin (event x) ≡ event (x - x % 2)
@@ -39,11 +27,6 @@ origin-event x =
     go false = refl
 
 module _ (count : ℕ) (boards words : List ℕ) where
-  pub at-or-before-at : (x y : ℕ) → x < 2 * count → y < 2 * count
-      → atOrBefore (scenarioIn count boards words) (event x) (event y) ≡ (eqb x y || holds width words y x)
-  unfolding atOrBefore
-  at-or-before-at x y l h = rw (before-at count boards words x y l h, number-event x, number-event y)
-
   pub by-event : (e x : ℕ) → escapes (scenarioIn count boards words) byEvent e (event x)
       ≡ not (atOrBefore (scenarioIn count boards words) (event x) (event (2 * e)))
   unfolding escapes
@@ -60,85 +43,3 @@ module _ (count : ℕ) (boards words : List ℕ) where
   unfolding isRace
   race-at r e x l h =
       rw (board-at count boards words x, ← receive-event e, before-at count boards words x (2 * e + 1) h (omega arith))
-
-  -- What each return of the code is to show, from what led there.
-  pub at-same : (x y : ℕ) → x ≡ y → true ≡ atOrBefore (scenarioIn count boards words) (event x) (event y)
-  at-same x y e = sym (at-or-before-same (scenarioIn count boards words) (event x) (event y) (ap event e))
-
-  pub at-other : (x y : ℕ) (r : Bool) → (x ≡ y → ⊥) → r ≡ holds width words y x → (x < 2 * count) × (y < 2 * count)
-      → r ≡ atOrBefore (scenarioIn count boards words) (event x) (event y)
-  at-other x y r d h l = h ∙ sym (at-or-before-at x y (l .0) (l .1) ∙ rw (ne-eqb x y d))
-
-  -- a message races where its search finds an event
-  races-none : (q : RaceRule) (e : ℕ) → lowestEvent (scenarioIn count boards words) q e ≡ none → races (scenarioIn count boards words) q e ≡ false
-  unfolding lowestEvent races
-  races-none q e h =
-      ⊎-elim
-      (λ (t : races (scenarioIn count boards words) q e ≡ true).
-      let k = any-some (2 * count) (λ j. isRace (scenarioIn count boards words) q e (event j)) t in
-      not-both _ (k .2) (lowest-none (2 * count) (λ j. isRace (scenarioIn count boards words) q e (event j)) h (k .0) (k .1)))
-      (λ f. f)
-      (which (races (scenarioIn count boards words) q e))
-
-  races-some : (q : RaceRule) (e x : ℕ) → lowestEvent (scenarioIn count boards words) q e ≡ some x → races (scenarioIn count boards words) q e ≡ true
-  unfolding lowestEvent races
-  races-some q e x h =
-      let L = lowest-some (2 * count) (λ j. isRace (scenarioIn count boards words) q e (event j)) x h in
-      any-from (2 * count) (λ j. isRace (scenarioIn count boards words) q e (event j)) x (L .below) (L .passes)
-
-  -- the search for the lowest message: none below e races
-  pub record Passed (q : RaceRule) (e : ℕ) : Type 0 where
-    pub within : e ≤ count
-    pub passed : lowest e (races (scenarioIn count boards words) q) ≡ none
-
-  pub messages-begin : (q : RaceRule) → Passed q 0
-  unfolding lowest
-  messages-begin q = record { within = omega arith; passed = refl }
-
-  pub messages-go-on : (q : RaceRule) (e : ℕ) (f : Found) → Passed q e → f ≡ found.Nothing
-      → foundIn f ≡ lowestEvent (scenarioIn count boards words) q e → e < count → Passed q (e + 1)
-  messages-go-on q e f p i h l =
-      record { within = omega arith; passed = rw add-one (lowest-miss e (races (scenarioIn count boards words) q) (p .passed) (races-none q e (sym h ∙ ap foundIn i))) }
-
-  pub messages-find : (q : RaceRule) (e x : ℕ) (f : Found) → Passed q e → f ≡ found.Event x
-      → foundIn f ≡ lowestEvent (scenarioIn count boards words) q e → e < count → some (e, x) ≡ lowestRace (scenarioIn count boards words) q
-  unfolding lowestRace lowestMessage
-  messages-find q e x f p i h l =
-      let at : lowestEvent (scenarioIn count boards words) q e ≡ some x = sym h ∙ ap foundIn i in
-      let m : lowest count (races (scenarioIn count boards words) q) ≡ some e =
-      lowest-hit count e (races (scenarioIn count boards words) q) (p .passed) (races-some q e x at) l in
-      let race : Option (ℕ × ℕ) = some (e, x) in
-      subst⁻¹
-      (λ (o : Option ℕ). race ≡ elim o [ none ↦ none | some i ↦ elim (lowestEvent (scenarioIn count boards words) q i) [ none ↦ none | some y ↦ some (i, y) ] ]) m
-      (subst⁻¹ (λ (o : Option ℕ). race ≡ elim o [ none ↦ none | some y ↦ some (e, y) ]) at refl)
-
-  pub messages-end : (q : RaceRule) (e : ℕ) → Passed q e → count ≤ e → none ≡ lowestRace (scenarioIn count boards words) q
-  unfolding lowestRace lowestMessage
-  messages-end q e p l =
-      let i : e ≡ count = omega (arith, p .within) in
-      let m : lowest count (races (scenarioIn count boards words) q) ≡ none =
-      subst (λ (k : ℕ). lowest k (races (scenarioIn count boards words) q) ≡ none) i (p .passed) in
-      sym (rw (m, lowestRace, lowestMessage))
-
-  -- on the lazy channels no message races
-  escapes-never : (e : ℕ) (x : Event) → isRace (scenarioIn count boards words) never e x ≡ false
-  unfolding isRace escapes
-  escapes-never e x = falls (eqb (board (scenarioIn count boards words) x) (getD boards (2 * e + 1) 0)) ((scenarioIn count boards words) .before x (receiveOf e))
-    where
-      falls : (a b : Bool) → (a && b && false) ≡ false
-      falls true true = refl
-      falls true false = refl
-      falls false b = refl
-
-  pub never-races : (r : Rule) → r ≡ Never → none ≡ lowestRace (scenarioIn count boards words) (ruleIn r)
-  unfolding lowestEvent
-  never-races r i =
-      subst⁻¹ (λ (q : RaceRule). none ≡ lowestRace (scenarioIn count boards words) q) (ap ruleIn i)
-      (messages-end never count
-      (record {
-        within = omega arith;
-        passed =
-            lowest-nowhere count (races (scenarioIn count boards words) never)
-            (λ e h. races-none never e (lowest-nowhere (2 * count) (λ j. isRace (scenarioIn count boards words) never e (event j)) (λ k l. escapes-never e (event k))));
-      })
-      (omega arith))

@@ -1,57 +1,30 @@
--- The words of the race test, bit by bit, and the search for the lowest event by words. Assumes nothing.
-use mathlib.Core.Path.{_≡_, refl, sym, _∙_, ap, subst}
+-- The words of the race test, bit by bit. Assumes nothing.
+use mathlib.Core.Path.{_≡_, refl, sym, _∙_, ap}
 use mathlib.Core.Bool.{Bool, true, false, not, _&&_, _||_, and-false, or-false}
 use mathlib.Core.List.{List}
-use mathlib.Core.Option.{none, some}
-use Prim.Native.Nat.{ℕ, zero, suc, _+_, _*_, _-_, _/_, _%_, _^_, _<_, _≤_}
+use Prim.Native.Nat.{ℕ, zero, suc, _+_, _*_, _-_, _%_, _^_, _<_}
 use native.Mathlib.Decide.{ℕ-discrete, decLt}
 use native.Mathlib.Omega.{arith}
 use lib.Bits.{bitAnd, bitOr}
-use lib.Count.{trailingZeros, leadingZeros, trailing-le, leading-le}
 use lib.Dec.{eqb, ltb}
 use lib.ListN.{getD}
-use borrow.Author.Tests.{eq-eqb, ne-eqb, lt-ltb, le-ltb, ltb-true}
+use borrow.Author.Tests.{eq-eqb, ne-eqb, lt-ltb, le-ltb}
 use Rattle.model.specs.Limits as limits
 use Rattle.model.specs.Order.{event}
-use Rattle.model.specs.Race.{RaceRule, byEvent, byOrigin, never, escapes, isRace, lowestEvent}
-use Rattle.model.specs.Bounded.{lowest}
-use Rattle.model.proofs.Bounded.{and-left, and-right, lowest-hit, lowest-nowhere}
+use Rattle.model.specs.Race.{RaceRule, byEvent, byOrigin, never, escapes, isRace}
 use Rattle.relation.specs.Width.{width, wordBits}
 use Rattle.relation.specs.Rows.{has, holds}
 use Rattle.relation.specs.Scenario.{scenarioIn}
-use Rattle.relation.proofs.Bits.{has-zero, has-or, has-power, mask-power}
-use Rattle.relation.proofs.Tests.{eqb-same}
-use Rattle.relation.proofs.Words.{has-and, has-not, trailing-clear, trailing-set, trailing-below, shift-lowest, shift-higher, evenBits, has-even-bits, word-holds}
+use Rattle.relation.proofs.Bits.{has-zero, has-or}
+use Rattle.relation.proofs.Words.{has-and, has-not, shift-lowest, shift-higher, evenBits, has-even-bits, word-holds}
 use Rattle.board.specs.Masks.{Standing}
 use Rattle.race.specs.declared.Rule.{Rule}
 use Rattle.race.specs.declared.Rule.the-variants.{ByEvent, ByOrigin, Never}
 use Rattle.race.specs.Bridge.{ruleIn}
-use Rattle.race.specs.Word.{eventAt, isReached, ReachedWord, isOutside, OutsideWord, RaceWord}
-use Rattle.race.proofs.Races.{at-or-before-at, by-event, by-origin, race-at}
-
--- the word of the events at or before e's send: where the send stands in another word, and in this one
-module _ (words : List ℕ) (e w : ℕ) where
-  pub reached-elsewhere : (w ≡ 2 * e / wordBits → ⊥) → ReachedWord words e w (getD words (2 * e * width + w) 0)
-  reached-elsewhere n b h =
-      sym (rw (ne-eqb (eventAt w b) (2 * e) (λ i. n (omega arith))) (word-holds width words (2 * e) w b h))
-
-  pub reached-here : w ≡ 2 * e / wordBits
-      → ReachedWord words e w (bitOr (getD words (2 * e * width + w) 0) (1 * 2 ^ (2 * e % wordBits) % 2 ^ wordBits))
-  reached-here at b h =
-      rw (
-        mask-power (2 * e),
-        has-or,
-        has-power,
-        ← word-holds width words (2 * e) w b h,
-        eqb-same b (2 * e % wordBits) (eventAt w b) (2 * e) (λ i. omega arith) (λ i. omega arith),
-      )
-      (swaps (holds width words (2 * e) (eventAt w b)) (eqb (eventAt w b) (2 * e)))
-    where
-      swaps : (p q : Bool) → (p || q) ≡ (q || p)
-      swaps true true = refl
-      swaps true false = refl
-      swaps false true = refl
-      swaps false false = refl
+use Rattle.at_or_before.specs.Reached.{eventAt, isReached, ReachedWord}
+use Rattle.at_or_before.proofs.Reached.{at-or-before-at}
+use Rattle.race.specs.Word.{isOutside, OutsideWord, RaceWord}
+use Rattle.race.proofs.Races.{by-event, by-origin, race-at}
 
 module _ (words : List ℕ) (r : Rule) (e w word : ℕ) where
   pub outside-event : r ≡ ByEvent → word < 2 ^ wordBits → ReachedWord words e w word → OutsideWord words (ruleIn r) e w (2 ^ wordBits - 1 - word)
@@ -149,65 +122,3 @@ module _ (count : ℕ) (boards words masks : List ℕ) (S : Standing count board
           ∙ sym (race-outside count boards words r e l (eventAt w b) k))
       go (no g) =
           rw (le-ltb (eventAt w b) (2 * count) (omega arith), and-false (holds width words (2 * e + 1) (eventAt w b)))
-
--- the zeros at either end of a word are at most its bits
-pub zeros-few : (word : ℕ) → (trailingZeros wordBits word ≤ wordBits) × (leadingZeros wordBits word ≤ wordBits)
-zeros-few word = (trailing-le wordBits word, leading-le wordBits word)
-
--- the search for the lowest event that races with e
-module _ (count : ℕ) (boards words : List ℕ) (r : RaceRule) (e : ℕ) where
-  abbrev racesAt : ℕ → Bool
-  racesAt x = isRace (scenarioIn count boards words) r e (event x)
-
-  -- no event of the words passed races with e
-  pub record Searched (w : ℕ) : Type 0 where
-    pub passed : (x : ℕ) → x < wordBits * w → x < 2 * count → racesAt x ≡ false
-    pub within : w ≤ width
-
-  pub search-begins : Searched 0
-  search-begins = record { passed = λ x h k. absurd (omega arith); within = omega arith }
-
-  module _ (w word : ℕ) (s : Searched w) (R : RaceWord count boards words r e w word) where
-    -- a bit that is not set is of no event that races
-    not-here : (b : ℕ) → b < wordBits → wordBits * w + b < 2 * count → has word b ≡ false → racesAt (wordBits * w + b) ≡ false
-    not-here b h k f = sym (R b h ∙ rw (lt-ltb (wordBits * w + b) (2 * count) k)) ∙ f
-
-    pub search-goes-on : word ≡ 0 → w < width → Searched (w + 1)
-    search-goes-on z h =
-        record { passed = λ x g k. go x g k (decLt x (wordBits * w)); within = omega arith }
-      where
-        go : (x : ℕ) → x < wordBits * (w + 1) → x < 2 * count → Dec (x < wordBits * w) → racesAt x ≡ false
-        go x g k (yes p) = s .passed x p k
-        go x g k (no p) =
-            let at : wordBits * w + (x - wordBits * w) ≡ x = omega arith in
-            subst (λ (y : ℕ). racesAt y ≡ false) at
-            (here (x - wordBits * w) (omega arith) (omega arith))
-          where
-            here : (b : ℕ) → b < wordBits → wordBits * w + b < 2 * count → racesAt (wordBits * w + b) ≡ false
-            here b i j = not-here b i j (ap (λ (n : ℕ). has n b) z ∙ has-zero b)
-
-    pub search-finds : (word ≡ 0 → ⊥) → word < 2 ^ wordBits → w < width
-        → some (wordBits * w + trailingZeros wordBits word) ≡ lowestEvent (scenarioIn count boards words) r e
-    unfolding lowestEvent
-    search-finds z small h =
-        let b = trailingZeros wordBits word in
-        let low : b < wordBits = trailing-below wordBits word small z in
-        let both : (ltb (wordBits * w + b) (2 * count) && racesAt (wordBits * w + b)) ≡ true = sym (R b low) ∙ trailing-set wordBits word small z in
-        let inside : wordBits * w + b < 2 * count = ltb-true _ _ (and-left (ltb (wordBits * w + b) (2 * count)) (racesAt (wordBits * w + b)) both) in
-        sym
-        (lowest-hit (2 * count) (wordBits * w + b) racesAt
-        (lowest-nowhere (wordBits * w + b) racesAt (λ x k. below b low inside (λ i g. trailing-clear wordBits word i g) x k (decLt x (wordBits * w))))
-        (and-right (ltb (wordBits * w + b) (2 * count)) (racesAt (wordBits * w + b)) both)
-        inside)
-      where
-        below : (b : ℕ) → b < wordBits → wordBits * w + b < 2 * count → ((i : ℕ) → i < b → has word i ≡ false)
-            → (x : ℕ) → x < wordBits * w + b → Dec (x < wordBits * w) → racesAt x ≡ false
-        below b low inside clear x k (yes p) = s .passed x p (omega arith)
-        below b low inside clear x k (no p) =
-            let at : wordBits * w + (x - wordBits * w) ≡ x = omega arith in
-            subst (λ (y : ℕ). racesAt y ≡ false) at
-            (not-here (x - wordBits * w) (omega arith) (omega arith) (clear (x - wordBits * w) (omega arith)))
-
-  pub search-ends : (masks : List ℕ) (w : ℕ) → Standing count boards words masks → Searched w → width ≤ w → none ≡ lowestEvent (scenarioIn count boards words) r e
-  unfolding lowestEvent
-  search-ends masks w S s h = sym (lowest-nowhere (2 * count) racesAt (λ x k. s .passed x (omega (arith, S .few)) k))

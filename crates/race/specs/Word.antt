@@ -1,30 +1,13 @@
 -- Request (e): the race test for a message, a word of the relation at once. Bit b of word w stands for event 64 w + b.
 -- Assumes nothing.
-use mathlib.Core.Path.{_≡_}
-use mathlib.Core.Bool.{Bool, false, not, _&&_, _||_}
+use mathlib.Core.Bool.{Bool, false, not, _&&_}
 use mathlib.Core.List.{List}
-use Prim.Native.Nat.{ℕ, _+_, _-_, _*_, _%_, _<_}
-use lib.Dec.{eqb, ltb}
+use Prim.Native.Nat.{ℕ, _-_, _*_, _%_}
+use lib.Dec.{ltb}
 use Rattle.model.specs.Order.{event}
 use Rattle.model.specs.Race.{RaceRule, byEvent, byOrigin, never, isRace}
-use Rattle.relation.specs.Width.{width, wordBits}
-use Rattle.relation.specs.Rows.{has, holds}
 use Rattle.relation.specs.Scenario.{scenarioIn}
-
--- the event of a bit
-abbrev pub eventAt : ℕ → ℕ → ℕ
-eventAt w b = wordBits * w + b
-
--- a bit is set exactly for each event there that the test says
-abbrev pub WordOf : (ℕ → Bool) → ℕ → ℕ → Type 0
-WordOf test w word = (b : ℕ) → b < wordBits → has word b ≡ test (eventAt w b)
-
--- event x is at or before e's send
-abbrev pub isReached : List ℕ → ℕ → ℕ → Bool
-isReached words e x = eqb x (2 * e) || holds width words (2 * e) x
-
-abbrev pub ReachedWord : List ℕ → ℕ → ℕ → ℕ → Type 0
-ReachedWord words e w word = WordOf (isReached words e) w word
+use Rattle.at_or_before.specs.Reached.{WordOf, isReached}
 
 -- event x, or its origin, is not at or before e's send; on the lazy channels none is looked for
 abbrev pub isOutside : List ℕ → RaceRule → ℕ → ℕ → Bool

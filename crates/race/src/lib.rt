@@ -1,15 +1,14 @@
-// The races of a scenario: the test of a message, a word of events at once, and the race named.
+// The races of a scenario: the test of a message, a word of events at once.
 ghost use mathlib.Core.Path.{_≡_};
 ghost use Prim.Native.Nat.{_+_, _*_, _<_, _≤_};
 ghost use lib.ListN.{length};
 ghost use Rattle.model.specs.Limits.{channels};
-ghost use Rattle.model.specs.Order.{event, atOrBefore};
-ghost use Rattle.model.specs.Race.{raceRuleOf, lowestEvent, lowestRace};
+ghost use Rattle.model.specs.Race.{raceRuleOf};
 ghost use Rattle.relation.specs.Width.{width, wordBits};
-ghost use Rattle.relation.specs.Scenario.{scenarioIn};
 ghost use Rattle.board.specs.Masks.{Standing};
-ghost use Rattle.race.specs.Bridge.{Lent, ruleIn, foundIn, raceIn};
-ghost use Rattle.race.specs.Word.{ReachedWord, OutsideWord, RaceWord};
+ghost use Rattle.race.specs.Bridge.{ruleIn};
+ghost use Rattle.race.specs.Word.{OutsideWord, RaceWord};
+use at_or_before::reached_word;
 use relation::SENDS;
 use relation::WIDTH;
 use relation::WORD_BITS;
@@ -36,32 +35,6 @@ pub fn rule_of(code: usize) -> Rule
     ensures { λ r. ⌜ ruleIn r ≡ raceRuleOf code ⌝ }
 {
     TABLE[code]
-}
-
-// Event x is event y, or before it.
-pub fn at_or_before(words: &[u64], boards: &[u8], count: usize, x: usize, y: usize) -> bool
-    requires { ⌜ Lent count (now boards) (now words) ⌝ }
-    requires { ⌜ (x < 2 * count) × (y < 2 * count) ⌝ }
-    ensures { λ r. ⌜ r ≡ atOrBefore (scenarioIn count (now (boards .entry)) (now (words .entry))) (event x) (event y) ⌝ }
-{
-    if x == y {
-        return true;
-    }
-    relation::test(words, y, x)
-}
-
-// Word w of the events at or before e's send: its row, and the send itself.
-fn reached_word(words: &[u64], e: usize, w: usize) -> u64
-    requires { ⌜ 2 * e * width + width ≤ length (now words) ⌝ }
-    requires { ⌜ (2 * e < wordBits * width) × (w < width) ⌝ }
-    ensures { λ r. ⌜ ReachedWord (now (words .entry)) e w r ⌝ }
-{
-    let send = 2 * e;
-    let at = send * WIDTH + w;
-    if w != send / WORD_BITS {
-        return words[at];
-    }
-    words[at] | (1 << (send % WORD_BITS))
 }
 
 // Word w of the events that the rule does not find at or before e's send. By origin a receive is outside with its send.
@@ -101,63 +74,4 @@ pub fn race_word(
     let on = board * WIDTH + w;
     let outside = outside_word(words, rule, e, w);
     words[before] & masks[on] & outside
-}
-
-// The lowest event that races with a message, if one does.
-enum Found {
-    Event(usize),
-    Nothing,
-}
-
-fn lowest_event(
-    words: &[u64],
-    masks: &[u64],
-    boards: &[u8],
-    count: usize,
-    rule: Rule,
-    e: usize,
-) -> Found
-    requires { ⌜ Standing count (now boards) (now words) (now masks) ⌝ }
-    requires { ⌜ e < count ⌝ }
-    ensures { λ r. ⌜ foundIn r ≡ lowestEvent (scenarioIn count (now (boards .entry)) (now (words .entry))) (ruleIn rule) e ⌝ }
-{
-    for w in 0..WIDTH {
-        let word = race_word(words, masks, boards, count, rule, e, w);
-        if word != 0 {
-            return Found::Event(WORD_BITS * w + u64::trailing_zeros(word) as usize);
-        }
-    }
-    Found::Nothing
-}
-
-// The race named: the lowest message that races, and the lowest event that it races with.
-pub enum Lowest {
-    Race(usize, usize),
-    Nothing,
-}
-
-fn lowest_message(words: &[u64], masks: &[u64], boards: &[u8], count: usize, rule: Rule) -> Lowest
-    requires { ⌜ Standing count (now boards) (now words) (now masks) ⌝ }
-    ensures { λ r. ⌜ raceIn r ≡ lowestRace (scenarioIn count (now (boards .entry)) (now (words .entry))) (ruleIn rule) ⌝ }
-{
-    for e in 0..count {
-        let found = lowest_event(words, masks, boards, count, rule, e);
-        match found {
-            Found::Event(x) => return Lowest::Race(e, x),
-            Found::Nothing => {}
-        }
-    }
-    Lowest::Nothing
-}
-
-pub fn lowest_race(words: &[u64], boards: &[u8], count: usize, rule: Rule) -> Lowest
-    requires { ⌜ Lent count (now boards) (now words) ⌝ }
-    ensures { λ r. ⌜ raceIn r ≡ lowestRace (scenarioIn count (now (boards .entry)) (now (words .entry))) (ruleIn rule) ⌝ }
-{
-    if let Rule::Never = rule {
-        return Lowest::Nothing;
-    }
-    let mut masks = [0u64; board::MASK_WORDS];
-    board::board_masks(boards, count, &mut masks);
-    lowest_message(words, &masks, boards, count, rule)
 }

@@ -21,7 +21,7 @@ pub enum Forbidden {
 fn decided(receivers: u16, from: u16, to: u16, verdict: u8, sender: usize) -> u16
     ensures { λ r. ⌜ Decided receivers from to verdict sender r ⌝ }
 {
-    if !coverage::in_set(from, sender) {
+    if !board_set::in_set(from, sender) {
         return receivers;
     }
     if verdict == 1 {
@@ -68,7 +68,7 @@ pub fn first_forbidden(permitted: [u16; BOARDS], boards: &[u8], count: usize) ->
         let send = 2 * m;
         let sender = board::board_of(boards, send);
         let receiver = board::board_of(boards, send + 1);
-        if !coverage::in_set(permitted[sender], receiver) {
+        if !board_set::in_set(permitted[sender], receiver) {
             return Forbidden::Message(m);
         }
     }

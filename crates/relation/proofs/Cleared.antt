@@ -53,3 +53,7 @@ cleared-behind k used l n e h =
     let same : drop k (used ++ drop n l) ≡ drop k l =
     ap (λ j. drop j (used ++ drop n l)) (sym at) ∙ drop-append-add used (drop n l) rest ∙ drop-drop rest n l ∙ ap (λ j. drop j l) back in
     ap (λ t. replicate k 0 ++ t) same
+
+-- So many words were cleared. That they are k is asked apart, so that another number is refused at that equation.
+pub cleared-all : (k m : ℕ) (l exit : List ℕ) → exit ≡ cleared m l → m ≡ k → exit ≡ cleared k l
+cleared-all k m l exit s all = s ∙ ap (λ i. cleared i l) all

@@ -2,11 +2,8 @@ pub mod Tests
 pub mod Bits
 pub mod Place
 pub mod Marked
-pub mod Joined
-pub mod Inserted
 pub mod Cleared
-pub mod Closed
 pub mod Scenario
 pub mod Loops
 pub mod Words
-pub mod Lowest
+pub mod Alone

@@ -3,17 +3,18 @@
 use mathlib.Core.Path.{_≡_, ap, ap₂}
 use mathlib.Core.Bool.{Bool, false, _&&_, _||_, or-false}
 use mathlib.Core.List.{List}
-use Prim.Native.Nat.{ℕ, _+_, _*_, _<_, _≤_}
+use Prim.Native.Nat.{ℕ, _+_, _-_, _*_, _%_, _^_, _<_, _≤_}
 use native.Mathlib.Decide.{ℕ-discrete}
 use native.Mathlib.Omega.{arith}
+use lib.Bits.{bitAnd}
 use lib.Dec.{eqb}
-use lib.ListN.{length, getD, length-set}
+use lib.ListN.{length, getD, set, length-set}
 use lib.Seq.{getD-set-same, getD-set-other}
 use borrow.Author.Tests.{eq-eqb, ne-eqb}
 use Rattle.relation.specs.Width.{wordBits}
 use Rattle.relation.specs.Rows.{has, holds, marked, unmarked, wordOf, bitOf}
 use Rattle.relation.proofs.Tests.{eqb-same}
-use Rattle.relation.proofs.Bits.{has-or, has-power}
+use Rattle.relation.proofs.Bits.{has-or, has-power, mask-power}
 use Rattle.relation.proofs.Place.{column-lt, place-row, place-event}
 
 pub length-marked : (W : ℕ) (l : List ℕ) (y x : ℕ) → length (marked W l y x) ≡ length l
@@ -23,6 +24,12 @@ length-marked W l y x = length-set l _ _
 pub length-unmarked : (W : ℕ) (l : List ℕ) (y x : ℕ) → length (unmarked W l y x) ≡ length l
 unfolding unmarked
 length-unmarked W l y x = length-set l _ _
+
+-- as the code makes it: one shifted is the event's bit
+pub unmarked-by : (W : ℕ) (l : List ℕ) (y x : ℕ)
+    → set l (wordOf W y x) (bitAnd (getD l (wordOf W y x) 0) (2 ^ wordBits - 1 - 1 * 2 ^ bitOf x % 2 ^ wordBits)) ≡ unmarked W l y x
+unfolding unmarked
+unmarked-by W l y x = rw (mask-power x)
 
 -- not both are equal
 apart : (b y a x : ℕ) → (b ≡ y → a ≡ x → ⊥) → (eqb b y && eqb a x) ≡ false

@@ -1,7 +1,7 @@
 -- What the parts of the call are to show, from what its own parts handed on. Assumes nothing.
-use mathlib.Core.Path.{_≡_, refl, sym, _∙_, ap, subst, subst⁻¹}
+use mathlib.Core.Path.{_≡_, subst, subst⁻¹}
 use mathlib.Core.List.{List}
-use Prim.Native.Nat.{ℕ, _*_, _^_, _<_, _≤_}
+use Prim.Native.Nat.{ℕ, _*_, _≤_}
 use native.Mathlib.Omega.{arith}
 use lib.ListN.{length}
 use Rattle.model.specs.Refusal.{Out}
@@ -9,7 +9,7 @@ use Rattle.model.specs.Order.{Scenario}
 use Rattle.model.specs.Channel as model
 use Rattle.model.specs.Channel.{channelOf}
 use Rattle.model.specs.Answer.{sheetOf}
-use Rattle.model.specs.Replay.{ReplayNumbers, replayFor, replayNumbers}
+use Rattle.model.specs.Replay.{replayFor}
 use Rattle.model.specs.Waits.{waitFor}
 use Rattle.relation.specs.Width.{width}
 use Rattle.relation.specs.Scenario.{scenarioIn}
@@ -20,12 +20,10 @@ use Rattle.scenario.proofs.Laws.{sheet-refused, sheet-is, sheet-fits}
 use Rattle.channel_table.specs.declared.Channel.{Channel}
 use Rattle.channel_table.specs.Table.{channelIn}
 use Rattle.board.specs.Masks.{maskRows, MasksOf, Standing}
-use Rattle.trace_steps.specs.declared.Replay.{Replay}
-use Rattle.trace_steps.specs.declared.Replay.the-variants.{Finished, Stuck, Open, NotAllowed, Refused}
+use Rattle.trace_steps.specs.declared.Replay.the-variants.{Refused}
 use Rattle.trace_steps.specs.declared.Outcome.{Outcome}
-use Rattle.trace_steps.specs.Bridge.{replayIn, Unwaited, Taken}
-use Rattle.replay.specs.declared.answer.TraceCheckAnswer.{TraceCheckAnswer}
-use Rattle.replay.specs.Bridge.{Judged, Numbers, Small}
+use Rattle.trace_steps.specs.Bridge.{Unwaited, Taken}
+use Rattle.replay.specs.Bridge.{Judged}
 
 -- What the way to the scenario hands on.
 module _ (text boards words : List ℕ) (v : Expanded) (p : SheetIn text boards words v) where
@@ -54,32 +52,3 @@ module _ (text boards words : List ℕ) (v : Expanded) (p : SheetIn text boards 
           boardsBelow = f .boardsBelow;
           masksOf = m;
         }
-
--- What `numbers` asks and shows, by the verdict.
-module _ (a : Replay) where
-  pub small-index : (i : ℕ) → a ≡ NotAllowed i → Small (replayNumbers (replayIn a)) → i < 2 ^ 32
-  small-index i e s = subst (λ (b : Replay). Small (replayNumbers (replayIn b))) e s .one
-
-  pub small-line : (number line : ℕ) → a ≡ Refused number line → Small (replayNumbers (replayIn a)) → line < 2 ^ 32
-  small-line number line e s = subst (λ (b : Replay). Small (replayNumbers (replayIn b))) e s .two
-
--- the numbers of the verdict a, and the boards' handed on
-module _ (outcome : Outcome) where
-  numbers-of : (a : Replay) → outcome .verdict ≡ a → (r : TraceCheckAnswer) → _≡_ {A = ReplayNumbers} (record { word = r .word; one = r .one; two = r .two }) (replayNumbers (replayIn a))
-      → r .waits ≡ outcome .waits → Numbers outcome r
-  numbers-of a i r h w = record { verdict = h ∙ ap (λ (q : Replay). replayNumbers (replayIn q)) (sym i); boards = w }
-
-  pub finished-numbers : outcome .verdict ≡ Finished → Numbers outcome (record { word = 0; one = 0; two = 0; waits = outcome .waits })
-  finished-numbers i = numbers-of Finished i _ refl refl
-
-  pub stuck-numbers : outcome .verdict ≡ Stuck → Numbers outcome (record { word = 1; one = 0; two = 0; waits = outcome .waits })
-  stuck-numbers i = numbers-of Stuck i _ refl refl
-
-  pub open-numbers : outcome .verdict ≡ Open → Numbers outcome (record { word = 2; one = 0; two = 0; waits = outcome .waits })
-  open-numbers i = numbers-of Open i _ refl refl
-
-  pub not-allowed-numbers : (n : ℕ) → outcome .verdict ≡ NotAllowed n → Numbers outcome (record { word = 3; one = n; two = 0; waits = outcome .waits })
-  not-allowed-numbers n i = numbers-of (NotAllowed n) i _ refl refl
-
-  pub refused-numbers : (number line : ℕ) → outcome .verdict ≡ Refused number line → Numbers outcome (record { word = 4; one = number; two = line; waits = outcome .waits })
-  refused-numbers number line i = numbers-of (Refused number line) i _ refl refl

@@ -23,8 +23,9 @@ use Rattle.scenario.proofs.Laws.{scratch-behind}
 use Rattle.trace_steps.specs.declared.Replay.the-variants.{Refused}
 use Rattle.trace_steps.specs.declared.Outcome.{Outcome}
 use Rattle.trace_steps.specs.Bridge.{replayIn, Unwaited}
-use Rattle.replay.specs.declared.answer.TraceCheckAnswer.{TraceCheckAnswer}
-use Rattle.replay.specs.Bridge.{Judged, numbersIn, Numbers, Small}
+use Rattle.trace_answer.specs.declared.TraceCheckAnswer.{TraceCheckAnswer}
+use Rattle.trace_answer.specs.Numbers.{numbersIn, Numbers, Small}
+use Rattle.replay.specs.Bridge.{Judged}
 
 -- What is answered, and left in the scratch, as the model says of the sheet handed on or refused.
 replayed-from : (text : List ℕ) (code : ℕ) (scratch scratchExit trace : List ℕ) (r : ReplayNumbers) (o : Out Scenario)
@@ -51,15 +52,6 @@ checked-from text code scratch scratchExit trace r o e J s =
     traced text code scratch scratchExit trace (replayNumbers (replayIn (r .verdict))) (r .waits)
     (replayed-from text code scratch scratchExit trace (replayNumbers (replayIn (r .verdict))) o e (ap replayNumbers (J .verdict)) s)
     (J .numbers ∙ ap (λ (q : Out Scenario). eachBoard boards (waitFor q code trace)) (sym e))
-
--- the test of a trace's length
-pub even-test : (n : ℕ) → (n % 2 ≡ 0 → ⊥) → false ≡ isTrace n
-unfolding isTrace
-even-test n odd = sym (rw (ne-eqb (n % 2) 0 odd))
-
-pub most-test : (n : ℕ) → n % 2 ≡ 0 → leb n traceLeast ≡ isTrace n
-unfolding isTrace
-most-test n even = sym (rw (eq-eqb (n % 2) 0 even))
 
 -- a trace that passed has an even length, within the limit
 pub trace-fits : (n : ℕ) (t : Bool) → not t ≡ false → t ≡ isTrace n → (n % 2 ≡ 0) × (n ≤ traceLeast)

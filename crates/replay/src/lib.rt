@@ -4,19 +4,18 @@ ghost use Prim.Native.Nat.{_*_, _%_, _<_, _≤_};
 ghost use lib.ListN.{length};
 ghost use Rattle.model.specs.Limits.{channels, messagesMost, traceLeast};
 ghost use Rattle.model.specs.Answer.{sheetOf};
-ghost use Rattle.model.specs.Replay.{replayNumbers, isTrace};
+ghost use Rattle.model.specs.Replay.{replayNumbers};
 ghost use Rattle.model.specs.Waits.{TraceChecked};
 ghost use Rattle.relation.specs.Width.{width};
 ghost use Rattle.trace_steps.specs.Bridge.{replayIn};
-ghost use Rattle.replay.specs.Bridge.{Judged, numbersIn};
-pub use crate::answer::TraceCheckAnswer;
+ghost use Rattle.trace_answer.specs.Numbers.{numbersIn};
+ghost use Rattle.replay.specs.Bridge.{Judged};
 use expansion::Expanded;
+use trace_answer::TraceCheckAnswer;
 use trace_steps::Outcome;
 use trace_steps::Replay;
 use trace_steps::take_steps;
 use trace_steps::unwaited;
-
-mod answer;
 
 // A text's scenario, in the words of the relation, and the verdict on the trace.
 fn judge(text: &[u8], code: usize, words: &mut [u64], trace: &[u8]) -> Outcome
@@ -37,16 +36,6 @@ fn judge(text: &[u8], code: usize, words: &mut [u64], trace: &[u8]) -> Outcome
     }
 }
 
-// A trace has an even length, of two bytes for each of three steps a message at most.
-fn is_trace(length: usize) -> bool
-    ensures { λ r. ⌜ r ≡ isTrace length ⌝ }
-{
-    if length % 2 != 0 {
-        return false;
-    }
-    length <= model::TRACE_LEAST
-}
-
 // Refusals 1 and 2 touch nothing; behind every other verdict the scratch is cleared.
 fn judge_trace(text: &[u8], code: u32, scratch: &mut [u64], trace: &[u8]) -> Outcome
     ensures { λ r. ⌜ TraceChecked (now (text .entry)) code (now (scratch .entry)) (now (scratch .exit)) (now (trace .entry)) (replayNumbers (replayIn (r .verdict))) (r .waits) ⌝ }
@@ -58,7 +47,7 @@ fn judge_trace(text: &[u8], code: u32, scratch: &mut [u64], trace: &[u8]) -> Out
     if scratch.len() < model::SCRATCH_LEAST {
         return unwaited(Replay::Refused(model::BENCH, 0));
     }
-    if !is_trace(trace.len()) {
+    if !trace_answer::is_trace(trace.len()) {
         let all = model::SCRATCH_LEAST;
         relation::clear(scratch, all);
         return unwaited(Replay::Refused(model::TRACE, 0));
@@ -73,5 +62,5 @@ fn judge_trace(text: &[u8], code: u32, scratch: &mut [u64], trace: &[u8]) -> Out
 pub fn trace_check(text: &[u8], code: u32, scratch: &mut [u64], trace: &[u8]) -> TraceCheckAnswer
     ensures { λ r. ⌜ TraceChecked (now (text .entry)) code (now (scratch .entry)) (now (scratch .exit)) (now (trace .entry)) (numbersIn r) (r .waits) ⌝ }
 {
-    answer::numbers(judge_trace(text, code, scratch, trace))
+    trace_answer::numbers(judge_trace(text, code, scratch, trace))
 }

@@ -1,5 +1,5 @@
 -- The tests of whole words are the model's tests of events and messages. Assumes nothing.
-use mathlib.Core.Path.{_≡_, refl, sym, ap, ap₂, _∙_}
+use mathlib.Core.Path.{_≡_, refl, sym, ap, _∙_}
 use mathlib.Core.Bool.{Bool, true, false, not, _&&_, _||_, and-false}
 use mathlib.Core.List.{List}
 use Prim.Native.Nat.{ℕ, _+_, _*_, _/_, _%_, _<_, _≤_}
@@ -7,21 +7,16 @@ use native.Mathlib.Omega.{arith}
 use mathlib.Core.Logic.{⊎-elim}
 use lib.Dec.{eqb, ltb}
 use lib.ListN.{getD}
-use borrow.Author.Tests.{eq-eqb, lt-ltb, le-ltb, eqb-true, ltb-true}
-use Rattle.model.specs.Limits.{boards, messagesMost}
-use Rattle.model.specs.Bounded.{every, lowest}
+use borrow.Author.Tests.{eq-eqb, lt-ltb, eqb-true, ltb-true}
+use Rattle.model.specs.Limits.{boards}
+use Rattle.model.specs.Bounded.{every}
 use Rattle.model.specs.Channel as model
-use Rattle.model.specs.Order.{Event, sendOf, receiveOf, number, event, messageOf, boardOf, board, Scenario}
-use Rattle.model.specs.Run.{isAhead, bufferEmpty, boardFree, maySend, mayDeliver}
-use Rattle.model.specs.Waits.{holdsUp, readiness}
-use Rattle.model.proofs.Bounded.{and-left, and-right, every-at, every-from, which, not-is-true, lowest-within}
-use Rattle.model.proofs.Events.{number-event, below-event}
+use Rattle.model.specs.Order.{sendOf, receiveOf, number, messageOf, board, Scenario}
+use Rattle.model.specs.Run.{bufferEmpty, boardFree, maySend, mayDeliver}
+use Rattle.model.proofs.Bounded.{and-left, and-right, every-at, every-from, which, not-is-true}
 use Rattle.relation.specs.Width.{width, wordBits}
 use Rattle.relation.specs.Rows.{holds}
 use Rattle.relation.specs.Scenario.{scenarioIn}
-use Rattle.relation.specs.declared.Found.{Found}
-use Rattle.relation.specs.declared.Found.the-variants as found
-use Rattle.relation.specs.Own.{foundIn}
 use Rattle.relation.proofs.Tests.{both-ways, eqb-same}
 use Rattle.channel_table.specs.declared.ToSend.{ToSend}
 use Rattle.channel_table.specs.declared.ToSend.the-variants as to-send
@@ -30,10 +25,10 @@ use Rattle.channel_table.specs.declared.ToDeliver.the-variants as to-deliver
 use Rattle.channel_table.specs.Table.{toSendIn, toDeliverIn}
 use Rattle.board.specs.Masks.{isSend, Standing}
 use Rattle.run.specs.declared.Run.{Run}
-use Rattle.run.specs.State.{inRow, Without, bufferOf, stateOf}
-use Rattle.rules.specs.declared.Readiness.the-variants.{Ready, Done, Waits}
-use Rattle.rules.specs.Tests.{leftOf, noneOfRow, noneIn, freeIn}
-use Rattle.rules.specs.Rules.{BufferRow, SaysReadiness, SaysSendRule, SaysDeliverRule}
+use Rattle.run.specs.State.{inRow, Without, stateOf}
+use Rattle.row_tests.specs.Tests.{noneOfRow, noneIn}
+use Rattle.row_tests.proofs.Words.{events-fit}
+use Rattle.rules.specs.Rules.{freeIn, BufferRow, SaysSendRule, SaysDeliverRule}
 
 -- tests that agree below the bound
 every-ext : (n : ℕ) (p q : ℕ → Bool) → ((k : ℕ) → k < n → p k ≡ q k) → every n p ≡ every n q
@@ -62,12 +57,6 @@ sends-all n count q p room only agree =
 send-is : (count f : ℕ) → f < count → isSend count (2 * f) ≡ true
 send-is count f h = rw (lt-ltb (2 * f) (2 * count) (omega arith), eq-eqb (2 * f % 2) 0 (omega arith))
 
--- the board of an event, by its number
-board-number : (count : ℕ) (on words : List ℕ) (x : Event) → board (scenarioIn count on words) x ≡ getD on (number x) 0
-unfolding boardOf number
-board-number count on words (sendOf m) = refl
-board-number count on words (receiveOf m) = refl
-
 other : (a d : Bool) → not (a && not d) ≡ (d || not a)
 other false true = refl
 other false false = refl
@@ -95,61 +84,7 @@ module _ (count : ℕ) (on words masks : List ℕ) (standing : Standing count on
   S = scenarioIn count on words
 
   room : 2 * count ≤ wordBits * width
-  room = let few : count ≤ messagesMost = standing .few in omega arith
-
-  before-is : (x y : Event) → messageOf x < count → messageOf y < count → S .before x y ≡ holds width words (number y) (number x)
-  before-is x y h g = rw (lt-ltb (messageOf x) count h, lt-ltb (messageOf y) count g)
-
-  ahead-is : (k x : ℕ) → k < 2 * count → x < 2 * count
-      → isAhead S (event k) (event x) ≡ (holds width words x k && eqb (getD on k 0) (getD on x 0))
-  unfolding isAhead
-  ahead-is k x hk hx =
-      ap₂ (λ (a b : Bool). a && b)
-      (before-is (event k) (event x) (below-event k count hk) (below-event x count hx) ∙ ap₂ (holds width words) (number-event x) (number-event k))
-      (ap₂ eqb
-      (board-number count on words (event k) ∙ ap (λ (n : ℕ). getD on n 0) (number-event k))
-      (board-number count on words (event x) ∙ ap (λ (n : ℕ). getD on n 0) (number-event x)))
-
-  -- the lowest event before x on its board that is not done, in every run with these events done
-  left-says : (done : List ℕ) (x : ℕ) → x < 2 * count → (run : Run) → run .done ≡ done
-      → lowest (wordBits * width) (leftOf width words x masks (getD on x 0) done) ≡ lowest (2 * count) (holdsUp S (stateOf run) (event x))
-  unfolding leftOf holdsUp
-  left-says done x hx run d =
-      lowest-within (2 * count) (wordBits * width) (leftOf width words x masks (getD on x 0) done) (holdsUp S (stateOf run) (event x)) room agree rest
-    where
-      mask : (k : ℕ) → k < 2 * count → holds width masks (getD on x 0) k ≡ eqb (getD on k 0) (getD on x 0)
-      mask k hk =
-          standing .masksOf .onBoard (getD on x 0) k (standing .boardsBelow x hx) (omega (arith, room)) ∙ rw (lt-ltb k (2 * count) hk)
-
-      agree : (k : ℕ) → k < 2 * count
-          → leftOf width words x masks (getD on x 0) done k ≡ holdsUp S (stateOf run) (event x) k
-      agree k hk =
-          rw (d, number-event k) (ap (λ (a : Bool). a && not (inRow done k)) (ap (λ (b : Bool). holds width words x k && b) (mask k hk) ∙ sym (ahead-is k x hk hx)))
-
-      rest : (k : ℕ) → 2 * count ≤ k → k < wordBits * width → leftOf width words x masks (getD on x 0) done k ≡ false
-      rest k hk h =
-          rw (standing .masksOf .onBoard (getD on x 0) k (standing .boardsBelow x hx) h, le-ltb k (2 * count) hk, and-false)
-
-  -- what each return of `readiness` is to show
-  pub says-done : (done : List ℕ) (x : ℕ) (t : Bool) → t ≡ holds width done 0 x → t ≡ true → SaysReadiness count on words done x Done
-  unfolding readiness
-  says-done done x t e h run d = rw (d, number-event x, ← e, h)
-
-  module _ (done : List ℕ) (x b : ℕ) (t : Bool) (r : Found) (s : foundIn r ≡ lowest (wordBits * width) (leftOf width words x masks b done)) (e : t ≡ holds width done 0 x)
-      (f : t ≡ false) (i : b ≡ getD on x 0) (hx : x < 2 * count) where
-    left-is : (run : Run) → run .done ≡ done → lowest (2 * count) (holdsUp S (stateOf run) (event x)) ≡ foundIn r
-    left-is run d = sym (s ∙ rw i (left-says done x hx run d))
-
-    undone-is : (run : Run) → run .done ≡ done → inRow (run .done) (number (event x)) ≡ false
-    undone-is run d = rw (d, number-event x, ← e) f
-
-    pub says-waits : (k : ℕ) → r ≡ found.Event k → SaysReadiness count on words done x (Waits k)
-    unfolding readiness
-    says-waits k j run d = rw (undone-is run d, left-is run d ∙ ap foundIn j)
-
-    pub says-ready : r ≡ found.Nothing → SaysReadiness count on words done x Ready
-    unfolding readiness
-    says-ready j run d = rw (undone-is run d, left-is run d ∙ ap foundIn j)
+  room = events-fit count (standing .few)
 
   -- no message of the mask of all sends is among those given
   none-says : (given : List ℕ) (y : ℕ) → noneIn (wordBits * width) width masks (2 * boards) given y ≡ every count (λ f. not (holds width given y (2 * f)))

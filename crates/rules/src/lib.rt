@@ -1,56 +1,19 @@
-// What the step rules ask: that an event is ready, that a board is free, and the further conditions of the channel.
-mod rows;
-
+// What the step rules ask beside readiness: that a board is free, and the further conditions of the channel.
 ghost use mathlib.Core.Path.{_≡_};
 ghost use Prim.Native.Nat.{_+_, _*_, _<_, _≤_};
 ghost use lib.ListN.{length};
 ghost use Rattle.model.specs.Limits.{messagesMost};
 ghost use Rattle.relation.specs.Width.{width};
 ghost use Rattle.board.specs.Boards.{boardsMost};
-ghost use Rattle.board.specs.Masks.{maskRows, Standing};
-ghost use Rattle.rules.specs.Tests.{freeIn};
-ghost use Rattle.rules.specs.Rules.{SaysReadiness, SaysSendRule, SaysDeliverRule};
-use crate::rows::apart;
-use crate::rows::first_left;
-use crate::rows::none_of;
+ghost use Rattle.board.specs.Masks.{maskRows};
+ghost use Rattle.rules.specs.Rules.{freeIn, SaysSendRule, SaysDeliverRule};
 use board::SENDS;
-use board::board_of;
 use channel_table::ToDeliver;
 use channel_table::ToSend;
-use relation::Found;
 use relation::WIDTH;
+use row_tests::apart;
+use row_tests::none_of;
 use run::without;
-
-// An event is ready; or done already; or it waits for the lowest event before it on its board that is not yet done.
-pub enum Readiness {
-    Ready,
-    Done,
-    Waits(usize),
-}
-
-// The readiness of event x. Done comes first.
-pub fn readiness_of(
-    words: &[u64],
-    masks: &[u64],
-    boards: &[u8],
-    count: usize,
-    done: &[u64; WIDTH],
-    x: usize,
-) -> Readiness
-    requires { ⌜ Standing count (now boards) (now words) (now masks) ⌝ }
-    requires { ⌜ x < 2 * count ⌝ }
-    ensures { λ r. ⌜ SaysReadiness count (now (boards .entry)) (now (words .entry)) (now (done .entry)) x r ⌝ }
-{
-    if relation::test(done, 0, x) {
-        return Readiness::Done;
-    }
-    let board = board_of(boards, x);
-    let found = first_left(words, x, masks, board, done);
-    match found {
-        Found::Event(k) => Readiness::Waits(k),
-        Found::Nothing => Readiness::Ready,
-    }
-}
 
 // An eager board sends, or takes a delivery, only while its buffer, row y of those held, holds nothing.
 pub fn board_free(masks: &[u64], eager: bool, held: &[u64], y: usize) -> bool

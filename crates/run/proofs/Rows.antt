@@ -1,72 +1,18 @@
--- A row that stands by itself, with one bit set or cleared, for any width. Assumes nothing.
-use mathlib.Core.Path.{_≡_, sym, ap, _∙_}
-use mathlib.Core.Bool.{false, not, _&&_, _||_, or-false, and-true}
+-- A row that was marked or unmarked, as row 0 of the relation, is that row with an event besides, or without it. Assumes nothing.
+use mathlib.Core.Path.{_≡_, ap, _∙_}
 use mathlib.Core.List.{List}
-use Prim.Native.Nat.{ℕ, _-_, _*_, _/_, _%_, _^_, _<_}
-use native.Mathlib.Decide.{ℕ-discrete}
+use Prim.Native.Nat.{ℕ, _*_, _<_}
 use native.Mathlib.Omega.{arith}
-use lib.Bits.{bitAnd, bitOr}
-use lib.Dec.{eqb}
-use lib.ListN.{length, getD, set}
-use lib.Pow.{pow-lt}
-use lib.Seq.{getD-set-same, getD-set-other}
-use borrow.Author.Tests.{ne-eqb}
-use Rattle.relation.specs.Width.{wordBits}
-use Rattle.relation.specs.Rows.{has, holds}
-use Rattle.relation.proofs.Bits.{has-or, has-power, mask-power}
-use Rattle.relation.proofs.Tests.{eqb-same}
-use Rattle.relation.proofs.Words.{has-and, has-not, alone-row}
+use lib.ListN.{length}
+use Rattle.model.specs.Limits.{messagesMost}
+use Rattle.relation.specs.Width.{width}
+use Rattle.relation.specs.Rows.{marked, unmarked}
+use Rattle.relation.proofs.Alone.{marked-alone, unmarked-alone}
+use Rattle.run.specs.State.{inRow, With, Without}
 
-module _ (W : ℕ) (row : List ℕ) (x : ℕ) (inside : x / wordBits < length row) where
-  set-here : (v k : ℕ) → k / wordBits ≡ x / wordBits → holds W (set row (x / wordBits) v) 0 k ≡ has v (k % wordBits)
-  set-here v k e = alone-row W (set row (x / wordBits) v) k ∙ rw (e, getD-set-same row (x / wordBits) v 0 inside)
+module _ (row r : List ℕ) (x : ℕ) where
+  pub gains : r ≡ marked width row 0 x → x < 2 * messagesMost → length row ≡ width → With row x r
+  gains e few long k = ap (λ (l : List ℕ). inRow l k) e ∙ marked-alone width row x (omega arith) k
 
-  set-there : (v k : ℕ) → (k / wordBits ≡ x / wordBits → ⊥) → holds W (set row (x / wordBits) v) 0 k ≡ holds W row 0 k
-  set-there v k n =
-      alone-row W (set row (x / wordBits) v) k ∙ rw (getD-set-other row (x / wordBits) (k / wordBits) v 0 n) (sym (alone-row W row k))
-
-  here : (k : ℕ) → k / wordBits ≡ x / wordBits → has (getD row (x / wordBits) 0) (k % wordBits) ≡ holds W row 0 k
-  here k e = rw (alone-row W row k, e)
-
-  same-bit : (k : ℕ) → k / wordBits ≡ x / wordBits → eqb (k % wordBits) (x % wordBits) ≡ eqb k x
-  same-bit k e = eqb-same (k % wordBits) (x % wordBits) k x (λ b. omega arith) (λ s. ap (λ (n : ℕ). n % wordBits) s)
-
-  other-event : (k : ℕ) → (k / wordBits ≡ x / wordBits → ⊥) → eqb k x ≡ false
-  other-event k n = ne-eqb k x (λ e. n (ap (λ (m : ℕ). m / wordBits) e))
-
-  pub with-bit : (k : ℕ) → holds W (set row (x / wordBits) (bitOr (getD row (x / wordBits) 0) (2 ^ (x % wordBits)))) 0 k
-      ≡ (holds W row 0 k || eqb k x)
-  with-bit k = go (ℕ-discrete (k / wordBits) (x / wordBits))
-    where
-      v : ℕ
-      v = bitOr (getD row (x / wordBits) 0) (2 ^ (x % wordBits))
-
-      go : Dec (k / wordBits ≡ x / wordBits) → holds W (set row (x / wordBits) v) 0 k ≡ (holds W row 0 k || eqb k x)
-      go (yes e) =
-          set-here v k e ∙ has-or (getD row (x / wordBits) 0) (2 ^ (x % wordBits)) (k % wordBits)
-          ∙ rw (has-power (x % wordBits) (k % wordBits), same-bit k e, here k e)
-      go (no n) = set-there v k n ∙ rw (other-event k n, or-false)
-
-  pub without-bit : (k : ℕ)
-      → holds W (set row (x / wordBits) (bitAnd (getD row (x / wordBits) 0) (2 ^ wordBits - 1 - 2 ^ (x % wordBits)))) 0 k
-      ≡ (holds W row 0 k && not (eqb k x))
-  without-bit k = go (ℕ-discrete (k / wordBits) (x / wordBits))
-    where
-      v : ℕ
-      v = bitAnd (getD row (x / wordBits) 0) (2 ^ wordBits - 1 - 2 ^ (x % wordBits))
-
-      go : Dec (k / wordBits ≡ x / wordBits) → holds W (set row (x / wordBits) v) 0 k ≡ (holds W row 0 k && not (eqb k x))
-      go (yes e) =
-          set-here v k e ∙ has-and (getD row (x / wordBits) 0) (2 ^ wordBits - 1 - 2 ^ (x % wordBits)) (k % wordBits)
-          ∙ rw (has-not (k % wordBits) wordBits (2 ^ (x % wordBits)) (omega arith) (pow-lt {j = wordBits} (omega arith)), has-power (x % wordBits) (k % wordBits), same-bit k e, here k e)
-      go (no n) = set-there v k n ∙ rw (other-event k n, and-true)
-
-  -- as the code makes them: one shifted is the event's bit
-  pub with-event : (k : ℕ)
-      → holds W (set row (x / wordBits) (bitOr (getD row (x / wordBits) 0) (1 * 2 ^ (x % wordBits) % 2 ^ wordBits))) 0 k ≡ (holds W row 0 k || eqb k x)
-  with-event k = rw (mask-power x) (with-bit k)
-
-  pub without-event : (k : ℕ)
-      → holds W (set row (x / wordBits) (bitAnd (getD row (x / wordBits) 0) (2 ^ wordBits - 1 - 1 * 2 ^ (x % wordBits) % 2 ^ wordBits))) 0 k
-      ≡ (holds W row 0 k && not (eqb k x))
-  without-event k = rw (mask-power x) (without-bit k)
+  pub loses : r ≡ unmarked width row 0 x → x < 2 * messagesMost → length row ≡ width → Without row x r
+  loses e few long k = ap (λ (l : List ℕ). inRow l k) e ∙ unmarked-alone width row x (omega arith) k

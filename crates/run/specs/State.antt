@@ -8,13 +8,11 @@ use lib.ListN.{length, getD}
 use Rattle.model.specs.Limits.{messagesMost}
 use Rattle.model.specs.Order.{number}
 use Rattle.model.specs.Run as model
-use Rattle.model.specs.Run.{State, next}
+use Rattle.model.specs.Run.{State}
 use Rattle.relation.specs.Width.{width}
 use Rattle.relation.specs.Rows.{holds}
-use Rattle.relation.specs.Scenario.{scenarioIn}
 use Rattle.board.specs.Boards.{boardsMost}
 use Rattle.step.specs.declared.Step.{Step}
-use Rattle.step.specs.declared.Step.the-variants as step
 use Rattle.step.specs.Steps.{messageIn, eventIn}
 use Rattle.run.specs.declared.Buffer.{Buffer}
 use Rattle.run.specs.declared.Run.{Run}
@@ -29,22 +27,6 @@ With row x more = (k : ℕ) → inRow more k ≡ (inRow row k || eqb k x)
 
 abbrev pub Without : List ℕ → ℕ → List ℕ → Type 0
 Without row x rest = (k : ℕ) → inRow rest k ≡ (inRow row k && not (eqb k x))
-
--- what the step makes of the events done, of the messages under way, and of what its receiver's buffer holds
-abbrev pub DoneBehind : List ℕ → Step → List ℕ → Type 0
-DoneBehind row (step.Send m) r = With row (2 * m) r
-DoneBehind row (step.Deliver m) r = r ≡ row
-DoneBehind row (step.Consume m) r = With row (2 * m + 1) r
-
-abbrev pub WayBehind : List ℕ → Step → List ℕ → Type 0
-WayBehind row (step.Send m) r = With row (2 * m) r
-WayBehind row (step.Deliver m) r = Without row (2 * m) r
-WayBehind row (step.Consume m) r = r ≡ row
-
-abbrev pub HeldBehind : List ℕ → Step → List ℕ → Type 0
-HeldBehind row (step.Send m) r = r ≡ row
-HeldBehind row (step.Deliver m) r = With row (2 * m) r
-HeldBehind row (step.Consume m) r = Without row (2 * m) r
 
 -- the buffer of board b; there is none beyond the last board
 abbrev pub bufferOf : Run → ℕ → Buffer
@@ -80,8 +62,3 @@ pub record BoardAt (on : List ℕ) (s : Step) (b : ℕ) : Type 0 where
 pub record TargetOf (on : List ℕ) (s : Step) (b : ℕ) : Type 0 where
   pub target : b ≡ getD on (2 * messageIn s + 1) 0
   pub below : b < boardsMost
-
--- the state behind a step, event k being on board `getD on k 0`, whatever else the scenario has
-abbrev pub Follows : List ℕ → Run → model.Step → Run → Type 0
-Follows on run t behind =
-    (count : ℕ) (words : List ℕ) → stateOf behind ≡ next (scenarioIn count on words) (stateOf run) t

@@ -16,7 +16,8 @@ use Rattle.step.specs.declared.Step.{Step}
 use Rattle.step.specs.declared.Step.the-variants.{Send, Deliver, Consume}
 use Rattle.run.specs.declared.Buffer.{Buffer}
 use Rattle.run.specs.declared.Run.{Run}
-use Rattle.run.specs.State.{inRow, bufferOf, HeldBehind, TargetOf}
+use Rattle.run.specs.State.{inRow, bufferOf, TargetOf}
+use Rattle.next_state.specs.Behind.{HeldBehind}
 use Rattle.buffers.specs.Held.{HeldIn, HeldAnywhere}
 use Rattle.buffers.proofs.Rows.{buffer-set, buffer-kept, row-holds}
 

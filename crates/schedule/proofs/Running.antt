@@ -27,8 +27,10 @@ use Rattle.step.specs.declared.Step as code
 use Rattle.step.specs.declared.StepOrNone.{StepOrNone}
 use Rattle.step.specs.declared.StepOrNone.the-variants as maybe
 use Rattle.step.specs.Steps.{stepIn, messageIn, stepOrNone}
-use Rattle.run.specs.State.{inRow, bufferOf, stateOf, DoneBehind, WayBehind, HeldBehind, Reaches, TargetOf, Follows}
-use Rattle.run.proofs.States.{start-run, starts, zero-buffers, reaches, next-follows}
+use Rattle.run.specs.State.{inRow, bufferOf, stateOf, Reaches, TargetOf}
+use Rattle.run.proofs.States.{start-run, starts, zero-buffers, reaches}
+use Rattle.next_state.specs.Behind.{DoneBehind, WayBehind, HeldBehind, Follows}
+use Rattle.next_state.proofs.Behind.{next-follows}
 use Rattle.buffers.specs.Held.{HeldIn, RowsBehind, HeldAnywhere}
 use Rattle.buffers.proofs.Rows.{Lays, start-laid, step-laid, rows-kept}
 use Rattle.next_step.specs.Search.{ChosenIn}

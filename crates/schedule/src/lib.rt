@@ -12,12 +12,12 @@ ghost use Rattle.schedule.specs.Schedule.{Scheduled};
 use buffers::HELD_WORDS;
 use buffers::rows_behind;
 use channel_table::Channel;
+use next_state::done_behind;
+use next_state::held_behind;
+use next_state::way_behind;
 use next_step::choose;
 use relation::WIDTH;
-use run::done_behind;
-use run::held_behind;
 use run::target_of;
-use run::way_behind;
 use step::Step;
 use step::StepOrNone;
 

@@ -40,7 +40,7 @@ pub fn judge(rules: [Rule; RULES_MOST], count: usize) -> Judgement
 {
     let mut sender = 0;
     while sender < BOARDS {
-        let met = coverage::search_among(rules, count, coverage::begin(sender, 0));
+        let met = rule_search::search_among(rules, count, coverage::begin(sender, 0));
         let receiver = faulty_receiver(met.once, met.twice);
         if receiver < BOARDS {
             return fault(rules, count, sender, receiver);
@@ -73,8 +73,8 @@ fn faulty_receiver(once: u16, twice: u16) -> usize
 fn is_fault(once: u16, twice: u16, receiver: usize) -> bool
     ensures { λ r. ⌜ r ≡ isFault once twice receiver ⌝ }
 {
-    if coverage::in_set(once, receiver) {
-        coverage::in_set(twice, receiver)
+    if board_set::in_set(once, receiver) {
+        board_set::in_set(twice, receiver)
     } else {
         true
     }
@@ -86,7 +86,7 @@ fn fault(rules: [Rule; RULES_MOST], count: usize, sender: usize, receiver: usize
     requires { ⌜ isFaulty (rulesAs (take count rules)) (pairOf sender receiver) ≡ true ⌝ }
     ensures { λ r. ⌜ judgementAs r ≡ faultOf (pairOf sender receiver) (rulesWith (pairOf sender receiver) 0 (rulesAs (take count rules))) ⌝ }
 {
-    let met = coverage::search_among(rules, count, coverage::begin(sender, receiver));
+    let met = rule_search::search_among(rules, count, coverage::begin(sender, receiver));
     let pair = BOARDS * sender + receiver;
     if met.first == 0 {
         Judgement::Gap(pair)

@@ -25,7 +25,8 @@ use Rattle.relation.specs.Rows.{has, holds}
 use Rattle.relation.specs.Scenario.{scenarioIn}
 use Rattle.relation.proofs.Bits.{has-zero}
 use Rattle.relation.proofs.Words.{has-and, shifted, trailing-clear, trailing-set, trailing-below, word-holds}
-use Rattle.race.specs.Word.{eventAt, isOutside, OutsideWord}
+use Rattle.at_or_before.specs.Reached.{eventAt}
+use Rattle.race.specs.Word.{isOutside, OutsideWord}
 use Rattle.race.proofs.Words.{race-outside}
 use Rattle.share.specs.declared.Bit.{Bit}
 use Rattle.share.specs.declared.Bit.the-variants as bits

@@ -11,7 +11,7 @@ ghost use Rattle.relation.specs.Width.{width, wordBits};
 ghost use Rattle.relation.specs.Rows.{has};
 ghost use Rattle.relation.specs.Scenario.{scenarioIn};
 ghost use Rattle.race.specs.Bridge.{ruleIn};
-ghost use Rattle.race.specs.Word.{eventAt};
+ghost use Rattle.at_or_before.specs.Reached.{eventAt};
 ghost use Rattle.share.specs.Search.{isOn, inWords, bitIn, foundIn, shareOf, Looks};
 use race::Rule;
 use relation::WIDTH;

@@ -20,8 +20,8 @@ fn show(name: &[u8]) {
     let mut scratch = [0u64; model::SCRATCH_LEAST];
     let mut trace = [0u8; model::TRACE_LEAST];
     let a = channel_check::channel_check(&text[..n], 0, &mut scratch, &mut trace);
-    report::print(name);
-    report::print(b": ");
+    printing::print(name);
+    printing::print(b": ");
     report::print_answer(a);
 }
 

@@ -57,25 +57,25 @@ pub const AWAITED: u8 = b'u';
 
 // The name of an attribute, and its value.
 fn print_attribute(name: &[u8], value: u32) {
-    report::print(name);
-    report::print_decimal(value);
-    report::print(b"\"");
+    printing::print(name);
+    printing::print_decimal(value);
+    printing::print(b"\"");
 }
 
 // The beginning of a mark.
 fn begin(name: &[u8], class: u8) {
     let letter = [class];
-    report::print(name);
-    report::print(&letter);
-    report::print(b"\"");
+    printing::print(name);
+    printing::print(&letter);
+    printing::print(b"\"");
 }
 
 // A point of a path, behind the letter that says how the path comes to it.
 fn print_point(letter: &[u8], x: u32, y: u32) {
-    report::print(letter);
-    report::print_decimal(x);
-    report::print(b" ");
-    report::print_decimal(y);
+    printing::print(letter);
+    printing::print_decimal(x);
+    printing::print(b" ");
+    printing::print_decimal(y);
 }
 
 fn begin_path(class: u8, x: u32, y: u32) {
@@ -84,7 +84,7 @@ fn begin_path(class: u8, x: u32, y: u32) {
 }
 
 fn end_mark() {
-    report::print(b"\"/>\n");
+    printing::print(b"\"/>\n");
 }
 
 // A line from one point to another.
@@ -108,7 +108,7 @@ pub fn circle(class: u8, x: u32, y: u32, radius: u32) {
     print_attribute(b" cx=\"", x);
     print_attribute(b" cy=\"", y);
     print_attribute(b" r=\"", radius);
-    report::print(b"/>\n");
+    printing::print(b"/>\n");
 }
 
 fn print_corner(x: u32, y: u32) {
@@ -125,88 +125,88 @@ pub fn rect(class: u8, x: u32, y: u32, width: u32, height: u32) {
     begin(b"<rect class=\"", class);
     print_corner(x, y);
     print_size(width, height);
-    report::print(b"/>\n");
+    printing::print(b"/>\n");
 }
 
 // What is printed behind it, up to `end_text`, stands there.
 pub fn begin_text(class: u8, x: u32, y: u32) {
     begin(b"<text class=\"", class);
     print_corner(x, y);
-    report::print(b">");
+    printing::print(b">");
 }
 
 pub fn end_text() {
-    report::print(b"</text>\n");
+    printing::print(b"</text>\n");
 }
 
 // A number as a text.
 pub fn number(class: u8, x: u32, y: u32, value: u32) {
     begin_text(class, x, y);
-    report::print_decimal(value);
+    printing::print_decimal(value);
     end_text();
 }
 
 // Texts are written over the lines that they meet, on a margin of the background's colour.
 fn print_text_style() {
-    report::print(
+    printing::print(
         b"<style>text{font:11px monospace;fill:#222;stroke:#fff;stroke-width:3px;paint-order:stroke}\n",
     );
-    report::print(
+    printing::print(
         b".t{font-size:20px;font-weight:bold}.r{font-size:13px}.j{font-size:14px;font-weight:bold;fill:#a00018}\n",
     );
-    report::print(
+    printing::print(
         b".b,.a{text-anchor:middle;font-weight:bold}.w{font-size:12px;font-weight:bold}.w,.a{fill:#fff;stroke:none}\n",
     );
-    report::print(b".e,.f{text-anchor:end}.p,.f{fill:#888}\n");
+    printing::print(b".e,.f{text-anchor:end}.p,.f{fill:#888}\n");
 }
 
 // The jam's colour is dark and hatched, so that it shows in grey.
 fn print_mark_style() {
-    report::print(
+    printing::print(
         b"path{fill:none;stroke:#222;stroke-width:1.5}.l{stroke:#999}.h{stroke:#eee}.m,.d{marker-end:url(#a)}\n",
     );
-    report::print(
+    printing::print(
         b".d{stroke-dasharray:6 4}.o{stroke:#bbb;marker-end:url(#o)}.x{stroke:#a00018;stroke-width:4}\n",
     );
-    report::print(
+    printing::print(
         b"rect{fill:#fff;stroke:#222}.k{fill:#eee}.n{fill:#a00018}.y{fill:url(#y)}.n,.y,.v{stroke:#400008;stroke-width:3}\n",
     );
-    report::print(
+    printing::print(
         b".c,.u{fill:#fff;stroke:#bbb;stroke-width:2}.u{stroke:#a00018;stroke-width:3}</style>\n",
     );
 }
 
 // The head of an arrow, in a colour.
 fn print_arrow_head(id: &[u8], colour: &[u8]) {
-    report::print(b"<marker id=\"");
-    report::print(id);
-    report::print(
+    printing::print(b"<marker id=\"");
+    printing::print(id);
+    printing::print(
         b"\" refX=\"6\" refY=\"3\" markerWidth=\"6\" markerHeight=\"6\" orient=\"auto\"><path d=\"M0 0L6 3L0 6\" style=\"stroke:none;fill:",
     );
-    report::print(colour);
-    report::print(b"\"/></marker>\n");
+    printing::print(colour);
+    printing::print(b"\"/></marker>\n");
 }
 
 fn print_hatching() {
-    report::print(
+    printing::print(
         b"<pattern id=\"y\" width=\"8\" height=\"8\" patternUnits=\"userSpaceOnUse\"><path d=\"M0 0H8V8H0\" style=\"stroke:none;fill:#a00018\"/>",
     );
-    report::print(
+    printing::print(
         b"<path d=\"M-2 2L2 -2M0 8L8 0M6 10L10 6\" style=\"stroke:#fff;stroke-width:2\"/></pattern>\n",
     );
 }
 
 // The beginning of a picture of a size. Its title comes next.
 pub fn begin_picture(width: u32, height: u32) {
-    report::print(b"<svg xmlns=\"http://www.w3.org/2000/svg\"");
+    printing::print(b"<svg xmlns=\"http://www.w3.org/2000/svg\"");
     print_size(width, height);
     print_point(b" viewBox=\"0 0 ", width, height);
-    report::print(b"\">\n<title>");
+    printing::print(b"\">\n<title>");
 }
 
 // Behind the title: the style of the marks, and the background.
 pub fn end_title(width: u32, height: u32) {
-    report::print(b"</title>\n");
+    printing::print(b"</title>\n");
     print_text_style();
     print_mark_style();
     print_arrow_head(b"a", b"#222");
@@ -216,5 +216,5 @@ pub fn end_title(width: u32, height: u32) {
 }
 
 pub fn end_picture() {
-    report::print(b"</svg>\n");
+    printing::print(b"</svg>\n");
 }

@@ -11,25 +11,25 @@ fn read(i: usize, table: &mut [u8]) -> File {
 
 // A pair of boards, by its number.
 fn print_pair(pair: u32) {
-    report::print(b"board ");
-    report::print_decimal(pair / model::BOARDS as u32);
-    report::print(b" to board ");
-    report::print_decimal(pair % model::BOARDS as u32);
+    printing::print(b"board ");
+    printing::print_decimal(pair / model::BOARDS as u32);
+    printing::print(b" to board ");
+    printing::print_decimal(pair % model::BOARDS as u32);
 }
 
 fn print_judgement(a: SendersCheckAnswer) {
     if a.word == 0 {
-        report::print(b"sound\n");
+        printing::print(b"sound\n");
     } else if a.word == 1 {
         print_pair(a.one);
-        report::print(b" is in no rule\n");
+        printing::print(b" is in no rule\n");
     } else if a.word == 2 {
         print_pair(a.one);
-        report::print(b" is in two rules, lines ");
-        report::print_decimal(a.two);
-        report::print(b" and ");
-        report::print_decimal(a.three);
-        report::print(b"\n");
+        printing::print(b" is in two rules, lines ");
+        printing::print_decimal(a.two);
+        printing::print(b" and ");
+        printing::print_decimal(a.three);
+        printing::print(b"\n");
     } else {
         commands::print_refusal(STDOUT_FILENO, a.one, a.two);
     }
@@ -49,12 +49,12 @@ fn print_answer(text: &[u8], code: u32, table: &[u8]) {
     let mut scratch = [0u64; model::SCRATCH_LEAST];
     let mut trace = [0u8; model::TRACE_LEAST];
     let a = channel_check::permitted_check(text, code, &mut scratch, &mut trace, table);
-    report::print_decimal(code);
-    report::print(b" ");
+    printing::print_decimal(code);
+    printing::print(b" ");
     report::print_answer(a);
     if a.word == 1 {
         let last = 2 * commands::steps_in(&trace, a.three);
-        report::print_steps(&trace[..last]);
+        printing::print_steps(&trace[..last]);
     }
 }
 

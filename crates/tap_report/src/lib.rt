@@ -13,13 +13,13 @@ fn wide(event: u16) -> usize {
 
 // A line of the course: the event, and where it is.
 fn print_line(event: u16, board: u8) {
-    report::print(b"event ");
-    report::print_decimal(event as u32);
-    report::print(b": ");
+    printing::print(b"event ");
+    printing::print_decimal(event as u32);
+    printing::print(b": ");
     commands::print_kind(event);
-    report::print(b" on board ");
-    report::print_decimal(board as u32);
-    report::print(b"\n");
+    printing::print(b" on board ");
+    printing::print_decimal(board as u32);
+    printing::print(b"\n");
 }
 
 // The course, an event a line.
@@ -37,15 +37,15 @@ fn print_fit(text: &[u8], course: &[u16]) {
     let mut words = [0u64; model::SCRATCH_LEAST];
     let outcome = scenario::scenario_of(text, &mut boards, &mut words);
     if let Expanded::Messages(_) = outcome {
-        report::print(b"fit\n");
+        printing::print(b"fit\n");
         print_course(course, &boards);
     }
 }
 
 fn print_clash(event: u32) {
-    report::print(b"clash: ");
+    printing::print(b"clash: ");
     commands::print_event((event % 65536) as u16);
-    report::print(b" would have to precede itself\n");
+    printing::print(b" would have to precede itself\n");
 }
 
 // What the check says of a sheet and two lists.

@@ -3,28 +3,20 @@ use mathlib.Core.Path.{_≡_, refl, sym, _∙_, ap, subst⁻¹}
 use mathlib.Core.Bool.{Bool, true, false, not}
 use mathlib.Core.List.{List, [], _++_}
 use mathlib.Core.Option.{Option, none, some}
-use Prim.Native.Nat.{ℕ, _*_, _≤_}
+use Prim.Native.Nat.{ℕ, _*_}
 use native.Mathlib.Omega.{arith}
 use lib.ListN.{length, drop}
 use borrow.Author.Tests.{not-true, not-false}
-use Rattle.model.specs.Limits.{tapNumbersLeast}
 use Rattle.model.specs.Bounded.{lowest, eachOnce}
-use Rattle.model.specs.Refusal.{Out, ok, refusal, andThen, tapRefusal}
-use Rattle.model.specs.Order.{event, Scenario}
-use Rattle.model.specs.Answer.{sheetOf}
+use Rattle.model.specs.Refusal.{Out, ok, refusal, tapRefusal}
+use Rattle.model.specs.Order.{Scenario}
 use Rattle.model.specs.Taps.{Tapped, withLists, isSooner, precedes, courseOf, fit, clash, refused, fitWord, tappedOn, tappedFor, tapNumbersOf, outputAfter}
-use Rattle.model.proofs.Accepted.{sheet-causal}
 use Rattle.relation.specs.Width.{width}
 use Rattle.relation.specs.Order.{before, Transitive}
 use Rattle.relation.specs.Own.{isOwn, foundIn}
 use Rattle.relation.specs.Scenario.{scenarioIn}
 use Rattle.relation.specs.declared.Found.{Found}
 use Rattle.relation.specs.declared.Found.the-variants as found
-use Rattle.relation.proofs.Scenario.{before-at}
-use Rattle.expansion.specs.declared.Expanded.{Expanded}
-use Rattle.expansion.specs.declared.Expanded.the-variants as expanded
-use Rattle.scenario.specs.Contract.{SheetIn}
-use Rattle.scenario.proofs.Laws.{sheet-refused, sheet-is, sheet-fits}
 use Rattle.course.specs.Links.{Room, linkedBy}
 use Rattle.course.specs.Left.{NoCircle}
 use Rattle.course.proofs.Closing.{linked-by, twice-long, own-circle, no-circle, course-same, course-long}
@@ -75,7 +67,7 @@ module _ (first second : List ℕ) (S : Scenario) where
   lists-first f = rw f
 
 -- a refusal handed on
-refuses : (first second : List ℕ) (number line : ℕ) (o : Out Scenario) (output : List ℕ) → o ≡ refusal number line
+pub refuses : (first second : List ℕ) (number line : ℕ) (o : Out Scenario) (output : List ℕ) → o ≡ refusal number line
     → Decides first second o output output (Refused number line)
 unfolding tappedFor outputAfter
 refuses first second number line o output e =
@@ -156,32 +148,3 @@ module _ (count : ℕ) (words output first second : List ℕ) (lent : Lent count
           (b ∙ ap (λ (l : List ℕ). courseOf (2 * count) (before width l) (2 * count) ++ drop (2 * count) output) is-linked
           ∙ ap (λ (l : List ℕ). l ++ drop (2 * count) output) (sym same)
           ∙ ap (λ (k : ℕ). courseOf (2 * count) (isSooner S first second) (2 * count) ++ drop k output) (sym long))
-
--- What the way to the scenario hands on.
-module _ (text boards words : List ℕ) (v : Expanded) (p : SheetIn text boards words v) (first second output : List ℕ) where
-  pub scenario-refused : (number line : ℕ) → v ≡ expanded.Refused number line
-      → Decides first second (andThen (sheetOf text) (withLists first second)) output output (Refused number line)
-  unfolding andThen
-  scenario-refused number line i =
-      refuses first second number line _ output
-      (ap (λ (o : Out Scenario). andThen o (withLists first second)) (sheet-refused text boards words v p number line i))
-
-  module _ (count : ℕ) (i : v ≡ expanded.Messages count) where
-    -- the relation of an accepted sheet is closed
-    scenario-closed : Transitive (2 * count) (before width words)
-    scenario-closed x y z hx hy hz a b =
-        let C = sheet-causal text (scenarioIn count boards words) (sheet-is text boards words v p count i) in
-        sym (before-at count boards words x z hx hz)
-        ∙ C .trans (event x) (event y) (event z) (before-at count boards words x y hx hy ∙ a) (before-at count boards words y z hy hz ∙ b)
-
-    pub scenario-lent : tapNumbersLeast ≤ length output → Lent count words output
-    scenario-lent h =
-        let F = sheet-fits text boards words v p count i in
-        record { few = F .few; wordsLong = F .wordsLong; outputLong = h; closed = scenario-closed }
-
-    pub scenario-decided : (behind : List ℕ) (r : Answer) → DecidesFor count words first second output behind r
-        → Decides first second (andThen (sheetOf text) (withLists first second)) output behind r
-    unfolding andThen
-    scenario-decided behind r d =
-        subst⁻¹ (λ (o : Out Scenario). Decides first second (andThen o (withLists first second)) output behind r)
-        (sheet-is text boards words v p count i) (d boards)

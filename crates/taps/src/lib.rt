@@ -1,18 +1,12 @@
-// Two taps on one machine: a text, scratch words and two lists of event numbers in; one course of events for both, a clash or a refusal out.
+// What two taps' lists of event numbers decide on an accepted sheet: one course of events for both, a clash, or a list that is refused.
 ghost use mathlib.Core.Path.{_≡_};
 ghost use mathlib.Core.Bool.{true};
-ghost use Prim.Native.Nat.{_*_, _≤_};
-ghost use lib.ListN.{length};
-ghost use Rattle.model.specs.Limits.{messagesMost, tapNumbersLeast};
-ghost use Rattle.model.specs.Refusal.{andThen};
-ghost use Rattle.model.specs.Answer.{sheetOf};
+ghost use Prim.Native.Nat.{_*_};
 ghost use Rattle.model.specs.Bounded.{eachOnce};
-ghost use Rattle.model.specs.Taps.{withLists, TapsChecked};
 ghost use Rattle.relation.specs.Width.{width};
 ghost use Rattle.relation.specs.Order.{before, Transitive};
 ghost use Rattle.course.specs.Links.{Room, linkedBy};
-ghost use Rattle.taps.specs.Parts.{numbersFor, Decides, DecidesFor, Lent};
-use expansion::Expanded;
+ghost use Rattle.taps.specs.Parts.{DecidesFor, Lent};
 use relation::Found;
 
 // Fit, with the number of events in the output; a clash, with the event that would have to precede itself; or refused, with number
@@ -51,7 +45,7 @@ fn fit_both(
 {
     let events = 2 * count;
     link_both(words, count, first, second);
-    match relation::lowest_own(words, events) {
+    match closure::lowest_own(words, events) {
         Found::Event(x) => Answer::Clash(x),
         Found::Nothing => {
             course::write_course(words, events, output);
@@ -61,7 +55,7 @@ fn fit_both(
 }
 
 // The lists are judged, the first one first, and then fitted.
-fn decide(
+pub fn decide(
     words: &mut [u64],
     count: usize,
     first: &[u16],
@@ -79,46 +73,4 @@ fn decide(
         return Answer::Refused(model::TAP, 2);
     }
     fit_both(words, count, first, second, output)
-}
-
-// A text: its scenario, in the words of the relation, and what is decided of it with the lists.
-fn judge(
-    text: &[u8],
-    words: &mut [u64],
-    first: &[u16],
-    second: &[u16],
-    output: &mut [u16],
-) -> Answer
-    requires { ⌜ length (now words) ≡ 2 * messagesMost * width ⌝ }
-    requires { ⌜ tapNumbersLeast ≤ length (now output) ⌝ }
-    ensures { λ r. ⌜ Decides (now (first .entry)) (now (second .entry)) (andThen (sheetOf (now (text .entry))) (withLists (now (first .entry)) (now (second .entry)))) (now (output .entry)) (now (output .exit)) r ⌝ }
-{
-    let mut boards = [0u8; model::EVENTS_MOST];
-    let outcome = scenario::scenario_of(text, &mut boards, words);
-    match outcome {
-        Expanded::Refused(number, line) => Answer::Refused(number, line),
-        Expanded::Messages(count) => decide(words, count, first, second, output),
-    }
-}
-
-// Whether both lists fit one course of events: refusal 2 touches nothing; behind every other answer the scratch is cleared.
-pub fn fit(
-    text: &[u8],
-    scratch: &mut [u64],
-    first: &[u16],
-    second: &[u16],
-    output: &mut [u16],
-) -> Answer
-    ensures { λ r. ⌜ TapsChecked (now (text .entry)) (now (scratch .entry)) (now (scratch .exit)) (now (first .entry)) (now (second .entry)) (now (output .entry)) (now (output .exit)) (numbersFor r) ⌝ }
-{
-    if scratch.len() < model::SCRATCH_LEAST {
-        return Answer::Refused(model::BENCH, 0);
-    }
-    if output.len() < model::TAP_NUMBERS_LEAST {
-        return Answer::Refused(model::BENCH, 0);
-    }
-    let end = model::SCRATCH_LEAST;
-    let answer = judge(text, &mut scratch[..end], first, second, output);
-    relation::clear(scratch, model::SCRATCH_LEAST);
-    answer
 }

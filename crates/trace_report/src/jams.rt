@@ -32,13 +32,13 @@ fn held_on(trace: &[u8], boards: &[u8; EVENTS_MOST], board: usize) -> u8 {
 }
 
 fn print_jam(board: usize, held: u8, event: u16) {
-    report::print(b"board ");
-    report::print_decimal((board % BOARDS) as u32);
-    report::print(b" holds message ");
-    report::print_decimal(held as u32);
-    report::print(b" and waits for ");
+    printing::print(b"board ");
+    printing::print_decimal((board % BOARDS) as u32);
+    printing::print(b" holds message ");
+    printing::print_decimal(held as u32);
+    printing::print(b" and waits for ");
     commands::print_event(event);
-    report::print(b"\n");
+    printing::print(b"\n");
 }
 
 // A line for each board that waits for an event.

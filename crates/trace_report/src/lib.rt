@@ -10,12 +10,12 @@ pub fn print_steps(text: &[u8], code: u32) {
     let mut scratch = [0u64; model::SCRATCH_LEAST];
     let mut trace = [0u8; model::TRACE_LEAST];
     let a = channel_check::channel_check(text, code, &mut scratch, &mut trace);
-    report::print_decimal(code);
-    report::print(b" ");
+    printing::print_decimal(code);
+    printing::print(b" ");
     report::print_answer(a);
     if a.word == 1 {
         let end = 2 * commands::steps_in(&trace, a.three);
-        report::print_steps(&trace[..end]);
+        printing::print_steps(&trace[..end]);
         let jam = channel_check::trace_check(text, code, &mut scratch, &trace[..end]);
         let waits = jam.waits;
         jams::print(text, &trace[..end], waits);
@@ -29,7 +29,7 @@ pub fn write_trace(text: &[u8], code: u32) {
     let a = channel_check::channel_check(text, code, &mut scratch, &mut trace);
     if a.word == 1 {
         let end = 2 * commands::steps_in(&trace, a.three);
-        report::print(&trace[..end]);
+        printing::print(&trace[..end]);
     } else {
         io::write_all(STDERR_FILENO, b"the sheet is not locked on that channel\n");
     }

@@ -4,7 +4,7 @@ use crate::jams;
 use commands::File;
 use commands::TRACE_MOST;
 use libc::STDOUT_FILENO;
-use replay::TraceCheckAnswer;
+use trace_answer::TraceCheckAnswer;
 
 // The step that is not allowed, as its two bytes say it.
 fn print_not_allowed(trace: &[u8], index: u32) {
@@ -19,11 +19,11 @@ fn print_not_allowed(trace: &[u8], index: u32) {
 // The verdict, in a line.
 fn print_verdict(trace: &[u8], a: TraceCheckAnswer) {
     if a.word == 0 {
-        report::print(b"finished\n");
+        printing::print(b"finished\n");
     } else if a.word == 1 {
-        report::print(b"stuck\n");
+        printing::print(b"stuck\n");
     } else if a.word == 2 {
-        report::print(b"open\n");
+        printing::print(b"open\n");
     } else if a.word == 3 {
         print_not_allowed(trace, a.one);
     } else {

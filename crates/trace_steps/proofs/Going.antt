@@ -30,9 +30,12 @@ use Rattle.step.specs.declared.Step as code
 use Rattle.step.specs.declared.StepOrNone.{StepOrNone}
 use Rattle.step.specs.declared.StepOrNone.the-variants as maybe
 use Rattle.step.specs.Steps.{stepIn, messageIn, stepOrNone}
-use Rattle.run.specs.State.{stateOf, DoneBehind, WayBehind, HeldBehind, Starts, Reaches, BoardAt, TargetOf, Follows}
-use Rattle.run.proofs.States.{buffer-read, reaches, next-follows, boards-kept}
-use Rattle.channel.specs.Steps.{Says, SaysStep}
+use Rattle.run.specs.State.{stateOf, Starts, Reaches, BoardAt, TargetOf}
+use Rattle.run.proofs.States.{buffer-read, reaches}
+use Rattle.next_state.specs.Behind.{DoneBehind, WayBehind, HeldBehind, Follows}
+use Rattle.next_state.proofs.Behind.{next-follows, boards-kept}
+use Rattle.step_rules.specs.Steps.{Says}
+use Rattle.channel.specs.Steps.{SaysStep}
 use Rattle.channel.proofs.StepTests.{unknown-step}
 use Rattle.standing.specs.declared.Stand.{Stand}
 use Rattle.standing.specs.declared.Stand.the-variants as stand

@@ -3,24 +3,19 @@ use mathlib.Core.Path.{_≡_, refl, sym, _∙_, ap, subst, subst⁻¹}
 use mathlib.Core.List.{List}
 use mathlib.Core.Option.{Option, none, some}
 use Prim.Native.Nat.{ℕ}
-use Rattle.model.specs.Refusal.{Out, ok, refusal}
+use Rattle.model.specs.Refusal.{ok}
 use Rattle.model.specs.Order.{Scenario}
 use Rattle.model.specs.Channel as model
 use Rattle.model.specs.Race.{raceRuleOf, lowestRace}
 use Rattle.model.specs.Schedule.{schedule}
-use Rattle.model.specs.Answer.{lockedWord, free, locked, sheetOf, verdictOf, answerFor, numbersOf, traceAfter}
-use Rattle.relation.specs.Scenario.{scenarioIn}
-use Rattle.expansion.specs.declared.Expanded.{Expanded}
-use Rattle.expansion.specs.declared.Expanded.the-variants as expanded
-use Rattle.scenario.specs.Contract.{SheetIn}
-use Rattle.scenario.proofs.Laws.{sheet-refused, sheet-is}
+use Rattle.model.specs.Answer.{lockedWord, free, locked, verdictOf, answerFor, numbersOf, traceAfter}
 use Rattle.race.specs.declared.Rule.{Rule}
-use Rattle.race.specs.declared.Lowest.{Lowest}
-use Rattle.race.specs.declared.Lowest.the-variants as lowest
-use Rattle.race.specs.Bridge.{ruleIn, raceIn}
+use Rattle.lowest_race.specs.declared.Lowest.{Lowest}
+use Rattle.lowest_race.specs.declared.Lowest.the-variants as lowest
+use Rattle.race.specs.Bridge.{ruleIn}
+use Rattle.lowest_race.specs.Named.{raceIn}
 use Rattle.schedule.specs.Schedule.{Scheduled}
-use Rattle.verdict.specs.declared.Answer.{Answer}
-use Rattle.verdict.specs.declared.Answer.the-variants.{Free, Locked, Refused}
+use Rattle.verdict.specs.declared.Answer.the-variants.{Free, Locked}
 use Rattle.verdict.specs.Parts.{IsRace, Decides}
 
 -- the schedule on the channel of a code
@@ -70,21 +65,3 @@ module _ (S : Scenario) (code : ℕ) (rule : Rule) (v : Lowest) (same : ruleIn r
 
   pub unnamed : (trace : List ℕ) → v ≡ lowest.Nothing → Decides (ok S) code trace trace Free
   unnamed trace i = frees S code trace (ap (lowestRace S) (sym same) ∙ sym found ∙ ap raceIn i)
-
--- a refusal handed on
-refuses : (number line code : ℕ) (trace : List ℕ) → Decides (refusal number line) code trace trace (Refused number line)
-unfolding answerFor traceAfter
-refuses number line code trace = record { answer = refl; traceLeft = refl }
-
--- What the way to the scenario hands on.
-module _ (text boards words : List ℕ) (v : Expanded) (p : SheetIn text boards words v) where
-  pub scenario-refused : (number line code : ℕ) (trace : List ℕ) → v ≡ expanded.Refused number line
-      → Decides (sheetOf text) code trace trace (Refused number line)
-  scenario-refused number line code trace i =
-      subst⁻¹ (λ (o : Out Scenario). Decides o code trace trace (Refused number line))
-      (sheet-refused text boards words v p number line i) (refuses number line code trace)
-
-  pub scenario-decided : (count : ℕ) → v ≡ expanded.Messages count → (code : ℕ) (trace behind : List ℕ) (r : Answer)
-      → Decides (ok (scenarioIn count boards words)) code trace behind r → Decides (sheetOf text) code trace behind r
-  scenario-decided count i code trace behind r d =
-      subst⁻¹ (λ (o : Out Scenario). Decides o code trace behind r) (sheet-is text boards words v p count i) d

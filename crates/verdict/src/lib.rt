@@ -1,19 +1,15 @@
-// The check of a sheet on a channel: a text, a channel code, scratch words and trace bytes in; free, locked or refused out.
+// What is decided of an accepted sheet on a channel: free, or locked, with the schedule for the race's message in the trace.
 ghost use mathlib.Core.Path.{_≡_};
-ghost use Prim.Native.Nat.{_*_, _<_, _≤_};
+ghost use Prim.Native.Nat.{_<_, _≤_};
 ghost use lib.ListN.{length};
-ghost use Rattle.model.specs.Limits.{channels, messagesMost, traceLeast};
-ghost use Rattle.model.specs.Answer.{sheetOf};
+ghost use Rattle.model.specs.Limits.{channels, traceLeast};
 ghost use Rattle.model.specs.Refusal.{ok};
 ghost use Rattle.model.specs.Channel.{channelOf};
-ghost use Rattle.model.specs.Verdict.{Checked};
-ghost use Rattle.relation.specs.Width.{width};
 ghost use Rattle.relation.specs.Scenario.{scenarioIn};
 ghost use Rattle.scenario.specs.Contract.{Fit};
 ghost use Rattle.schedule.specs.Schedule.{Scheduled};
-ghost use Rattle.verdict.specs.Parts.{numbersFor, Decides, IsRace};
-use expansion::Expanded;
-use race::Lowest;
+ghost use Rattle.verdict.specs.Parts.{Decides, IsRace};
+use lowest_race::Lowest;
 
 // Free; locked, with the race's message and event and the number of steps in the trace; or refused, with number and line.
 pub enum Answer {
@@ -68,43 +64,9 @@ pub fn decide(words: &[u64], boards: &[u8], count: usize, code: usize, trace: &m
     ensures { λ r. ⌜ Decides (ok (scenarioIn count (now (boards .entry)) (now (words .entry)))) code (now (trace .entry)) (now (trace .exit)) r ⌝ }
 {
     let rule = race::rule_of(code);
-    let lowest = race::lowest_race(words, boards, count, rule);
+    let lowest = lowest_race::lowest_race(words, boards, count, rule);
     match lowest {
         Lowest::Nothing => Answer::Free,
         Lowest::Race(e, x) => lock(words, boards, count, code, e, x, trace),
     }
-}
-
-// A text: its scenario, in the words of the relation, and what is decided of it.
-fn judge(text: &[u8], code: usize, words: &mut [u64], trace: &mut [u8]) -> Answer
-    requires { ⌜ length (now words) ≡ 2 * messagesMost * width ⌝ }
-    requires { ⌜ (code < channels) × (traceLeast ≤ length (now trace)) ⌝ }
-    ensures { λ r. ⌜ Decides (sheetOf (now (text .entry))) code (now (trace .entry)) (now (trace .exit)) r ⌝ }
-{
-    let mut boards = [0u8; model::EVENTS_MOST];
-    let outcome = scenario::scenario_of(text, &mut boards, words);
-    match outcome {
-        Expanded::Refused(number, line) => Answer::Refused(number, line),
-        Expanded::Messages(count) => decide(words, &boards, count, code, trace),
-    }
-}
-
-// The check: refusals 1 and 2 touch nothing; behind every other answer the scratch is cleared.
-pub fn check(text: &[u8], code: u32, scratch: &mut [u64], trace: &mut [u8]) -> Answer
-    ensures { λ r. ⌜ Checked (now (text .entry)) code (now (scratch .entry)) (now (scratch .exit)) (now (trace .entry)) (now (trace .exit)) (numbersFor r) ⌝ }
-{
-    let channel = code as usize;
-    if model::CHANNELS <= channel {
-        return Answer::Refused(model::CHANNEL, 0);
-    }
-    if scratch.len() < model::SCRATCH_LEAST {
-        return Answer::Refused(model::BENCH, 0);
-    }
-    if trace.len() < model::TRACE_LEAST {
-        return Answer::Refused(model::BENCH, 0);
-    }
-    let end = model::SCRATCH_LEAST;
-    let answer = judge(text, channel, &mut scratch[..end], trace);
-    relation::clear(scratch, model::SCRATCH_LEAST);
-    answer
 }

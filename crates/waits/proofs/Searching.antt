@@ -27,10 +27,10 @@ use Rattle.board.specs.Masks.{Standing}
 use Rattle.run.specs.declared.Buffer.{Buffer}
 use Rattle.run.specs.declared.Run.{Run}
 use Rattle.run.specs.State.{bufferOf, stateOf}
-use Rattle.rules.specs.declared.Readiness.{Readiness}
-use Rattle.rules.specs.declared.Readiness.the-variants.{Ready, Done, Waits}
-use Rattle.rules.specs.Rules.{readinessIn, SaysReadiness}
-use Rattle.candidates.specs.Candidates.{NextIn}
+use Rattle.readiness.specs.declared.Readiness.{Readiness}
+use Rattle.readiness.specs.declared.Readiness.the-variants.{Ready, Done, Waits}
+use Rattle.readiness.specs.Says.{readinessIn, SaysReadiness}
+use Rattle.next_message.specs.Next.{NextIn}
 use Rattle.waits.specs.Bridge.{heldReadiness, OfBoards, SaysHeld, SaysWait}
 
 -- a message in the state, by the readiness of its receive

@@ -11,8 +11,8 @@ use Rattle.relation.specs.Scenario.{scenarioIn}
 use Rattle.run.specs.declared.Buffer.{Buffer}
 use Rattle.run.specs.declared.Run.{Run}
 use Rattle.run.specs.State.{bufferOf, stateOf}
-use Rattle.rules.specs.declared.Readiness.{Readiness}
-use Rattle.rules.specs.Rules.{readinessIn}
+use Rattle.readiness.specs.declared.Readiness.{Readiness}
+use Rattle.readiness.specs.Says.{readinessIn}
 
 -- the readiness of m's receive, where board b's buffer holds m
 abbrev pub heldReadiness : Scenario → State → ℕ → ℕ → waits.Readiness

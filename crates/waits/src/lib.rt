@@ -7,9 +7,9 @@ ghost use Rattle.board.specs.Boards.{boardsMost};
 ghost use Rattle.board.specs.Masks.{Standing};
 ghost use Rattle.run.specs.State.{stateOf};
 ghost use Rattle.waits.specs.Bridge.{SaysHeld, SaysWait};
-use candidates::next_in;
+use next_message::next_in;
+use readiness::Readiness;
 use relation::WIDTH;
-use rules::Readiness;
 use run::Buffer;
 use run::Run;
 
@@ -32,7 +32,7 @@ fn held_readiness(
         return Readiness::Ready;
     }
     let receive = send + 1;
-    rules::readiness_of(words, masks, boards, count, done, receive)
+    readiness::readiness_of(words, masks, boards, count, done, receive)
 }
 
 // The event that the lowest message of the buffer whose receive is unready waits for.

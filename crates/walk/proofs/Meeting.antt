@@ -18,8 +18,8 @@ use Rattle.model.specs.Rows.{Row, sheet, message, order, block, call, choice}
 use Rattle.model.specs.Place.{lineOf}
 use Rattle.model.specs.Expansion.{Progress, blockOpened, messageMet, orderMet}
 use Rattle.relation.specs.Width.{width}
-use Rattle.relation.specs.Rows.{inserted}
-use Rattle.relation.proofs.Inserted.{length-inserted}
+use Rattle.closure.specs.Insertion.{inserted}
+use Rattle.closure.proofs.Inserted.{length-inserted}
 use Rattle.sheet.specs.Bridge.{rowFrom, rowsAt, rowsOf}
 use Rattle.sheet.proofs.Bridge.{rows-drop as rows-at-drop, row-message as row-is-message, row-order as row-is-order}
 use Rattle.blocks.specs.Store.{Store, storeOf, seated, added, passed, storeOps}

@@ -17,7 +17,7 @@ const LINES_MOST: usize = 65536;
 
 // What is printed where a line cannot be read. Nothing of the run is lost.
 fn print_expected() {
-    report::print(b"expected: send M, deliver M, consume M or switch CODE\n");
+    printing::print(b"expected: send M, deliver M, consume M or switch CODE\n");
 }
 
 // The messages that a row has, as bits of their sends.
@@ -25,8 +25,8 @@ fn print_messages(row: [u64; relation::WIDTH]) {
     for m in 0..model::MESSAGES_MOST {
         let send = 2 * m;
         if relation::test(&row, 0, send) {
-            report::print(b" ");
-            report::print_decimal(m as u32);
+            printing::print(b" ");
+            printing::print_decimal(m as u32);
         }
     }
 }
@@ -45,29 +45,29 @@ fn is_empty(row: [u64; relation::WIDTH]) -> bool {
 fn print_state(state: Monitor) {
     let run = state.run;
     let way = run.way;
-    report::print(b"code ");
-    report::print_decimal(state.code);
-    report::print(b"; under way:");
+    printing::print(b"code ");
+    printing::print_decimal(state.code);
+    printing::print(b"; under way:");
     print_messages(way);
     for board in 0..model::BOARDS {
         let buffer = run.buffers[board];
         let held = buffer.held;
         if !is_empty(held) {
-            report::print(b"; board ");
-            report::print_decimal(board as u32);
-            report::print(b" holds");
+            printing::print(b"; board ");
+            printing::print_decimal(board as u32);
+            printing::print(b" holds");
             print_messages(held);
         }
     }
-    report::print(b"\n");
+    printing::print(b"\n");
 }
 
 // The word of an answer, in a line.
 fn print_word(a: MonitorAnswer) {
     if a.word == 0 {
-        report::print(b"taken\n");
+        printing::print(b"taken\n");
     } else if a.word == 1 {
-        report::print(b"forbidden\n");
+        printing::print(b"forbidden\n");
     } else {
         commands::print_refusal(STDOUT_FILENO, a.one, a.two);
     }
@@ -127,9 +127,9 @@ fn print_end(state: Monitor, text: &[u8]) {
     let run = state.run;
     let done = run.done;
     if is_finished(done, count) {
-        report::print(b"finished\n");
+        printing::print(b"finished\n");
     } else {
-        report::print(b"stuck\n");
+        printing::print(b"stuck\n");
     }
 }
 

@@ -3,8 +3,8 @@ ghost use Prim.Native.Nat.{_*_, _<_};
 ghost use Rattle.scenario.specs.Contract.{Fit};
 use expansion::Expanded;
 use monitor::Monitor;
+use readiness::Readiness;
 use relation::WIDTH;
-use rules::Readiness;
 
 // The event x waits for another of its board.
 fn print_wait(words: &[u64], boards: &[u8], count: usize, done: &[u64; WIDTH], x: usize)
@@ -13,13 +13,13 @@ fn print_wait(words: &[u64], boards: &[u8], count: usize, done: &[u64; WIDTH], x
 {
     let mut masks = [0u64; board::MASK_WORDS];
     board::board_masks(boards, count, &mut masks);
-    let readiness = rules::readiness_of(words, &masks, boards, count, done, x);
+    let readiness = readiness::readiness_of(words, &masks, boards, count, done, x);
     if let Readiness::Waits(k) = readiness {
-        report::print(b"board ");
-        report::print_decimal((board::board_of(boards, x) % model::BOARDS) as u32);
-        report::print(b" waits for ");
+        printing::print(b"board ");
+        printing::print_decimal((board::board_of(boards, x) % model::BOARDS) as u32);
+        printing::print(b" waits for ");
         commands::print_event((k % model::EVENTS_MOST) as u16);
-        report::print(b"\n");
+        printing::print(b"\n");
     }
 }
 

@@ -1,6 +1,6 @@
 -- `choice::judge` meets its contract. Assumes nothing.
 use Rattle.sheet.proofs.Bridge.{kind-long, one-long, two-long, start-long}
-use Rattle.choice.proofs.Deciding.{text-refused, text-rows, text-judged}
+use Rattle.choice.proofs.Reading.{text-refused, text-rows, text-judged}
 use borrow.Author.Needs.{needs}
 use Rattle.choice.proofs.judge.Statement.{statement}
 use Rattle.choice.proofs.judge.Tie as tie

@@ -1,6 +1,6 @@
 -- `course::all_left` meets its contract. The loop keeps `Filling`: the events passed are in the row. Assumes nothing.
 use Prim.Native.Nat.{_-_}
-use Rattle.course.proofs.Taking.{Filling, filling-start, filling-more, filling-end}
+use Rattle.course.proofs.Filling.{Filling, filling-start, filling-more, filling-end}
 use borrow.Author.Needs.{needs}
 use Rattle.course.proofs.all_left.Statement.{statement}
 use Rattle.course.proofs.all_left.Tie as tie

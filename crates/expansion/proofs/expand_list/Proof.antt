@@ -3,8 +3,8 @@ use native.Mathlib.Omega.{arith}
 use borrow.Author.Needs.{needs}
 use Rattle.blocks.specs.Store.{storeOf}
 use Rattle.walk.proofs.Meeting.{leaves-as}
-use Rattle.levels.specs.Levels.{rank}
-use Rattle.levels.proofs.Seeking.{reaches-as}
+use Rattle.next_block.specs.Levels.{rank}
+use Rattle.next_block.proofs.Seeking.{reaches-as}
 use Rattle.expansion.proofs.Reading.{start-long, sheets-lent}
 use Rattle.expansion.proofs.Whole.{Walking, walking-start, walking-stopped, walking-end, block-ready, walking-refused, walking-less, walking-on}
 use Rattle.expansion.proofs.expand_list.Statement.{statement}

@@ -1,5 +1,5 @@
 -- `levels::letter_at` meets its contract. Assumes nothing.
-use Rattle.levels.proofs.Steps.{letter-inside, letter-behind}
+use Rattle.levels.proofs.Letters.{letter-inside, letter-behind}
 use borrow.Author.Needs.{needs}
 use Rattle.levels.proofs.letter_at.Statement.{statement}
 use Rattle.levels.proofs.letter_at.Tie as tie

@@ -2,7 +2,7 @@
 -- Assumes nothing.
 use native.Mathlib.Omega.{arith}
 use borrow.Author.Needs.{needs}
-use Rattle.levels.specs.Levels.{rank}
+use Rattle.next_block.specs.Levels.{rank}
 use Rattle.message_line.proofs.Looking.{Looking, start-there, looking-start, call-deep, call-level, call-count, call-one, call-place, call-sheet, call-less, looking-called, back-level, back-noted, back-next, back-less, looking-back, row-line, row-next, row-less, message-found, looking-message, looking-on}
 use Rattle.message_line.proofs.walk_to.Statement.{statement}
 use Rattle.message_line.proofs.walk_to.Tie as tie

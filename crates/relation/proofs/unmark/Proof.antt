@@ -1,7 +1,7 @@
 -- `relation::unmark` meets its contract: one shifted is the event's bit, and its complement keeps every other bit of its word.
 -- Assumes nothing.
-use Rattle.relation.specs.Rows.{unmarked}
-use Rattle.relation.proofs.Bits.{mask-power}
+use Rattle.relation.specs.Width.{width}
+use Rattle.relation.proofs.Marked.{unmarked-by}
 use borrow.Author.Needs.{needs}
 use Rattle.relation.proofs.unmark.Statement.{statement}
 use Rattle.relation.proofs.unmark.Tie as tie
@@ -31,8 +31,7 @@ same-length : tie.Need-same-length
 same-length c = search needs
 
 returns : tie.Need-returns
-unfolding unmarked
-returns c = simp mask-power
+returns c = unmarked-by width _ _ _
 
 pub unmark-spec : {M : Type 1} → statement M
 unmark-spec =

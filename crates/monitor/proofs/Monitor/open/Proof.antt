@@ -1,6 +1,7 @@
 -- `Monitor::open` meets its contract. Assumes nothing.
 use native.Mathlib.Omega.{arith}
 use Prim.Native.Nat.{_*_}
+use mathlib.Core.Path.{refl}
 use lib.ListN.{length-take}
 use Rattle.model.specs.Limits.{messagesMost}
 use Rattle.relation.specs.Width.{width}
@@ -52,8 +53,8 @@ returns-3 c =
     let s = c .before .before .before .before .before .before in
     let n = 2 * messagesMost * width in
     let kept = length-take n (s .before .before .before .before .before .before .args .scratch .now) in
-    opens _ _ _ _ (s .begin .last .1 .1 .0) n (answerIn (s .begin .result)) (search needs) (search needs) (omega (arith, kept)) (search needs)
-    (c .before .before .clear .ensures) (s .begin .ensures)
+    opens _ _ _ _ (s .begin .last .1 .1 .0) n (answerIn (s .begin .result)) _ (search needs) (search needs) (omega (arith, kept)) (search needs)
+    (c .before .before .clear .ensures) refl (s .begin .ensures)
 
 pub open-spec : {M : Type 1} → statement M
 open-spec =

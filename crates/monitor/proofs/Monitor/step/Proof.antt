@@ -1,6 +1,7 @@
 -- `Monitor::step` meets its contract. Assumes nothing.
 use native.Mathlib.Omega.{arith}
 use Prim.Native.Nat.{_*_}
+use mathlib.Core.Path.{refl}
 use lib.ListN.{length-take}
 use Rattle.model.specs.Limits.{messagesMost}
 use Rattle.relation.specs.Width.{width}
@@ -49,8 +50,8 @@ returns-3 c =
     let told = s .before .before in
     let n = 2 * messagesMost * width in
     let kept = length-take n (told .before .before .before .before .before .before .args .scratch .now) in
-    steps _ _ _ _ _ (answerIn (s .judge-step .result)) _ (s .judge-step .last .1 .1 .1 .0) n _ (search needs) (search needs) (omega (arith, kept)) (search needs)
-    (c .before .before .clear .ensures) (told .told .ensures) (s .judge-step .ensures)
+    steps _ _ _ _ _ (answerIn (s .judge-step .result)) _ (s .judge-step .last .1 .1 .1 .0) n _ _ (search needs) (search needs) (omega (arith, kept)) (search needs)
+    (c .before .before .clear .ensures) refl (told .told .ensures) (s .judge-step .ensures)
 
 pub step-spec : {M : Type 1} → statement M
 step-spec =

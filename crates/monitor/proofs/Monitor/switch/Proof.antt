@@ -1,6 +1,7 @@
 -- `Monitor::switch` meets its contract. Assumes nothing.
 use native.Mathlib.Omega.{arith}
 use Prim.Native.Nat.{_*_}
+use mathlib.Core.Path.{refl}
 use lib.ListN.{length-take}
 use Rattle.model.specs.Limits.{messagesMost}
 use Rattle.relation.specs.Width.{width}
@@ -42,8 +43,8 @@ returns-3 c =
     let s = c .before .before .before .before .before .before in
     let n = 2 * messagesMost * width in
     let kept = length-take n (s .before .before .before .before .before .before .args .scratch .now) in
-    switches _ _ _ _ (answerIn (s .judge-switch .result)) _ (s .judge-switch .last .1 .1 .1 .0) n (search needs) (search needs) (omega (arith, kept)) (search needs)
-    (c .before .before .clear .ensures) (s .judge-switch .ensures)
+    switches _ _ _ _ (answerIn (s .judge-switch .result)) _ (s .judge-switch .last .1 .1 .1 .0) n _ (search needs) (search needs) (omega (arith, kept)) (search needs)
+    (c .before .before .clear .ensures) refl (s .judge-switch .ensures)
 
 pub switch-spec : {M : Type 1} → statement M
 switch-spec =

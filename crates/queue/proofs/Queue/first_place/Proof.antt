@@ -1,5 +1,5 @@
 -- `Queue::first_place` meets its contract. Assumes nothing.
-use Rattle.queue.proofs.Turns.{first-is}
+use Rattle.queue.proofs.Heads.{first-is}
 use borrow.Author.Needs.{needs}
 use Rattle.queue.proofs.Queue.first_place.Statement.{statement}
 use Rattle.queue.proofs.Queue.first_place.Tie as tie

@@ -1,5 +1,5 @@
 -- `Queue::head` meets its contract. Assumes nothing.
-use Rattle.queue.proofs.Turns.{head-none, head-some}
+use Rattle.queue.proofs.Heads.{head-none, head-some}
 use borrow.Author.Needs.{needs}
 use Rattle.queue.proofs.Queue.head.Statement.{statement}
 use Rattle.queue.proofs.Queue.head.Tie as tie

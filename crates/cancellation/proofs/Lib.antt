@@ -1,0 +1,2 @@
+mod Leaving
+mod Cancelling

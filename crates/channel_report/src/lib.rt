@@ -1,0 +1,19 @@
+// A sheet's answer on each channel, for the programs over the check.
+
+// A line: the code, the word, three numbers.
+fn print_line(text: &[u8], code: u32) {
+    let mut scratch = [0u64; model::SCRATCH_LEAST];
+    let mut trace = [0u8; model::TRACE_LEAST];
+    let a = channel_check::channel_check(text, code, &mut scratch, &mut trace);
+    printing::print_decimal(code);
+    printing::print(b" ");
+    report::print_answer(a);
+}
+
+// The names line, and a sheet's answer on each channel.
+pub fn print_channels(text: &[u8]) {
+    printing::print(b"channel answer one two three\n");
+    for code in 0..model::CHANNELS {
+        print_line(text, code as u32);
+    }
+}

@@ -1,0 +1,4 @@
+pub mod Inserted
+pub mod Closed
+pub mod Loops
+pub mod Lowest

@@ -1,0 +1,4 @@
+pub mod Steps
+pub mod Seeking
+pub mod Closing
+pub mod BlockRows

@@ -1,0 +1,43 @@
+// Printing words, numbers and the steps of a trace, for the programs over the check.
+use libc::STDOUT_FILENO;
+
+pub fn print(text: &[u8]) {
+    io::write_all(STDOUT_FILENO, text);
+}
+
+pub fn print_decimal(number: u32) {
+    io::print_decimal(STDOUT_FILENO, number as u64);
+}
+
+// A step of the trace, for a technician: 0 send, 1 deliver, 2 consume.
+fn print_step(kind: u8, message: u8) {
+    if kind == 0 {
+        print(b"send ");
+    } else if kind == 1 {
+        print(b"deliver ");
+    } else {
+        print(b"consume ");
+    }
+    print_decimal(message as u32);
+    print(b"\n");
+}
+
+// The step that two bytes tell, or that they tell none.
+pub fn print_told(kind: u8, message: u8) {
+    if kind < 3 {
+        print_step(kind, message);
+    } else {
+        print(b"no step has the code ");
+        print_decimal(kind as u32);
+        print(b"\n");
+    }
+}
+
+// The steps that the bytes of a trace tell, one a line.
+pub fn print_steps(trace: &[u8]) {
+    for i in 0..trace.len() / 2 {
+        let at = 2 * i;
+        let behind = at + 1;
+        print_step(trace[at], trace[behind]);
+    }
+}

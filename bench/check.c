@@ -310,13 +310,7 @@ static int may_consume(const walk *w, const masks *k, const run *r, size_t m) {
 
 /* ------------------------------------------------------------------ the schedule */
 
-/* the messages whose step of a class can be allowed at all, as bits of their sends */
-static void held_anywhere(const run *r, uint64_t row[W]) {
-    memset(row, 0, W * sizeof *row);
-    for (size_t b = 0; b < BOARDS; b++)
-        for (size_t i = 0; i < W; i++) row[i] |= r->held[b][i];
-}
-
+/* the messages not yet sent, as bits of their sends */
 static void unsent(const run *r, uint64_t row[W]) {
     for (size_t i = 0; i < W; i++) row[i] = ~r->done[i] & sends;
 }
@@ -328,7 +322,7 @@ static void needed(const walk *w, size_t e, uint64_t row[W]) {
     row[2 * e / 64] |= own;
 }
 
-static int choose(const walk *w, const masks *k, channel c, const run *r, size_t e, uint8_t *kind, size_t *message) {
+static int choose(const walk *w, const masks *k, channel c, const run *r, const uint64_t anywhere[W], size_t e, uint8_t *kind, size_t *message) {
     size_t n = w->count, m;
     uint64_t row[W];
 #define EACH(test) \
@@ -338,7 +332,7 @@ static int choose(const walk *w, const masks *k, channel c, const run *r, size_t
             if (m < n && (test)) return *message = m, 1; \
         }
     *kind = 2;
-    held_anywhere(r, row);
+    memcpy(row, anywhere, sizeof row);
     EACH(may_consume(w, k, r, m))
     *kind = 1;
     if (may_deliver(w, k, c, r, e)) return *message = e, 1;
@@ -379,13 +373,15 @@ static void take(const walk *w, run *r, uint8_t kind, size_t m) {
 static size_t schedule(const walk *w, channel c, size_t e, uint8_t *trace) {
     masks k;
     run r;
+    uint64_t anywhere[W] = {0}; /* what the buffers hold together */
     boards_masks(w, &k);
     memset(&r, 0, sizeof r);
     for (size_t i = 0; i < 3 * w->count; i++) {
         uint8_t kind;
         size_t m;
-        if (!choose(w, &k, c, &r, e, &kind, &m)) return i;
+        if (!choose(w, &k, c, &r, anywhere, e, &kind, &m)) return i;
         take(w, &r, kind, m);
+        if (kind) flip(anywhere, 2 * m);
         trace[2 * i] = kind;
         trace[2 * i + 1] = (uint8_t)m;
     }

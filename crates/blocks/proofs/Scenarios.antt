@@ -1,4 +1,4 @@
--- The scenario that the store holds is the model's, and so is the circle test: the rows hold exactly "before".
+-- The scenario that the store holds is the model's: the rows hold exactly "before".
 -- Assumes nothing.
 use Prim.Native.Nat.{ℕ, _+_, _*_, _/_, _%_, _<_}
 use native.Mathlib.Omega.{arith}
@@ -24,7 +24,7 @@ use Rattle.relation.specs.Scenario.{scenarioIn}
 use Rattle.relation.proofs.Tests.{both-ways}
 use Rattle.blocks.specs.Store.{Store, storeOps, concluded, countedWith}
 use Rattle.blocks.proofs.Sim.{Orders, Sim, Begins, inRow}
-use Rattle.blocks.proofs.Twin.{met, Match, going, stopped, expand-match}
+use Rattle.blocks.proofs.Together.{met, Match, going, stopped, expand-match}
 
 -- the message of an event number
 message-half : (k : ℕ) → messageOf (event k) ≡ k / 2

@@ -16,8 +16,8 @@ use Rattle.model.specs.Order.{Met, metOps}
 use Rattle.model.proofs.Bounded.{or-cases, or-left, or-right}
 use Rattle.model.proofs.Walked.{Sound}
 use Rattle.relation.specs.Width.{width}
-use Rattle.relation.specs.Rows.{holds}
-use Rattle.relation.specs.Order.{before, Transitive, Within}
+use Rattle.relation.specs.Order.{before, Transitive}
+use Rattle.relation.proofs.Order.{Within}
 use Rattle.blocks.specs.Store.{Store, seated, added, storeOps}
 use Rattle.blocks.proofs.Added.{length-added, added-other, added-send, added-receive}
 use Rattle.blocks.proofs.Sim.{Orders, Sim, inRow, inPast, bits}

@@ -6,13 +6,13 @@ ghost use Rattle.model.specs.Choice.{ChoiceChecked};
 ghost use Rattle.model.specs.Waits.{TraceChecked};
 ghost use Rattle.model.specs.Monitor.{Opened, Stepped, Switched, WholeLists};
 ghost use Rattle.model.specs.Cure.{CureChecked};
-ghost use Rattle.model.specs.Dispatcher as desks;
+ghost use Rattle.model.specs.Dispatcher as dispatchers;
 ghost use Rattle.model.specs.Dispatcher.{admit, turn, cancel, Serves};
 ghost use Rattle.model.specs.Senders.{TableJudged, PermittedCheck};
 ghost use Rattle.model.specs.Taps.{TapsChecked};
 ghost use Rattle.choice_answer.specs.Bridge as chosen;
-ghost use Rattle.dispatcher.specs.Bridge as desk;
-ghost use Rattle.dispatcher.specs.Bridge.{deskIn, Holds, emptied, lent};
+ghost use Rattle.dispatcher.specs.Bridge as bridge;
+ghost use Rattle.dispatcher.specs.Bridge.{dispatcherIn, Holds, emptied, lent};
 ghost use Rattle.monitor.specs.Bridge.{heldIn, zeros, answerIn};
 ghost use Rattle.trace_answer.specs.Numbers as replayed;
 ghost use Rattle.answers.specs.Numbers.{numbersIn};
@@ -129,7 +129,7 @@ pub extern "C" fn dispatcher_admit(
     codes: &[u32],
     words: &mut [u64],
 ) -> DispatcherAnswer
-    ensures { λ r. ⌜ Serves deskIn Holds state (admit (lent (now (sheets .entry)) (now (lengths .entry)) (now (codes .entry)) (now (words .entry)))) (now (words .exit)) [] (desk.answerIn r) × desks.WholeLists deskIn Holds emptied ⌝ }
+    ensures { λ r. ⌜ Serves dispatcherIn Holds state (admit (lent (now (sheets .entry)) (now (lengths .entry)) (now (codes .entry)) (now (words .entry)))) (now (words .exit)) [] (bridge.answerIn r) × dispatchers.WholeLists dispatcherIn Holds emptied ⌝ }
 {
     state.admit(sheets, lengths, codes, words)
 }
@@ -144,7 +144,7 @@ pub extern "C" fn dispatcher_turn(
     words: &mut [u64],
     trace: &mut [u8],
 ) -> DispatcherAnswer
-    ensures { λ r. ⌜ Serves deskIn Holds state (turn (lent (now (sheets .entry)) (now (lengths .entry)) (now (codes .entry)) (now (words .entry))) (now (trace .entry))) (now (words .exit)) (now (trace .exit)) (desk.answerIn r) × desks.WholeLists deskIn Holds emptied ⌝ }
+    ensures { λ r. ⌜ Serves dispatcherIn Holds state (turn (lent (now (sheets .entry)) (now (lengths .entry)) (now (codes .entry)) (now (words .entry))) (now (trace .entry))) (now (words .exit)) (now (trace .exit)) (bridge.answerIn r) × dispatchers.WholeLists dispatcherIn Holds emptied ⌝ }
 {
     state.turn(words, trace)
 }
@@ -159,7 +159,7 @@ pub extern "C" fn dispatcher_cancel(
     codes: &[u32],
     words: &mut [u64],
 ) -> DispatcherAnswer
-    ensures { λ r. ⌜ Serves deskIn Holds state (cancel number (lent (now (sheets .entry)) (now (lengths .entry)) (now (codes .entry)) (now (words .entry)))) (now (words .exit)) [] (desk.answerIn r) × desks.WholeLists deskIn Holds emptied ⌝ }
+    ensures { λ r. ⌜ Serves dispatcherIn Holds state (cancel number (lent (now (sheets .entry)) (now (lengths .entry)) (now (codes .entry)) (now (words .entry)))) (now (words .exit)) [] (bridge.answerIn r) × dispatchers.WholeLists dispatcherIn Holds emptied ⌝ }
 {
     state.cancel(number, words)
 }

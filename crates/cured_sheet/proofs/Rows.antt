@@ -62,10 +62,6 @@ module _ (boards : List ℕ) (count : ℕ) where
   unfolding messageRows rowsText
   messages-none rest = record { rowed = record { written = writes-none rest; few = omega arith; same = refl }; most = omega arith }
 
-  pub messages-room : (rest now : List ℕ) (at m : ℕ) → Messages rest now at m → m < count → rowBytesMost * count ≤ length rest → rowBytesMost ≤ length (restFrom at now)
-  messages-room rest now at m g h room =
-      rest-room (rowsText (messagesIn boards m)) rest now at rowBytesMost (g .rowed .written) (omega (arith, g .rowed .few))
-
   more-text : (m : ℕ) → rowsText (messagesIn boards (m + 1)) ≡ rowsText (messagesIn boards m) ++ rowText (messageRow boards m)
   unfolding messageRows
   more-text m =

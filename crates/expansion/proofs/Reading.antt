@@ -1,6 +1,6 @@
 -- What the columns and the table lent hold, the rows being those of some text: each row stands where the walk comes to it, each
 -- sheet called starts where the table says, and the rows are few. Assumes nothing.
-use Prim.Native.Nat.{ℕ, zero, suc, _+_, _-_, _<_, _≤_}
+use Prim.Native.Nat.{ℕ, zero, suc, _+_, _<_, _≤_}
 use native.Mathlib.Decide.{ℕ-discrete}
 use native.Mathlib.Omega.{arith}
 use mathlib.Core.Path.{_≡_, refl, _∙_, ap, subst}

@@ -2,7 +2,6 @@
 use mathlib.Core.Path.{_≡_, refl, sym, _∙_, ap}
 use mathlib.Core.Bool.{Bool, true, false, not}
 use mathlib.Core.List.{List, _++_}
-use mathlib.Core.Option.{Option, none, some}
 use Prim.Native.Nat.{ℕ, _+_, _*_, _<_, _≤_}
 use native.Mathlib.Numerals.{add-one}
 use native.Mathlib.Omega.{arith}
@@ -17,9 +16,6 @@ use Rattle.model.specs.Channel.{Channel, channelOf}
 use Rattle.model.specs.Run.{start}
 use Rattle.model.specs.Race.{raceRuleOf, lowestRace}
 use Rattle.model.specs.Schedule.{schedule, bytesOf}
-use Rattle.model.specs.Answer as model
-use Rattle.model.specs.Answer.{lockedWord}
-use Rattle.model.specs.Dispatcher.{AsTheCheck}
 use Rattle.model.proofs.Bounded.{not-both, and-both, every-at, every-from, every-fails}
 use Rattle.model.proofs.PointThree.{race-lowest, schedule-most}
 use Rattle.model.proofs.Trace.{bytes-length}
@@ -29,7 +25,6 @@ use Rattle.scenario.specs.Contract.{Fit}
 use Rattle.schedule.specs.Schedule.{Scheduled}
 use Rattle.share.specs.declared.Race.{Race}
 use Rattle.share.specs.Search.{raceIn}
-use Rattle.verdict.specs.Parts.{Decides}
 use Rattle.verdict.proofs.Parts.{locks, frees}
 use Rattle.last_turn.specs.declared.Numbers.{Numbers}
 use Rattle.last_turn.specs.Answer.{allOnBoards, numbersIn, zeros, Concludes}

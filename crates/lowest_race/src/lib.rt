@@ -39,7 +39,7 @@ fn lowest_event(
     Found::Nothing
 }
 
-// The race named: the lowest message that races, and the lowest event that it races with.
+// A message and the event that it races with, or no race.
 pub enum Lowest {
     Race(usize, usize),
     Nothing,
@@ -59,6 +59,7 @@ fn lowest_message(words: &[u64], masks: &[u64], boards: &[u8], count: usize, rul
     Lowest::Nothing
 }
 
+// On a channel without races no masks are made.
 pub fn lowest_race(words: &[u64], boards: &[u8], count: usize, rule: Rule) -> Lowest
     requires { ⌜ Lent count (now boards) (now words) ⌝ }
     ensures { λ r. ⌜ raceIn r ≡ lowestRace (scenarioIn count (now (boards .entry)) (now (words .entry))) (ruleIn rule) ⌝ }

@@ -1,11 +1,11 @@
 -- Request (a): the verdict on a trace is right for the whole list of its steps, and the schedule's traces come out stuck.
 -- Assumes nothing.
-use Prim.Native.Nat.{ℕ, zero, suc, _+_, _*_, _%_, _<_, _≤_}
+use Prim.Native.Nat.{ℕ, suc, _+_, _*_, _%_, _<_, _≤_}
 use native.Mathlib.Nat.{add-zero}
 use native.Mathlib.Omega.{arith}
 use mathlib.Core.Path.{_≡_, refl, sym, _∙_, ap, subst, subst₂, subst⁻¹}
-use mathlib.Core.Logic.{_⊎_, inl, inr, ⊎-elim, _↔_}
-use mathlib.Core.Bool.{Bool, true, false, not, cond, _&&_}
+use mathlib.Core.Logic.{_⊎_, inl, inr}
+use mathlib.Core.Bool.{Bool, true, false, cond}
 use mathlib.Core.List.{List, [], _∷_, _++_}
 use mathlib.Core.Option.{Option, none, some}
 use borrow.Author.Tests.{lt-ltb, ltb-true, le-ltb, le-leb, leb-true, eq-eqb, eqb-true}
@@ -17,11 +17,11 @@ use Rattle.model.specs.Refusal.{Out, ok, refusal, channelRefusal, benchR
 use Rattle.model.specs.Place.{lineOf}
 use Rattle.model.specs.Order.{Scenario}
 use Rattle.model.specs.Channel.{Channel, channelOf}
-use Rattle.model.specs.Run.{State, start, Step, next, allowed, isOrderFrom, noStep, after, finished, stuck, EndsStuck, EndsFinished}
+use Rattle.model.specs.Run.{State, start, Step, next, allowed, isOrderFrom, after, finished, stuck, EndsStuck, EndsFinished}
 use Rattle.model.specs.Schedule.{kindOf, messageOfStep, bytesOf, stepTold}
-use Rattle.model.specs.Answer.{Answer, locked, sheetOf, acceptedOf, answerFor, answerOf, verdictOf}
+use Rattle.model.specs.Answer.{locked, sheetOf, answerOf}
 use Rattle.model.specs.Replay.{Replay, finishes, sticks, open′, notAllowed, refused, stepsIn, standing, replayFrom, replay, isTrace, replayable, replayFor, replayOf, ReplayNumbers, replayNumbers, finishedWord, stuckWord, openWord, notAllowedWord, FirstForbidden, EndsOpen, ByTheRules}
-use Rattle.model.proofs.Bounded.{and-left, and-right, and-both, which, not-both}
+use Rattle.model.proofs.Bounded.{and-left, and-right, and-both, which}
 use Rattle.model.proofs.Refusal.{not-refused, cond-ok, cond-refused}
 use Rattle.model.proofs.Lines.{Well, sheet-well}
 use Rattle.model.proofs.Accepted.{sheet-count}

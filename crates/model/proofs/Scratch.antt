@@ -5,10 +5,10 @@ use mathlib.Core.List.{List}
 use borrow.Author.Tests.{le-ltb}
 use lib.ListN.{length}
 use Rattle.model.specs.Limits.{scratchLeast}
-use Rattle.model.specs.Answer.{acceptedOf, answerOf, answerFor, traceAfter}
-use Rattle.model.specs.Replay.{replayable, replayOf, replayFor}
+use Rattle.model.specs.Answer.{acceptedOf, answerOf, traceAfter}
+use Rattle.model.specs.Replay.{replayable, replayOf}
 use Rattle.model.specs.Choice.{choosable, choiceAnswerOf, traceChosen}
-use Rattle.model.specs.Scratch.{SameOnScratch, SameOnAnyScratch}
+use Rattle.model.specs.Scratch.{SameOnAnyScratch}
 
 module _ (text : List ℕ) (code m n : ℕ) (a : scratchLeast ≤ m) (b : scratchLeast ≤ n) where
   same-accepted : (traceLength : ℕ) → acceptedOf text code m traceLength ≡ acceptedOf text code n traceLength

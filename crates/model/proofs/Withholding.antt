@@ -8,10 +8,10 @@ use mathlib.Core.Bool.{Bool, true, false, not, _&&_, _||_}
 use mathlib.Core.List.{List, [], _∷_}
 use mathlib.Core.Option.{Option, none, some}
 use borrow.Author.Tests.{eq-eqb, eqb-true, leb-true, lt-leb, not-true}
-use lib.Dec.{eqb, leb}
+use lib.Dec.{eqb}
 use Rattle.model.specs.Bounded.{every, lowest}
 use Rattle.model.specs.Order.{Event, sendOf, receiveOf, messageOf, Scenario, board, boardOf, atOrBefore}
-use Rattle.model.specs.Channel.{Channel, ToSend, ToDeliver, alone}
+use Rattle.model.specs.Channel.{Channel, ToSend, ToDeliver}
 use Rattle.model.specs.Run.{State, Step, send, deliver, consume, next, allowed, isOrderFrom, after, finished, stuck}
 use Rattle.model.specs.Race.{RaceRule, byEvent, byOrigin, never, origin, escapes, isRace}
 use Rattle.model.specs.Schedule.{

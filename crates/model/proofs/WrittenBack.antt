@@ -21,7 +21,6 @@ use Rattle.model.specs.Refusal.{Out, ok, refusal, andThen, rowRefusal, p
 use Rattle.model.specs.Text.{ascii, Line, fieldsOf, aheadOfField, placeOf, columnsOf, areColumns, headingOf}
 use Rattle.model.specs.Rows.{Row, sheet, message, order, formed, rowOf}
 use Rattle.model.specs.Place.{Place, outside, withMessage, messageFits, orderFits, moved, isSheet, placed, BlockBefore, given, paired, through, blockCircle, circleAt, lineOf, judged, rowsFrom, opens, strayCall, complete, bodyOf, readOf, readWith}
-use Rattle.model.specs.Place as place
 use Rattle.model.specs.Order.{Event, sendOf, receiveOf, number, event, messageOf, boardOf, Scenario, board}
 use Rattle.model.specs.Cure.{curedBefore, isWritten, ordersAt, ordersBelow, Written, messageRows, orderRows, curedRows, rowsText, headingText, curedText}
 use Rattle.model.proofs.Bounded.{and-left, and-right, or-cases, or-left, or-right, which, not-both}

@@ -126,6 +126,8 @@ module _ {M : Type 0} (held : M → Held) where
   pub record ByTheRules (S : Scenario) (m : M) (c : Call) (r : MonitorAnswer M) : Type 0 where
     pub word : r .word ≡ wordTo S (held m) c
     pub state : held (r .next) ≡ behind S (held m) c
+    -- a call that is taken names no number
+    pub taken : r .word ≡ takenWord → (r .one ≡ 0) × (r .two ≡ 0)
     -- a step that the rule forbids leaves the monitor as it was, bit for bit
     pub forbidden : r .word ≡ forbiddenWord → r ≡ record { word = forbiddenWord; one = 0; two = 0; next = m }
 

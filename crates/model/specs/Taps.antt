@@ -144,6 +144,8 @@ module _ (S : Scenario) (first second : List ℕ) where
     pub fitOrClash : (r .word ≡ fitWord) ⊎ (r .word ≡ clashWord)
     -- fit exactly if some order of all events obeys "before" and both lists
     pub fitWhenObeyed : (r .word ≡ fitWord) ↔ ((order : List ℕ) × Obeys order)
+    -- empty lists fit
+    pub emptyFit : first ≡ [] → second ≡ [] → r .word ≡ fitWord
     -- all events are written, in such an order
     pub fitCount : r .word ≡ fitWord → r .one ≡ 2 * S .count
     pub fitOrder : r .word ≡ fitWord → Obeys (take (r .one) output)

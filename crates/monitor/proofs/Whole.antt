@@ -1,6 +1,6 @@
 -- The whole promises, from what the parts of the calls hand on. Assumes nothing.
 use mathlib.Core.Path.{_≡_, refl, sym, _∙_, ap, subst, subst⁻¹}
-use mathlib.Core.Bool.{Bool, true, false, not, cond}
+use mathlib.Core.Bool.{Bool, true, false, cond}
 use mathlib.Core.List.{List, _++_}
 use mathlib.Core.Option.{Option}
 use Prim.Native.Nat.{ℕ, _<_, _≤_}
@@ -117,6 +117,7 @@ module _ (m : Monitor) (kind message : ℕ) (text scratch : List ℕ) (r : Reply
           record {
             word = ap (λ (a : Reply). a .word) e ∙ two;
             state = ap (λ (a : Reply). heldIn (a .next)) e ∙ sym (rw (← two));
+            taken = λ f. let one : refusedWord ≡ takenWord = sym (ap (λ (a : Reply). a .word) e) ∙ f in absurd (omega (arith, one));
             forbidden = λ f. let one : refusedWord ≡ forbiddenWord = sym (ap (λ (a : Reply). a .word) e) ∙ f in absurd (omega (arith, one));
           };
     },
@@ -156,7 +157,8 @@ module _ (m : Monitor) (kind message : ℕ) (text scratch : List ℕ) (r : Reply
           let q = h .taken e in
           record {
             word = q .0 ∙ sym w;
-            state = q .1 ∙ ap (taking S (heldIn m)) t ∙ sym (behind-taken S w);
+            state = q .3 ∙ ap (taking S (heldIn m)) t ∙ sym (behind-taken S w);
+            taken = λ f. (q .1, q .2);
             forbidden = λ f. let z : takenWord ≡ forbiddenWord = sym (q .0) ∙ f in absurd (omega (arith, z));
           }
       go false e =
@@ -165,6 +167,7 @@ module _ (m : Monitor) (kind message : ℕ) (text scratch : List ℕ) (r : Reply
           record {
             word = ap (λ (a : Reply). a .word) q ∙ sym w;
             state = ap (λ (a : Reply). heldIn (a .next)) q ∙ sym (behind-same S w);
+            taken = λ f. let z : forbiddenWord ≡ takenWord = sym (ap (λ (a : Reply). a .word) q) ∙ f in absurd (omega (arith, z));
             forbidden = λ f. q;
           }
 
@@ -197,6 +200,7 @@ module _ (m : Monitor) (code : ℕ) (text scratch : List ℕ) (r : Reply) where
       record {
         word = ap (λ (a : Reply). a .word) e ∙ two;
         state = ap (λ (a : Reply). heldIn (a .next)) e ∙ sym (rw (← two));
+        taken = λ f. let one : refusedWord ≡ takenWord = sym (ap (λ (a : Reply). a .word) e) ∙ f in absurd (omega (arith, one));
         forbidden = λ f. let one : refusedWord ≡ forbiddenWord = sym (ap (λ (a : Reply). a .word) e) ∙ f in absurd (omega (arith, one));
       }
 
@@ -253,6 +257,7 @@ module _ (m : Monitor) (code : ℕ) (text scratch : List ℕ) (r : Reply) where
           record {
             word = ap (λ (a : Reply). a .word) q ∙ sym w;
             state = ap (λ (a : Reply). heldIn (a .next)) q ∙ sym (passes S w);
+            taken = λ f. (ap (λ (a : Reply). a .one) q, ap (λ (a : Reply). a .two) q);
             forbidden = λ f. let z : takenWord ≡ forbiddenWord = sym (ap (λ (a : Reply). a .word) q) ∙ f in absurd (omega (arith, z));
           }
 

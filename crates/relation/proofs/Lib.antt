@@ -1,9 +1,11 @@
 pub mod Tests
 pub mod Bits
 pub mod Place
+pub mod OneBit
 pub mod Marked
 pub mod Cleared
 pub mod Scenario
 pub mod Loops
 pub mod Words
 pub mod Alone
+pub mod Order

@@ -21,10 +21,10 @@ use Rattle.presence.specs.Stray.{isStray, strayIn, absentAt, presenceIn}
 use Rattle.presence.specs.declared.Presence.{Presence}
 use Rattle.presence.specs.declared.Presence.the-variants.{Complete, Absent}
 use Rattle.sheet.specs.Bridge.{rowFrom, rowsAt, rowsOf, outcomeOf, startsOf, storeOf, Sized, KeptOn}
-use Rattle.sheet.specs.Reading.{readFrom, fresh}
 use Rattle.sheet.specs.Store.{verdictOn, BodyAs}
 use Rattle.sheet.specs.declared.Verdict.{Verdict}
 use Rattle.sheet.specs.declared.Verdict.the-variants.{Rows, Refused}
+use Rattle.sheet.proofs.Reading.{readFrom, fresh}
 use Rattle.sheet.proofs.Simulation.{rows-refused, rows-read, starts-same, open-same}
 
 -- the verdict, by the sheets that are there

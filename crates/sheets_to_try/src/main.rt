@@ -1,7 +1,5 @@
 // Runs the paper's sheets that are not in the proved table, 9 and 10, and sheets for each refusal, each limit from both sides:
 // the files that the list names, one a line. For each it prints the name, and the answer on channel 0.
-ghost use Prim.Native.Nat.{_≤_};
-ghost use lib.ListN.{length};
 
 // Room for the list of names.
 const LIST_MOST: usize = 8192;

@@ -86,7 +86,7 @@ fn is_still(run: Run, words: &[u64], masks: &[u64], boards: &[u8], count: usize,
     true
 }
 
-// Where the run stands.
+// Finished is asked first: in a finished run no step is allowed either.
 pub fn stand_of(
     run: Run,
     words: &[u64],

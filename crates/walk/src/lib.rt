@@ -51,7 +51,7 @@ pub enum Walked {
     Stopped(u8, usize),
 }
 
-// The heading is line 1.
+// The line of row 0, behind the heading.
 pub const FIRST_LINE: usize = 2;
 
 // A row of a block, M or P.

@@ -1,4 +1,4 @@
--- Code-shaped twin of the model's rows, with the table of starts in place of the list of sheets opened, and words in place of the
+-- The model's rows as the code reads them, with the table of starts in place of the list of sheets opened, and words in place of the
 -- open block's P rows.
 -- Assumes nothing.
 use Prim.Native.Nat.{ℕ, suc}

@@ -5,7 +5,7 @@
  * not a trace but calls of the monitor. Otherwise the call is permitted_check and senders_check where the first byte has bit 5: a byte for a
  * quarter of the table's length follows, then the table, then the text; cure_sheet where it has bit 4, choice_check where it has bit 3, else
  * channel_check. Where the first byte has bit 6 it is taps_check, whatever the rest: a byte for each list's length follows, then the lists, a byte
- * an event, 255 being 65,535, then the text. Where it has bit 7 it is the dispatcher's calls, whatever the rest: the second byte says how long the
+ * an event, from 224 on the highest ones, 255 being 65,535, then the text. Where it has bit 7 it is the dispatcher's calls, whatever the rest: the second byte says how long the
  * sheets are that are lent, a byte for the number of calls follows, then the calls, three bytes each, then the text. */
 #define _GNU_SOURCE
 #include "../bench/check.h"
@@ -215,7 +215,7 @@ static void try_table(const uint8_t *text, size_t len, uint32_t code, size_t wor
 /* a list in memory of exact size, from bytes: the high ones are the last events that a sheet may have, and the highest is none */
 static uint16_t *list_of(const uint8_t *bytes, size_t count) {
     uint16_t *list = malloc(2 * count);
-    for (size_t i = 0; i < count; i++) list[i] = (uint16_t)(bytes[i] == 255 ? 65535 : bytes[i] < 224 ? bytes[i] : CHANNEL_CHECK_EVENTS - 256 + bytes[i]);
+    for (size_t i = 0; i < count; i++) list[i] = (uint16_t)(bytes[i] == 255 ? 65535 : bytes[i] < 224 ? bytes[i] : CHANNEL_CHECK_EVENTS - 255 + bytes[i]);
     return list;
 }
 
@@ -275,13 +275,13 @@ enum { PLACES = DISPATCHER_PLACES, SHEET = DISPATCHER_SHEET_BYTES, BEHIND = 3, A
 enum { ADMIT, TURN, CANCEL };
 
 /* one implementation, with its words and its trace; both end at the end of their memory */
-typedef struct { admits *admit; turns *turn; cancels *cancel; uint64_t *words; uint8_t *trace; dispatcher_answer told; } desk;
+typedef struct { admits *admit; turns *turn; cancels *cancel; uint64_t *words; uint8_t *trace; dispatcher_answer told; } side;
 
 /* what a call is lent beside words and trace, and how much of these; and the number that is cancelled */
 typedef struct { uint8_t *sheets; uint32_t *lengths, *codes, number; size_t sheets_len, lengths_len, codes_len, words_len, trace_len; } lent;
 
 /* what is known of the dispatcher: its words; what the check answers to the sheet of each place. The careful C program reads no forged values. */
-typedef struct { lent l; desk desks[3]; int is_forged, turns; uint64_t words[ALL]; channel_check_answer expected[PLACES]; uint8_t steps[PLACES][BYTES]; dispatcher kept; } counter;
+typedef struct { lent l; side sides[3]; int is_forged, turns; uint64_t words[ALL]; channel_check_answer expected[PLACES]; uint8_t steps[PLACES][BYTES]; dispatcher kept; } counter;
 
 static void stop_at(const char *what, const dispatcher_answer *a) {
     call c = {.answer = {a->word, a->one, a->two, a->answer.word, a->answer.one, a->answer.two}};
@@ -298,7 +298,7 @@ static unsigned places_in(const dispatcher_queue *q) {
     return taken;
 }
 
-static dispatcher_answer ask(const desk *d, int kind, const lent *l) {
+static dispatcher_answer ask(const side *d, int kind, const lent *l) {
     uint64_t *words = d->words + ALL - l->words_len;
     dispatcher v = d->told.next;
     if (kind == ADMIT) return d->admit(v, l->sheets, l->sheets_len, l->lengths, l->lengths_len, l->codes, l->codes_len, words, l->words_len);
@@ -307,7 +307,7 @@ static dispatcher_answer ask(const desk *d, int kind, const lent *l) {
 }
 
 /* the header's promise of value, words and trace, whatever was handed in */
-static void keeps_promise(counter *c, desk *d, int kind, const dispatcher *before, uint64_t *words) {
+static void keeps_promise(counter *c, side *d, int kind, const dispatcher *before, uint64_t *words) {
     const dispatcher_answer *a = &d->told;
     unsigned taken = places_in(&a->next.queue);
     size_t written = kind == TURN && a->word == 3 && a->answer.word == 1 ? 2 * (size_t)a->answer.three : 0;
@@ -326,7 +326,7 @@ static void keeps_promise(counter *c, desk *d, int kind, const dispatcher *befor
 
 /* what was not forged: a job is admitted if the check accepts its sheet, and is answered as by the check */
 static void as_checked(counter *c, int kind, const dispatcher *before) {
-    const dispatcher_answer *a = &c->desks[0].told;
+    const dispatcher_answer *a = &c->sides[0].told;
     static uint64_t scratch[WORDS];
     if (kind == ADMIT && a->word == 0) {
         size_t p = a->two, from = p * SHEET < c->l.sheets_len ? p * SHEET : c->l.sheets_len, most = c->l.sheets_len - from;
@@ -339,28 +339,28 @@ static void as_checked(counter *c, int kind, const dispatcher *before) {
     if (kind == TURN && a->word == 3) {
         size_t p = before->queue.jobs[0].place;
         if (memcmp(&a->answer, &c->expected[p], sizeof a->answer) != 0) stop_at("another answer than the check's", a);
-        if (memcmp(c->desks[0].trace, c->steps[p], BYTES) != 0) stop_at("other steps than the check's", a);
+        if (memcmp(c->sides[0].trace, c->steps[p], BYTES) != 0) stop_at("other steps than the check's", a);
     }
 }
 
 /* one call of all implementations: they agree, and each keeps its promise */
 static dispatcher_answer serve(counter *c, int kind) {
     static uint64_t words[ALL];
-    dispatcher before = c->desks[0].told.next;
+    dispatcher before = c->sides[0].told.next;
     for (int i = 0; i < (c->is_forged ? 2 : 3); i++) {
-        desk *d = &c->desks[i];
+        side *d = &c->sides[i];
         dispatcher own = d->told.next;
         memset(d->trace, PAINT, BYTES);
         d->told = ask(d, kind, &c->l);
         keeps_promise(c, d, kind, &own, words);
-        if (memcmp(&d->told, &c->desks[0].told, offsetof(dispatcher_answer, next)) != 0) stop_at("a dispatcher's answer", &d->told);
-        if (memcmp(d->trace, c->desks[0].trace, BYTES) != 0 || memcmp(d->words, c->desks[0].words, sizeof words) != 0) stop_at("a dispatcher's words or trace", &d->told);
-        if (i == 1 && memcmp(&d->told.next, &c->desks[0].told.next, sizeof before) != 0) stop_at("a dispatcher's value", &d->told);
+        if (memcmp(&d->told, &c->sides[0].told, offsetof(dispatcher_answer, next)) != 0) stop_at("a dispatcher's answer", &d->told);
+        if (memcmp(d->trace, c->sides[0].trace, BYTES) != 0 || memcmp(d->words, c->sides[0].words, sizeof words) != 0) stop_at("a dispatcher's words or trace", &d->told);
+        if (i == 1 && memcmp(&d->told.next, &c->sides[0].told.next, sizeof before) != 0) stop_at("a dispatcher's value", &d->told);
         if (i < 2 && (!ahead_painted((uint8_t *)d->words) || !ahead_painted(d->trace))) stop_at("bytes ahead of a dispatcher's buffer", &d->told);
     }
     if (!c->is_forged) as_checked(c, kind, &before);
     memcpy(c->words, words, sizeof words);
-    return c->desks[0].told;
+    return c->sides[0].told;
 }
 
 /* the text's first lines, or all of it, as the sheet of the place that an admission takes */
@@ -394,19 +394,19 @@ static void forge(counter *c, uint8_t kind, uint8_t a, uint8_t b) {
     size_t at = a % 2 ? b % HEAD : (a / 2 * (size_t)256 + b) % sizeof(dispatcher), word = (a / 2 * (size_t)256 + b) % ALL;
     c->is_forged = 1;
     for (int i = 0; i < 2; i++) {
-        if (kind % 8 == 7) c->desks[i].told.next = c->kept;
-        else if (a % 4 == 2) ((uint8_t *)(c->desks[i].words + word))[kind / 8 % 8] ^= (uint8_t)(1u << b % 8);
-        else ((uint8_t *)&c->desks[i].told.next)[at] = (uint8_t)(kind / 8 * 33);
+        if (kind % 8 == 7) c->sides[i].told.next = c->kept;
+        else if (a % 4 == 2) ((uint8_t *)(c->sides[i].words + word))[kind / 8 % 8] ^= (uint8_t)(1u << b % 8);
+        else ((uint8_t *)&c->sides[i].told.next)[at] = (uint8_t)(kind / 8 * 33);
     }
-    memcpy(c->words, c->desks[0].words, sizeof c->words);
+    memcpy(c->words, c->sides[0].words, sizeof c->words);
 }
 
 /* the calls: an admission, turns, a cancellation, one that is lent less, a value kept or forged */
-static void call_desks(counter *c, const uint8_t *calls, size_t count, const uint8_t *text, size_t len) {
+static void call_all(counter *c, const uint8_t *calls, size_t count, const uint8_t *text, size_t len) {
     static const uint32_t codes[8] = {0, 1, 2, 3, 4, 5, 6, UINT32_MAX};
     for (const uint8_t *at = calls; at + 3 <= calls + 3 * count; at += 3) {
         uint8_t kind = at[0], a = at[1], b = at[2];
-        lend_sheet(&c->l, &c->desks[0].told.next, text, len, b, codes[a % 8]);
+        lend_sheet(&c->l, &c->sides[0].told.next, text, len, b, codes[a % 8]);
         c->l.number = a;
         if (kind % 8 < 2) serve(c, ADMIT);
         if (kind % 8 == 2 || kind % 8 == 3)
@@ -414,7 +414,7 @@ static void call_desks(counter *c, const uint8_t *calls, size_t count, const uin
                 if (serve(c, TURN).word == 1) break;
         if (kind % 8 == 4) serve(c, CANCEL);
         if (kind % 8 == 5) lend_less(c, kind / 8 % 3, b);
-        if (kind % 8 == 6 && kind < 128) c->kept = c->desks[0].told.next;
+        if (kind % 8 == 6 && kind < 128) c->kept = c->sides[0].told.next;
         if ((kind % 8 == 6 && kind > 127) || kind == 7 || kind == 255) forge(c, kind, a, b);
     }
 }
@@ -422,15 +422,15 @@ static void call_desks(counter *c, const uint8_t *calls, size_t count, const uin
 static void try_dispatcher(const uint8_t *calls, size_t count, const uint8_t *text, size_t len, size_t sheets_len) {
     static counter c;
     c.l = (lent){guarded(0, sheets_len), (uint32_t *)guarded(3, 4 * PLACES), (uint32_t *)guarded(4, 4 * PLACES), 0, sheets_len, PLACES, PLACES, ALL, BYTES};
-    c.desks[0] = (desk){dispatcher_admit, dispatcher_turn, dispatcher_cancel, (uint64_t *)guarded(1, sizeof c.words), guarded(2, BYTES), {.next = dispatcher_empty()}};
-    c.desks[1] = (desk){guided_dispatcher_admit, guided_dispatcher_turn, guided_dispatcher_cancel, (uint64_t *)guarded(5, sizeof c.words), guarded(6, BYTES), {.next = guided_dispatcher_empty()}};
-    c.desks[2] = (desk){careful_dispatcher_admit, careful_dispatcher_turn, careful_dispatcher_cancel, memset(malloc(sizeof c.words), PAINT, sizeof c.words), malloc(BYTES), {.next = careful_dispatcher_empty()}};
+    c.sides[0] = (side){dispatcher_admit, dispatcher_turn, dispatcher_cancel, (uint64_t *)guarded(1, sizeof c.words), guarded(2, BYTES), {.next = dispatcher_empty()}};
+    c.sides[1] = (side){guided_dispatcher_admit, guided_dispatcher_turn, guided_dispatcher_cancel, (uint64_t *)guarded(5, sizeof c.words), guarded(6, BYTES), {.next = guided_dispatcher_empty()}};
+    c.sides[2] = (side){careful_dispatcher_admit, careful_dispatcher_turn, careful_dispatcher_cancel, memset(malloc(sizeof c.words), PAINT, sizeof c.words), malloc(BYTES), {.next = careful_dispatcher_empty()}};
     c.is_forged = c.turns = 0;
     c.kept = dispatcher_empty();
     memset(c.words, PAINT, sizeof c.words);
-    call_desks(&c, calls, count, text, len);
-    if (!ahead_painted(c.l.sheets) || !ahead_painted((uint8_t *)c.l.lengths) || !ahead_painted((uint8_t *)c.l.codes)) stop_at("bytes ahead of what is lent to be read", &c.desks[0].told);
-    free(c.desks[2].words), free(c.desks[2].trace);
+    call_all(&c, calls, count, text, len);
+    if (!ahead_painted(c.l.sheets) || !ahead_painted((uint8_t *)c.l.lengths) || !ahead_painted((uint8_t *)c.l.codes)) stop_at("bytes ahead of what is lent to be read", &c.sides[0].told);
+    free(c.sides[2].words), free(c.sides[2].trace);
 }
 
 int LLVMFuzzerTestOneInput(const uint8_t *data, size_t size) {

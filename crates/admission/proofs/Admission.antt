@@ -160,8 +160,9 @@ module _ (d : Held) (place code count : ℕ) (boards written exit : List ℕ) (f
           next = next-is;
           leftAlone = λ u. not-both (leavesAll (outcomeOf (dispatcherOf d) c)) u (ap leavesAll (C .outcome));
           wordsLeft = W;
+          freeOrLocked = inl refl;
           traceKept = λ u. refl;
-          traceLocked = λ u. (refl, refl);
+          traceLocked = λ u. absurd (omega (arith, u));
           admits = admits;
           keeps = keeps;
           answers = λ o j ks S q i H.

@@ -13,8 +13,8 @@ use Rattle.model.specs.Rows.{Row}
 use Rattle.model.specs.Expansion.{Walk, Progress, expand}
 use Rattle.model.specs.Order.{Event, sendOf, receiveOf, number, event, messageOf, isEvent, isOwn, isEarlier, Scenario, Met, exchangeOf, scenarioOf}
 use Rattle.model.proofs.Bounded.{and-left, and-right, and-both}
-use Rattle.model.proofs.Events.{event-number, number-event, below-number, below-event}
-use Rattle.model.proofs.Order.{boardIn, own-parts, EarlierBlock, earlier-parts, before-row, before-own, before-earlier, before-transitive, before-least}
+use Rattle.model.proofs.Events.{event-number, number-event, own-parts, below-number, below-event}
+use Rattle.model.proofs.Order.{boardIn, EarlierBlock, earlier-parts, before-row, before-own, before-earlier, before-transitive, before-least}
 use Rattle.model.proofs.Standing.{Fits}
 use Rattle.model.proofs.Walked.{Sound}
 use Rattle.model.proofs.Accepted.{board-at, rows-inside}
@@ -100,10 +100,10 @@ module _ (w : Walk) (m : Met) (t : Store) (h : Sound (met w m)) (r : Sim w m t) 
   unfolding Held exchangeOf
   held-row x y l = let p = rows-inside (met w m) h x y l in (p .0, p .1, r .ordered .rows (number x) (number y) l)
 
-  held-own : (x y : Event) → isOwn (exchangeOf (met w m)) x y ≡ true → Held x y
+  held-own : (x y : Event) → isOwn (exchangeOf (met w m) .count) x y ≡ true → Held x y
   unfolding Held exchangeOf number messageOf
   held-own x y l =
-      let p = own-parts (exchangeOf (met w m)) x y l in
+      let p = own-parts (exchangeOf (met w m) .count) x y l in
       subst₂ Held (sym (p .1)) (sym (p .2)) (p .3, p .3, r .ordered .owns (p .0) (p .3))
 
   held-earlier : (x y : Event) → isEarlier (exchangeOf (met w m)) x y ≡ true → Held x y

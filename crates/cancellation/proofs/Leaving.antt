@@ -3,6 +3,7 @@ use mathlib.Core.Path.{_≡_, refl, sym, _∙_, ap, subst, subst⁻¹}
 use mathlib.Core.Bool.{true}
 use mathlib.Core.List.{List, []}
 use Prim.Native.Nat.{ℕ, _≤_}
+use mathlib.Core.Logic.{inl}
 use native.Mathlib.Omega.{arith}
 use lib.ListN.{length}
 use Rattle.model.specs.Limits.{jobWordsLeast}
@@ -48,8 +49,9 @@ module _ (d : Held) (n : ℕ) (l : Lent) (long : jobWordsLeast ≤ length (l .wo
         next = rest-is;
         leftAlone = λ u. not-both (leavesAll (outcomeOf (dispatcherOf d) c)) u (ap leavesAll (C .outcome));
         wordsLeft = W;
+        freeOrLocked = inl refl;
         traceKept = λ u. refl;
-        traceLocked = λ u. (refl, refl);
+        traceLocked = λ u. absurd (omega (arith, u));
         admits = λ m p S i f a. let z : _≡_ {A = ℕ} 0 1 = cc in absurd (omega arith);
         keeps = λ o j k S a b m H.
             let u : Member k (queueIn (d .queue)) = member-without k n (queueIn (d .queue)) (subst (λ (q : DispatcherState). Member k (q .queue)) (C .leaves) b) in

@@ -7,7 +7,7 @@ use native.Mathlib.Omega.{arith}
 use lib.ListN.{length, getD, set}
 use Rattle.model.specs.Limits.{jobsMost}
 use Rattle.model.specs.Dispatcher as model
-use Rattle.model.specs.Dispatcher.{Call, admit, cancel, Served, Serves, WholeLists}
+use Rattle.model.specs.Dispatcher.{emptyDispatcher, Call, admit, cancel, Served, Serves, WholeLists}
 use Rattle.model.proofs.Dispatcher.{whole-lists}
 use Rattle.queue.specs.declared.Queue.{Queue}
 use Rattle.queue.specs.Bridge.{emptyQueue, queueIn}
@@ -29,9 +29,13 @@ use Rattle.cancellation.specs.Cancelling.{LeavesIn}
 use Rattle.dispatcher.specs.declared.Dispatcher.{Dispatcher}
 use Rattle.dispatcher.specs.Bridge.{heldIn, dispatcherIn, Holds, emptied, TurnOf, CancelOf, AdmitOf}
 
+-- with an empty queue and no number given out it is the model's empty dispatcher
+pub empty-state : (q : Queue) → q ≡ emptyQueue → dispatcherIn (record { queue = q; given = 0; races = emptied .races; boards = emptied .boards }) ≡ emptyDispatcher
+empty-state q e = ap (λ (p : Queue). record { queue = queueIn p; given = 0 }) e ∙ ap (λ (q : List model.Job). record { queue = q; given = 0 }) empty-none
+
 -- the theorem over whole lists of calls
 pub whole : WholeLists dispatcherIn Holds emptied
-whole = whole-lists dispatcherIn Holds emptied (ap (λ (q : List model.Job). record { queue = q; given = 0 }) empty-none)
+whole = whole-lists dispatcherIn Holds emptied (empty-state emptyQueue refl)
 
 pub empty-as : (q : Queue) → q ≡ emptyQueue → record { queue = q; given = 0; races = emptied .races; boards = emptied .boards } ≡ emptied
 empty-as q e = ap (λ (p : Queue). record { queue = p; given = 0; races = emptied .races; boards = emptied .boards }) e
@@ -45,6 +49,7 @@ serves-as d c exit traceExit r s =
       next = s .next;
       leftAlone = λ u. ap (λ (h : Held). record { queue = h .queue; given = h .given; races = h .races; boards = h .boards }) (s .leftAlone u);
       wordsLeft = s .wordsLeft;
+      freeOrLocked = s .freeOrLocked;
       traceKept = s .traceKept;
       traceLocked = s .traceLocked;
       admits = s .admits;

@@ -1,6 +1,6 @@
 // Several makers at the counter: up to eight jobs, each with its place and its words, and a turn at a time for the head of their queue.
 ghost use mathlib.Core.Path.{_≡_};
-ghost use Rattle.model.specs.Dispatcher.{WholeLists};
+ghost use Rattle.model.specs.Dispatcher.{emptyDispatcher, WholeLists};
 ghost use Rattle.dispatcher.specs.Bridge.{dispatcherIn, Holds, emptied, answerIn, AdmitOf, TurnOf, CancelOf};
 use admission::Part;
 pub use held_jobs::Boards;
@@ -33,6 +33,7 @@ impl Dispatcher {
     // No job is held, and no number was given out.
     pub fn empty() -> Self
         ensures { λ r. ⌜ r ≡ emptied ⌝ }
+        ensures { λ r. ⌜ dispatcherIn r ≡ emptyDispatcher ⌝ }
     {
         Dispatcher {
             queue: Queue::empty(),

@@ -163,8 +163,9 @@ module _ (d : Held) (job : Job) (words : List ℕ) (head : headOf (queueIn (d .q
             next = behind-is;
             leftAlone = λ u. not-both (leavesAll (outcomeOf (dispatcherOf d) c)) u (ap leavesAll (C .outcome));
             wordsLeft = W;
+            freeOrLocked = inl refl;
             traceKept = λ n. refl;
-            traceLocked = λ u. (refl, refl);
+            traceLocked = λ u. absurd (omega (arith, u));
             admits = λ m p S i f a. let z : _≡_ {A = ℕ} 0 1 = cc in absurd (omega arith);
             keeps = keeps;
             answers = λ o j ks S q i H.
@@ -219,6 +220,7 @@ module _ (d : Held) (job : Job) (words : List ℕ) (head : headOf (queueIn (d .q
             next = rest-is;
             leftAlone = λ u. not-both (leavesAll (outcomeOf (dispatcherOf d) last)) u (ap leavesAll (D .outcome));
             wordsLeft = lasting;
+            freeOrLocked = K .freeOrLocked;
             traceKept = K .kept;
             traceLocked = K .locked;
             admits = λ m p S i f a. let z : _≡_ {A = ℕ} 0 1 = cc in absurd (omega arith);

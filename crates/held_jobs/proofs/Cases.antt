@@ -86,35 +86,35 @@ module _ (d : DispatcherState) (l : Lent) where
 
   -- with no place free there is no new sheet and no code to judge
   pub full-short : freePlace d ≡ none → length (l .words) < jobWordsLeast → admissible d l ≡ refusal benchRefusal 0
-  unfolding admissible
+  unfolding admissible wordsShort
   full-short f h = rw (f, admissible, lt-ltb (length (l .words)) jobWordsLeast h)
 
   pub full-held : freePlace d ≡ none → jobWordsLeast ≤ length (l .words) → admissible d l ≡ refusal jobsRefusal 0
-  unfolding admissible
+  unfolding admissible wordsShort
   full-held f h = rw (f, admissible, le-ltb (length (l .words)) jobWordsLeast h)
 
   module _ (p : ℕ) (f : freePlace d ≡ some p) where
     pub code-unknown : channels ≤ codeAt l p → admissible d l ≡ refusal channelRefusal 0
-    unfolding admissible
+    unfolding admissible wordsShort
     code-unknown h = rw (f, admissible, le-ltb (codeAt l p) channels h)
 
     module _ (k : codeAt l p < channels) where
       pub words-short : length (l .words) < jobWordsLeast → admissible d l ≡ refusal benchRefusal 0
-      unfolding admissible
+      unfolding admissible wordsShort
       words-short h = rw (f, admissible, lt-ltb (codeAt l p) channels k, lt-ltb (length (l .words)) jobWordsLeast h)
 
       module _ (w : jobWordsLeast ≤ length (l .words)) where
         pub numbers-out : jobNumbers ≤ d .given → admissible d l ≡ refusal jobsRefusal 0
-        unfolding admissible
+        unfolding admissible wordsShort
         numbers-out h = rw (f, admissible, lt-ltb (codeAt l p) channels k, le-ltb (length (l .words)) jobWordsLeast w, le-ltb (d .given) jobNumbers h)
 
         module _ (g : d .given < jobNumbers) where
           pub sheet-long : textMost < lengthAt l p → admissible d l ≡ refusal lengthRefusal 0
-          unfolding admissible
+          unfolding admissible wordsShort
           sheet-long h =
               rw (f, admissible, lt-ltb (codeAt l p) channels k, le-ltb (length (l .words)) jobWordsLeast w, lt-ltb (d .given) jobNumbers g, lt-ltb textMost (lengthAt l p) h)
 
           pub sheet-judged : lengthAt l p ≤ textMost → admissible d l ≡ sheetOf (sheetAt l p)
-          unfolding admissible
+          unfolding admissible wordsShort
           sheet-judged h =
               rw (f, admissible, lt-ltb (codeAt l p) channels k, le-ltb (length (l .words)) jobWordsLeast w, lt-ltb (d .given) jobNumbers g, le-ltb textMost (lengthAt l p) h)

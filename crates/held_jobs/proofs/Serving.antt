@@ -1,14 +1,17 @@
 -- What every call's promise is made of: the words that it leaves, the jobs that it does not touch, and the calls that leave the dispatcher as it
 -- was. Assumes nothing.
 use mathlib.Core.Path.{_≡_, refl, sym, _∙_, ap, subst, subst⁻¹}
+use mathlib.Core.Logic.{inl}
 use mathlib.Core.Bool.{true, false}
 use mathlib.Core.List.{List}
 use Prim.Native.Nat.{ℕ, _<_, _≤_}
+use native.Mathlib.Omega.{arith}
 use borrow.Author.Tests.{le-leb}
 use lib.ListN.{length, drop}
 use Rattle.model.specs.Limits.{jobsMost, jobWordsLeast}
 use Rattle.model.specs.Refusal.{benchRefusal}
 use Rattle.model.specs.Order.{Scenario}
+use Rattle.model.specs.Answer.{Numbers, lockedWord}
 use Rattle.model.specs.Dispatcher as model
 use Rattle.model.specs.Dispatcher.{placeWords, DispatcherState, isFree, Call, lentTo, traceTo, Outcome, admitted, idle, taken, answered, cancelled, refused, outcomeOf, behind, noAnswer, toldAs, touchesNothing, leavesAll, WordsLeft, Served, Member, Orderly, Serves, refusedWord}
 use Rattle.model.proofs.Bounded.{not-both}
@@ -58,13 +61,13 @@ pub words-same : (d : DispatcherState) (c : Call) (exit : List ℕ) (j : model.J
 words-same d c exit j W o a b = W .heldKept (j .place) (place-below d o j a) (place-held d j a) (place-held (behind d c) j b)
 
 -- ---- calls that leave the dispatcher as it was
-told-alone : (o : Outcome) → toldAs o noAnswer ≡ toldAs o (toldAs o noAnswer .answer)
-told-alone (admitted n p) = refl
-told-alone idle = refl
-told-alone (taken n) = refl
-told-alone (answered n) = refl
-told-alone (cancelled n) = refl
-told-alone (refused n k) = refl
+answers-none : (o : Outcome) → toldAs o noAnswer .answer ≡ noAnswer
+answers-none (admitted n p) = refl
+answers-none idle = refl
+answers-none (taken n) = refl
+answers-none (answered n) = refl
+answers-none (cancelled n) = refl
+answers-none (refused n k) = refl
 
 pub served-alone : (d : Held) (c : Call) (o : Outcome) (exit : List ℕ) (r : Served Held) → Case (dispatcherOf d) c o (dispatcherOf d) → leavesAll o ≡ true
     → r ≡ record { told = toldAs o noAnswer; next = d } → WordsLeft (dispatcherOf d) c exit → Serves dispatcherOf HoldsJob d c exit (traceTo c) r
@@ -72,12 +75,13 @@ unfolding leavesAll
 served-alone d c o exit r C alone e W =
     subst⁻¹ (λ (s : Served Held). Serves dispatcherOf HoldsJob d c exit (traceTo c) s) e
     (record {
-      told = told-alone o ∙ ap (λ u. toldAs u (toldAs o noAnswer .answer)) (sym (C .outcome));
+      told = ap (toldAs o) (sym (answers-none o)) ∙ ap (λ u. toldAs u (toldAs o noAnswer .answer)) (sym (C .outcome));
       next = sym (C .leaves);
       leftAlone = λ t. refl;
       wordsLeft = W;
+      freeOrLocked = inl (answers-none o);
       traceKept = λ n. refl;
-      traceLocked = λ t. (refl, refl);
+      traceLocked = λ t. let z : noAnswer .word ≡ lockedWord = sym (ap (λ (a : Numbers). a .word) (answers-none o)) ∙ t in absurd (omega (arith, z));
       admits = λ l p S i f a. not-both (leavesAll o) alone (ap leavesAll (sym (C .outcome) ∙ ap (outcomeOf (dispatcherOf d)) i ∙ admit-admitted (dispatcherOf d) l p S f a .outcome));
       keeps = λ n j k S a b m H.
           let b′ : Member k (dispatcherOf d .queue) = subst (λ (q : DispatcherState). Member k (q .queue)) (C .leaves) b in

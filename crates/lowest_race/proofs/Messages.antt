@@ -16,10 +16,10 @@ use Rattle.model.proofs.Bounded.{which, not-both, any-from, any-some, lowest-no
 use Rattle.relation.specs.Scenario.{scenarioIn}
 use Rattle.race.specs.declared.Rule.{Rule}
 use Rattle.race.specs.declared.Rule.the-variants.{Never}
-use Rattle.lowest_race.specs.declared.Found.{Found}
-use Rattle.lowest_race.specs.declared.Found.the-variants as found
+use Rattle.relation.specs.declared.Found.{Found}
+use Rattle.relation.specs.declared.Found.the-variants as found
 use Rattle.race.specs.Bridge.{ruleIn}
-use Rattle.lowest_race.specs.Named.{foundIn}
+use Rattle.relation.specs.Own.{foundIn}
 
 module _ (count : ℕ) (boards words : List ℕ) where
   -- a message races where its search finds an event

@@ -6,18 +6,15 @@ ghost use Rattle.relation.specs.Scenario.{scenarioIn};
 ghost use Rattle.board.specs.Masks.{Standing};
 ghost use Rattle.at_or_before.specs.Lent.{Lent};
 ghost use Rattle.race.specs.Bridge.{ruleIn};
-ghost use Rattle.lowest_race.specs.Named.{foundIn, raceIn};
+ghost use Rattle.relation.specs.Own.{foundIn};
+ghost use Rattle.lowest_race.specs.Named.{raceIn};
 use race::Rule;
 use race::race_word;
+use relation::Found;
 use relation::WIDTH;
 use relation::WORD_BITS;
 
 // The lowest event that races with a message, if one does.
-enum Found {
-    Event(usize),
-    Nothing,
-}
-
 fn lowest_event(
     words: &[u64],
     masks: &[u64],

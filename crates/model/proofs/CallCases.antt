@@ -26,7 +26,7 @@ pub record Admissible (d : DispatcherState) (l : Lent) (p : ℕ) (S : Scenario) 
   pub sheet : sheetOf (sheetAt l p) ≡ ok S
 
 admissible-parts : (d : DispatcherState) (l : Lent) (p : ℕ) (S : Scenario) → freePlace d ≡ some p → admissible d l ≡ ok S → Admissible d l p S
-unfolding admissible
+unfolding admissible wordsShort
 admissible-parts d l p S place e =
     let a = cond-ok (ltb (codeAt l p) channels) _ _ _ S (rw (place, admissible) at e) in
     let b = cond-refused (ltb (length (l .words)) jobWordsLeast) _ _ _ S (a .1) in

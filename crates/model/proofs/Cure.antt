@@ -17,13 +17,13 @@ use Rattle.model.specs.Answer.{sheetOf, acceptedOf, answerOf, numbersOf,
 use Rattle.model.specs.Verdict.{Verdict}
 use Rattle.model.specs.Cure.{curedBefore, curedRows, curedText, curedOf, cureOf, outputWith, CureNumbers, writtenWord, refusedWord, cureNumbers, FreeOn, CuredSheet, CureChecked}
 use Rattle.model.proofs.Bounded.{which, not-both}
-use Rattle.model.proofs.Events.{at-or-before-cases, at-or-before-same, at-or-before-before}
+use Rattle.model.proofs.Events.{own-both, at-or-before-cases, at-or-before-same, at-or-before-before}
 use Rattle.model.proofs.Causal.{Causal}
 use Rattle.model.proofs.Accepted.{sheet-causal, sheet-count, sheet-boards, sheet-meets}
 use Rattle.model.specs.Place.{lineOf}
 use Rattle.model.proofs.Lines.{Well, sheet-well}
 use Rattle.model.proofs.PointThree.{race-parts, point-three}
-use Rattle.model.proofs.Cured.{to-send, to-receive, from-receive, cured-old, cured-own, own-pair-from, cured-trans, cured-exact, cured-inside}
+use Rattle.model.proofs.Cured.{to-send, to-receive, from-receive, cured-old, cured-own, cured-trans, cured-exact, cured-inside}
 use Rattle.model.proofs.WrittenBack.{text-short}
 use Rattle.model.proofs.CureWalked.{met, cured-met, cured-sheet, cured-messages}
 
@@ -74,7 +74,7 @@ module _ (S : Scenario) (C : Causal S) where
     origin-at-send (sendOf m) e h = at-its-send (sendOf m) e h
     origin-at-send (receiveOf m) e h =
         let l = cured-inside S C (receiveOf m) (receiveOf e) (same (receiveOf m) (receiveOf e) .0 h) .0 in
-        let first = cured-own S C (sendOf m) (receiveOf m) (own-pair-from S m l) in
+        let first = cured-own S C (sendOf m) (receiveOf m) (own-both (S .count) m l) in
         at-its-send (sendOf m) e
         (same (sendOf m) (receiveOf e) .1 (cured-trans S C (sendOf m) (receiveOf m) (receiveOf e) first (same (receiveOf m) (receiveOf e) .0 h)))
 

@@ -11,7 +11,7 @@ use Rattle.model.specs.Answer.{sheetOf, Numbers, answerFor, answerOf, nu
 use Rattle.model.specs.Verdict.{Verdict}
 use Rattle.model.specs.Dispatcher.{codeAt, sheetAt, placeWords, Job, DispatcherState, emptyDispatcher, admitting, lentTo, traceTo, admitted, outcomeOf, noAnswer, toldAs, Entry, callsOf, dispatcherFrom, ToldFrom, givenOut, AsTheCheck, JobServed, WholeLists}
 use Rattle.model.proofs.Closure.{cells-same}
-use Rattle.model.proofs.Accepted.{accepted-from, sheet-count}
+use Rattle.model.proofs.Accepted.{accepted-from, sheet-count, sheet-meets}
 use Rattle.model.proofs.PointThree.{point-three}
 use Rattle.model.proofs.Queue.{OneEach, orderly-of, one-each-empty, jobs-most, full-when}
 use Rattle.model.proofs.Jobs.{jobAt, Stands}
@@ -58,6 +58,7 @@ module _ {M : Type 0} (stateIn : M → DispatcherState) (Holds : M → List ℕ 
       record {
         scenario = S;
         isSheet = m .parts .sheet;
+        causalOrder = sheet-meets (sheetAt (lentTo (a .call)) p) S (m .parts .sheet);
         isChannel = m .parts .codeKnown;
         lastTurn = λ mid e rest i. last-turn stateIn Holds n p code (S .count) next (a .words) mid e rest last (at mid e rest i);
         leaves = λ mid e rest i. leaves stateIn Holds n p code (S .count) next (a .words) mid e rest last (at mid e rest i);

@@ -17,7 +17,7 @@ use Rattle.model.proofs.Causal.{Causal}
 use Rattle.model.proofs.Least.{least-below}
 use Rattle.model.proofs.Phases.{equal-or-not, doneAt, view}
 use Rattle.model.proofs.Rules.{Ready, Waits, ready-use, ready-not, Quiet, DeliverRule, BoardFree, finished-not, send-on, deliver-on, consume-on}
-use Rattle.model.proofs.Invariants.{Single, SendInv, Inv}
+use Rattle.model.proofs.Invariants.{Single, SendInv, Inv, inv-start}
 use Rattle.model.proofs.Suited.{Suited}
 
 -- some message below n is in phase j, or none is
@@ -214,3 +214,15 @@ module _ (S : Scenario) (C : Causal S) where
           (in-phase (S .count) 2 φ))
           (λ (l : c .eager ≡ false). clear-moves (λ e. not-both (c .eager) e l) f)
           (which (c .eager))
+
+-- at the start of a scenario with messages the least event is a send, and it may go
+pub start-moves : (S : Scenario) (C : Causal S) (c : Channel) → 0 < S .count → (t : Step) × (allowed S c (view S (λ m. 0)) t ≡ true)
+unfolding messageOf
+start-moves S C c l =
+    let first = least-event S C (λ y. true) (sendOf 0) l refl in
+    ⊎-elim (λ s. (send (s .0), s .2)) (λ s. ⊎-elim (λ (e : 0 ≡ 1). absurd (omega (arith, e))) (λ a. (consume (s .0), a)) (s .3))
+    (least-moves S C c (λ m. 0) (inv-start S C c) (λ y. true) (first .0) (undone (first .0)) (first .1) (λ z b u. refl) (λ e k h p. omega (arith, p)) (inl (λ f h p. omega (arith, p))))
+  where
+    undone : (y : Event) → doneAt (λ m. 0) y ≡ false
+    undone (sendOf m) = refl
+    undone (receiveOf m) = refl

@@ -24,10 +24,10 @@ use Rattle.model.specs.Place.{Place, outside, withMessage, messageFits, 
 use Rattle.model.specs.Order.{Event, sendOf, receiveOf, number, event, messageOf, boardOf, Scenario, board}
 use Rattle.model.specs.Cure.{curedBefore, isWritten, ordersAt, ordersBelow, Written, messageRows, orderRows, curedRows, rowsText, headingText, curedText}
 use Rattle.model.proofs.Bounded.{and-left, and-right, or-cases, or-left, or-right, which, not-both}
-use Rattle.model.proofs.Events.{event-number, number-event, below-number, below-event, send-event, receive-event}
+use Rattle.model.proofs.Events.{event-number, number-event, own-both, below-number, below-event, send-event, receive-event}
 use Rattle.model.proofs.Block.{own-pair-parts, listed-more, listed-first, listed-later, circle-some}
 use Rattle.model.proofs.Causal.{Causal}
-use Rattle.model.proofs.Cured.{cured-trans, cured-irreflexive, cured-own, own-pair-from, cured-inside}
+use Rattle.model.proofs.Cured.{cured-trans, cured-irreflexive, cured-own, cured-inside}
 use Rattle.model.proofs.Rendered.{Plain, AllPlain, plain-append, lineIn, linesIn, rows-lines, house, row-read, heading-line, rows-short}
 
 -- The P rows written, by number.
@@ -285,7 +285,7 @@ module _ (S : Scenario) (C : Causal S) (few : S .count ≤ messagesMost) (low : 
       let j : y ≡ 2 * (x / 2) + 1 = omega (arith, p .0, p .1) in
       let a : event x ≡ sendOf (x / 2) = ap event i ∙ send-event (x / 2) in
       let b : event y ≡ receiveOf (x / 2) = ap event j ∙ receive-event (x / 2) in
-      rw (a, b) (cured-own S C (sendOf (x / 2)) (receiveOf (x / 2)) (own-pair-from S (x / 2) (omega (arith, p .1, p .2))))
+      rw (a, b) (cured-own S C (sendOf (x / 2)) (receiveOf (x / 2)) (own-both (S .count) (x / 2) (omega (arith, p .1, p .2))))
   block-cured orders all (through {x = x} {y = y} {z = z} p q) =
       cured-trans S C (event x) (event y) (event z) (block-cured orders all p) (block-cured orders all q)
 

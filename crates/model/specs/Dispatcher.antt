@@ -14,7 +14,7 @@ use Rattle.model.specs.Refusal.{Out, ok, refusal, channelRefusal, benchR
 use Rattle.model.specs.Order.{Scenario}
 use Rattle.model.specs.Closure.{cells}
 use Rattle.model.specs.Answer.{sheetOf, Numbers, lockedWord, answerFor, answerOf, numbersOf, traceAfter}
-use Rattle.model.specs.Verdict.{Verdict}
+use Rattle.model.specs.Verdict.{Meets, Verdict}
 
 -- What every call is lent: the sheets, 8,192 bytes a place, of which the first `lengths p` are the sheet of place p; a code a place; and
 -- the words, `scratchLeast` a place.
@@ -71,14 +71,18 @@ isFree d p = not (among p (placesOf (d .queue)))
 unfoldable pub freePlace : DispatcherState → Option ℕ
 freePlace d = lowest jobsMost (isFree d)
 
+-- the words lent are too few
+unfoldable pub wordsShort : Lent → Bool
+wordsShort l = ltb (length (l .words)) jobWordsLeast
+
 -- The sheet of an admission in the lowest free place, unless it is refused: 1, 2, 16, 3 and then as the check. With no place free there is no new
 -- sheet and no code to judge: 2, then 16.
 unfoldable pub admissible : DispatcherState → Lent → Out Scenario
 admissible d l =
     elim (freePlace d) [
-      | none ↦ cond (ltb (length (l .words)) jobWordsLeast) (refusal benchRefusal 0) (refusal jobsRefusal 0)
+      | none ↦ cond (wordsShort l) (refusal benchRefusal 0) (refusal jobsRefusal 0)
       | some p ↦ cond (ltb (codeAt l p) channels)
-          (cond (ltb (length (l .words)) jobWordsLeast) (refusal benchRefusal 0)
+          (cond (wordsShort l) (refusal benchRefusal 0)
           (cond (ltb (d .given) jobNumbers)
           (cond (ltb textMost (lengthAt l p)) (refusal lengthRefusal 0) (sheetOf (sheetAt l p)))
           (refusal jobsRefusal 0)))
@@ -133,10 +137,6 @@ pub data Outcome : Type 0 where
   answered : ℕ → Outcome
   cancelled : ℕ → Outcome
   refused : ℕ → ℕ → Outcome
-
--- the words lent are too few
-unfoldable pub wordsShort : Lent → Bool
-wordsShort l = ltb (length (l .words)) jobWordsLeast
 
 -- a turn's refusal 2 judges words and trace, also with no job held
 unfoldable pub turnShort : Lent → List ℕ → Bool
@@ -268,9 +268,11 @@ module _ {M : Type 0} (stateIn : M → DispatcherState) (Holds : M → List ℕ 
     pub next : stateIn (r .next) ≡ behind (stateIn d) c
     pub leftAlone : leavesAll (outcomeOf (stateIn d) c) ≡ true → r .next ≡ d
     pub wordsLeft : WordsLeft (stateIn d) c wordsExit
+    -- only admission refuses a sheet: whatever is lent, what a turn answers of one is free or locked
+    pub freeOrLocked : (r .told .answer ≡ noAnswer) ⊎ (r .told .answer .word ≡ lockedWord)
     -- the trace changes only where the check's word is "locked", in the bytes of the steps counted
     pub traceKept : (r .told .answer .word ≡ lockedWord → ⊥) → traceExit ≡ traceTo c
-    pub traceLocked : r .told .answer .word ≡ lockedWord → (length traceExit ≡ length (traceTo c))
+    pub traceLocked : r .told .answer .word ≡ lockedWord → (2 * r .told .answer .three ≤ length (traceTo c)) × (length traceExit ≡ length (traceTo c))
         × (drop (2 * r .told .answer .three) traceExit ≡ drop (2 * r .told .answer .three) (traceTo c))
     -- a job admitted is held; and one held stays so, where its words are lent as they were left
     pub admits : (l : Lent) (p : ℕ) (S : Scenario) → c ≡ admit l → freePlace (stateIn d) ≡ some p → admissible (stateIn d) l ≡ ok S
@@ -342,6 +344,7 @@ pub record JobServed (a : Entry) (n p : ℕ) (after : List Entry) : Type 0 where
   -- its sheet, accepted, and its channel
   pub scenario : Scenario
   pub isSheet : sheetOf (sheetAt (lentTo (a .call)) p) ≡ ok scenario
+  pub causalOrder : Meets (sheetAt (lentTo (a .call)) p) scenario
   pub isChannel : codeAt (lentTo (a .call)) p < channels
   -- it is answered on its own turn number 2m + 1, m being the messages of its scenario, and on none before
   pub lastTurn : (mid : List Entry) (e : Entry) (rest : List Entry) → after ≡ mid ++ (e ∷ rest) → isTurnOf n e ≡ true

@@ -25,4 +25,5 @@ pub mod Taps
 pub mod Senders
 pub mod Choice
 pub mod Scratch
+pub mod EverySheet
 pub mod Marked

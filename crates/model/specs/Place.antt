@@ -1,5 +1,4 @@
--- "The sheet file" and "Refusal table", 3 to 7 and 11: where a row may stand, the order of the open block, and the reading of a
--- whole text.
+-- "The sheet file" and "Refusal table", 3 to 7 and 11: where a row may stand, the order of the open block, the reading of a text.
 -- Assumes nothing.
 use Prim.Native.Nat.{ℕ, suc, _+_, _*_, _%_}
 use mathlib.Core.Path.{_≡_}

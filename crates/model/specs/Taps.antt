@@ -1,4 +1,4 @@
--- Two taps on one machine: each gives a list of event numbers in the order seen. Whether both fit one course of events, and the course
+-- Request (m), two taps on one machine: each gives a list of event numbers in the order seen. Whether both fit one course of events, and the course
 -- that is built; else the event that would have to precede itself. Assumes nothing.
 use Prim.Native.Nat.{ℕ, zero, suc, _*_, _<_}
 use mathlib.Core.Path.{_≡_}

@@ -54,7 +54,7 @@ pub fn complete(
     let mut i = 0;
     while i < count {
         if is_stray(kind, one, two, start, i) {
-            return Presence::Absent(i + 2);
+            return Presence::Absent(i + model::FIRST_LINE);
         }
         i += 1;
     }

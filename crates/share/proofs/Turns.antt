@@ -18,10 +18,11 @@ use Rattle.relation.specs.Width.{width, wordBits}
 use Rattle.relation.specs.Scenario.{scenarioIn}
 use Rattle.race.specs.declared.Rule.{Rule}
 use Rattle.race.specs.Bridge.{ruleIn}
-use Rattle.share.specs.declared.Found.{Found}
-use Rattle.share.specs.declared.Found.the-variants as found
+use Rattle.relation.specs.declared.Found.{Found}
+use Rattle.relation.specs.declared.Found.the-variants as found
+use Rattle.relation.specs.Own.{foundIn}
 use Rattle.share.specs.declared.Race.{Race}
-use Rattle.share.specs.Search.{inWords, foundIn, half, fromOf, toOf, shareOf, searched, raceIn, Looks}
+use Rattle.share.specs.Search.{inWords, half, fromOf, toOf, shareOf, searched, raceIn, Looks}
 
 -- ---- the share of a turn, as it is looked at
 module _ (S : Scenario) (q : RaceRule) (t : ℕ) where

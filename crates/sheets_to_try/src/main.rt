@@ -1,5 +1,5 @@
 // Runs the paper's sheets that are not in the proved table, 9 and 10, and sheets for each refusal, each limit from both sides:
-// the files that the list names, one a line. For each it prints the name, and the answer on channel 0.
+// the files that the list names, one a line. For each it prints the name, and the answer on channel 0; then the limits of what is lent.
 
 // Room for the list of names.
 const LIST_MOST: usize = 8192;
@@ -36,9 +36,29 @@ fn show_all(list: &[u8]) {
     }
 }
 
+// The answer to a sheet without messages on a channel, with these buffers.
+fn show_lent(name: &[u8], code: u32, scratch: &mut [u64], trace: &mut [u8]) {
+    let a = channel_check::channel_check(b"kind one two\nS 0 0\n", code, scratch, trace);
+    printing::print(name);
+    printing::print(b": ");
+    report::print_answer(a);
+}
+
+// Refusals 1 and 2, each limit from both sides.
+fn show_limits() {
+    let mut scratch = [0u64; model::SCRATCH_LEAST];
+    let mut trace = [0u8; model::TRACE_LEAST];
+    show_lent(b"channel-5", 5, &mut scratch, &mut trace);
+    show_lent(b"1-channel-6", 6, &mut scratch, &mut trace);
+    show_lent(b"bench-4096-words-1536-bytes", 0, &mut scratch, &mut trace);
+    show_lent(b"2-bench-4095-words", 0, &mut scratch[1..], &mut trace);
+    show_lent(b"2-bench-1535-bytes", 0, &mut scratch, &mut trace[1..]);
+}
+
 fn main() {
     let mut list = [0u8; LIST_MOST];
     let file = os::open_read(b"list");
     let n = io::read_full(file, &mut list);
     show_all(&list[..n]);
+    show_limits();
 }

@@ -4,7 +4,7 @@
 #include <string.h>
 
 enum { W = 8, ROWS = 512, SHEETS = 32, BOARDS = 16, MESSAGES = 256, EVENTS = 2 * MESSAGES, LEVELS = 8, CALLS = 1024, CHOICES = 8 };
-enum { NUMBER_MOST = 511, WORDS = EVENTS * W, TRACE = 6 * MESSAGES };
+enum { NUMBER_MOST = 511, WORDS = EVENTS * W, TRACE = 6 * MESSAGES, TEXT = 8192 };
 
 typedef struct { uint32_t number, line; } refusal; /* number 0: none */
 
@@ -79,67 +79,102 @@ static int formed(uint8_t kind, int one, int two, int choices) {
     return kind == 'S' || kind == 'C' || (kind == 'B' && one == 0);
 }
 
-/* The words hold the order of the open block: a message's two rows are made anew, so their contents do not matter. A rows are read where
- * `choices` says so. */
-static refusal read(const uint8_t *text, size_t len, sheet *s, uint64_t *words, int choices) {
+/* the field of the heading that has the name, or 3 */
+static size_t column_of(const uint8_t *text, const size_t from[3], const size_t to[3], const char *name) {
+    for (size_t f = 0; f < 3; f++)
+        if (named(text, from[f], to[f], name)) return f;
+    return 3;
+}
+
+/* the columns of kind, one and two; the position behind the heading, or 0 */
+static size_t heading(const uint8_t *text, size_t len, size_t column[3]) {
     static const char *names[3] = {"kind", "one", "two"};
-    size_t from[3], to[3], column[3] = {3, 3, 3}, messages = 0, row = 0;
-    uint8_t boards[EVENTS];
-    if (len == 0 || len > 8192) return (refusal){3, 0};
-    size_t at = cut(text, len, 0, from, to);
-    if (at == 0) return (refusal){4, 1};
-    for (size_t c = 0; c < 3; c++)
-        for (size_t f = 0; f < 3; f++)
-            if (named(text, from[f], to[f], names[c])) column[c] = f;
-    if (column[0] == 3 || column[1] == 3 || column[2] == 3) return (refusal){4, 1};
-    memset(s->start, 0, sizeof s->start);
-    for (; at < len; row++) {
-        uint32_t line = (uint32_t)row + 2;
-        if (row == ROWS) return (refusal){5, line};
-        size_t next = cut(text, len, at, from, to);
-        if (next == 0 || to[column[0]] - from[column[0]] != 1) return (refusal){5, line};
-        uint8_t kind = text[from[column[0]]];
-        int one = number(text, from[column[1]], to[column[1]]), two = number(text, from[column[2]], to[column[2]]);
-        if (one < 0 || two < 0 || !formed(kind, one, two, choices)) return (refusal){5, line};
-        int placed = row > 0;
-        switch (kind) {
-        case 'S':
-            placed = one < SHEETS && s->start[one] == 0;
-            if (placed) s->start[one] = (uint16_t)(row + 1);
-            messages = 0;
-            break;
-        case 'M':
-            placed = placed && one < BOARDS && two < BOARDS && messages < MESSAGES;
-            if (placed) {
-                boards[2 * messages] = (uint8_t)one;
-                boards[2 * messages + 1] = (uint8_t)two;
-                memset(words + 2 * messages * W, 0, 2 * W * sizeof *words);
-                mark(words, 2 * messages + 1, 2 * messages);
-                messages++;
-            }
-            break;
-        case 'P':
-            placed = placed && (size_t)one < 2 * messages && (size_t)two < 2 * messages && one != two && boards[one] == boards[two];
-            if (!placed) break;
-            if (test(words, (size_t)one, (size_t)two)) return (refusal){11, line};
-            insert(words, (size_t)one, (size_t)two, 0, 2 * messages);
-            break;
-        case 'B': messages = 0; break;
-        case 'A': placed = placed && one < SHEETS && two < SHEETS; messages = 0; break;
-        default: placed = placed && one < SHEETS; messages = 0;
-        }
-        if (!placed) return (refusal){6, line};
-        s->kind[row] = kind;
-        s->one[row] = (uint16_t)one;
-        s->two[row] = (uint16_t)two;
-        at = next;
-    }
-    s->count = row;
+    size_t from[3], to[3], at = cut(text, len, 0, from, to);
+    for (size_t c = 0; at != 0 && c < 3; c++)
+        if ((column[c] = column_of(text, from, to, names[c])) == 3) return 0;
+    return at;
+}
+
+/* row `row` from `at`, A rows where `choices` says so; the position behind it, or 0 */
+static size_t row_at(const uint8_t *text, size_t len, size_t at, const size_t column[3], int choices, sheet *s, size_t row) {
+    size_t from[3], to[3], next = cut(text, len, at, from, to);
+    if (next == 0 || to[column[0]] - from[column[0]] != 1) return 0;
+    uint8_t kind = text[from[column[0]]];
+    int one = number(text, from[column[1]], to[column[1]]), two = number(text, from[column[2]], to[column[2]]);
+    if (one < 0 || two < 0 || !formed(kind, one, two, choices)) return 0;
+    s->kind[row] = kind;
+    s->one[row] = (uint16_t)one;
+    s->two[row] = (uint16_t)two;
+    return next;
+}
+
+/* the open block: its messages, the boards of its events, and their order in the words */
+typedef struct { size_t messages; uint8_t boards[EVENTS]; uint64_t *words; } block;
+
+/* the number of the refusal, or 0; a message's two rows of the order are made anew, so what the words hold does not matter */
+static uint32_t place_message(block *open, size_t a, size_t b) {
+    size_t send = 2 * open->messages, receive = send + 1;
+    if (a >= BOARDS || b >= BOARDS || open->messages == MESSAGES) return 6;
+    open->boards[send] = (uint8_t)a;
+    open->boards[receive] = (uint8_t)b;
+    memset(open->words + send * W, 0, 2 * W * sizeof *open->words);
+    mark(open->words, receive, send);
+    open->messages++;
+    return 0;
+}
+
+static uint32_t place_order(block *open, size_t x, size_t y) {
+    size_t events = 2 * open->messages;
+    if (x >= events || y >= events || x == y || open->boards[x] != open->boards[y]) return 6;
+    if (test(open->words, x, y)) return 11;
+    insert(open->words, x, y, 0, events);
+    return 0;
+}
+
+static uint32_t place_sheet(sheet *s, size_t n, size_t row) {
+    if (n >= SHEETS || s->start[n] != 0) return 6;
+    s->start[n] = (uint16_t)(row + 1);
+    return 0;
+}
+
+/* the refusal's number, or 0, of a row that is well formed */
+static uint32_t place(sheet *s, block *open, size_t row) {
+    size_t one = s->one[row], two = s->two[row];
+    if (row == 0 && s->kind[row] != 'S') return 6;
+    if (s->kind[row] == 'M') return place_message(open, one, two);
+    if (s->kind[row] == 'P') return place_order(open, one, two);
+    open->messages = 0;
+    if (s->kind[row] == 'S') return place_sheet(s, one, row);
+    return one < SHEETS && two < SHEETS ? 0 : 6; /* B, C and A; what a row does not use is 0 */
+}
+
+/* refusal 7, or none */
+static refusal present(const sheet *s) {
     if (s->start[0] == 0) return (refusal){7, 0};
-    for (size_t i = 0; i < row; i++)
+    for (size_t i = 0; i < s->count; i++)
         if (s->kind[i] == 'C' || s->kind[i] == 'A')
             if (s->start[s->one[i]] == 0 || (s->kind[i] == 'A' && s->start[s->two[i]] == 0)) return (refusal){7, (uint32_t)i + 2};
     return (refusal){0, 0};
+}
+
+/* the words hold the order of the open block */
+static refusal read(const uint8_t *text, size_t len, sheet *s, uint64_t *words, int choices) {
+    size_t column[3];
+    block open;
+    open.messages = 0;
+    open.words = words;
+    if (len == 0 || len > TEXT) return (refusal){3, 0};
+    size_t at = heading(text, len, column);
+    if (at == 0) return (refusal){4, 1};
+    memset(s->start, 0, sizeof s->start);
+    for (s->count = 0; at < len; s->count++) {
+        uint32_t line = (uint32_t)s->count + 2;
+        at = s->count < ROWS ? row_at(text, len, at, column, choices, s, s->count) : 0;
+        if (at == 0) return (refusal){5, line};
+        uint32_t given = place(s, &open, s->count);
+        if (given != 0) return (refusal){given, line};
+    }
+    return present(s);
 }
 
 /* ------------------------------------------------------------------ expansion */
@@ -662,7 +697,7 @@ cure_sheet_answer careful_cure_sheet(const uint8_t *text, size_t text_len, uint6
 
 /* ------------------------------------------------------------------ the dispatcher */
 
-enum { PLACES = 8, SHEET = 8192 };
+enum { PLACES = 8, SHEET = TEXT };
 
 dispatcher careful_dispatcher_empty(void) { return (dispatcher){0}; }
 
@@ -826,7 +861,7 @@ typedef struct { rule_record rules[RULES]; size_t count; } sender_table;
 
 static refusal read_table(const uint8_t *table, size_t len, sender_table *t) {
     size_t from[3], to[3];
-    if (len == 0 || len > 8192) return (refusal){18, 0};
+    if (len == 0 || len > TEXT) return (refusal){18, 0};
     size_t at = cut(table, len, 0, from, to);
     if (at == 0 || !named(table, from[0], to[0], "from") || !named(table, from[1], to[1], "to") || !named(table, from[2], to[2], "verdict"))
         return (refusal){18, 1};
@@ -894,7 +929,7 @@ static channel_check_answer judge_permitted(const uint8_t *text, size_t len, uin
     size_t e, x;
     sender_table t;
     uint16_t permitted[BOARDS] = {0};
-    if (len == 0 || len > 8192) return (channel_check_answer){2, 3, 0, 0};
+    if (len == 0 || len > TEXT) return (channel_check_answer){2, 3, 0, 0};
     refusal r = read_table(table, table_len, &t);
     if (!r.number && judge_table(&t).word != 0) r.number = 18, r.line = 0;
     if (!r.number) r = read(text, len, &s, scratch, 0);

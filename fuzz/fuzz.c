@@ -1,12 +1,17 @@
 /* The fuzz target over the C face. Each input is tried on the library as it is shipped, on the same proved code compiled with
  * coverage counters, which guides the search, and on the careful C program of bench/, and all must agree in answer, trace,
- * scratch and text. Input: a byte for the code, one for the buffers' lengths, then the text. Where the second byte is over 127 the call is
- * trace_check: a byte for a third of the trace's length follows, then the trace, then the text; with bit 4 of the first byte the bytes are
- * not a trace but calls of the monitor. Otherwise the call is permitted_check and senders_check where the first byte has bit 5: a byte for a
- * quarter of the table's length follows, then the table, then the text; cure_sheet where it has bit 4, choice_check where it has bit 3, else
- * channel_check. Where the first byte has bit 6 it is taps_check, whatever the rest: a byte for each list's length follows, then the lists, a byte
- * an event, from 224 on the highest ones, 255 being 65,535, then the text. Where it has bit 7 it is the dispatcher's calls, whatever the rest: the second byte says how long the
- * sheets are that are lent, a byte for the number of calls follows, then the calls, three bytes each, then the text. */
+ * scratch and text. Input: a byte for the code, one for the buffers' lengths, then what the call reads beside the text, then the text.
+ * A number of two bytes has the low one first; of the high one three bits count, and all three set stand for 255, so that lengths and
+ * events reach beyond the limits at which they are refused.
+ *
+ * The first of these that holds says what the call is:
+ * - bit 7 of the first byte: the dispatcher's calls. The second byte says how long the sheets are that are lent, a byte for the number of
+ *   calls follows, then the calls, three bytes each.
+ * - its bit 6: taps_check. A number of two bytes for each list's length follows, then the lists, two bytes an event.
+ * - a second byte over 127: trace_check. A number of two bytes for the trace's length follows, then the trace. With bit 4 of the first byte
+ *   they are not a trace but calls of the monitor, two bytes each.
+ * - bit 5 of the first byte: permitted_check and senders_check. A byte for a quarter of the table's length follows, then the table.
+ * - bit 4: cure_sheet. Bit 3: choice_check. Else channel_check. */
 #define _GNU_SOURCE
 #include "../bench/check.h"
 #include <stdio.h>
@@ -31,6 +36,8 @@ dispatcher_answer guided_dispatcher_cancel(dispatcher, uint32_t, const uint8_t *
 int LLVMFuzzerTestOneInput(const uint8_t *data, size_t size);
 
 enum { WORDS = CHANNEL_CHECK_SCRATCH_WORDS, BYTES = CHANNEL_CHECK_TRACE_BYTES, PAINT = 0xa5, AHEAD = 64, ROOM = 1 << 19, GUARD = 1 << 16 };
+
+static const uint32_t codes[8] = {0, 1, 2, 3, 4, 5, 6, UINT32_MAX}; /* two of them are none */
 
 /* the answer of channel_check has length and choices 0 */
 typedef struct { int choices; choice_check_answer answer; size_t text_len, words, bytes; uint8_t *text, *scratch, *trace; } call;
@@ -126,7 +133,8 @@ static void try_trace(const uint8_t *text, size_t len, uint32_t code, size_t wor
     free(exact_text), free(exact_trace), free(exact);
 }
 
-/* the monitor: opened, and then two bytes a call, a step, or a switch where the first is over 2; all three agree in every answer */
+/* the monitor: opened, and then two bytes a call, a switch where the first is over 7; else its bits 0 and 1 are a step's code, and bit 2 is bit 8 of
+ * the message, so that those behind the last can be told; all three agree in every answer */
 static void try_monitor(const uint8_t *text, size_t len, uint32_t code, const uint8_t *calls, size_t bytes) {
     uint8_t *exact_text = memcpy(malloc(len), text, len), *lent = memcpy(guarded(0, len), text, len);
     uint64_t *exact = memset(malloc(WORDS * 8), PAINT, WORDS * 8), *words = (uint64_t *)guarded(1, WORDS * 8);
@@ -138,10 +146,10 @@ static void try_monitor(const uint8_t *text, size_t len, uint32_t code, const ui
         if (memcmp(&c.next, &p.next, offsetof(monitor, code) + 4) != 0 || memcmp(&g.next, &p.next, offsetof(monitor, code) + 4) != 0) stop("monitor's state", &a);
         if (memcmp(exact, words, WORDS * 8) != 0) stop("scratch behind a monitor's call", &a);
         if (i + 1 >= bytes) break;
-        uint32_t kind = calls[i], m = calls[i + 1];
-        if (kind > 2) {
-            c = careful_monitor_switch(c.next, kind % 8, exact_text, len, exact, WORDS), p = monitor_switch(p.next, kind % 8, lent, len, words, WORDS);
-            g = guided_monitor_switch(g.next, kind % 8, lent, len, words, WORDS);
+        uint32_t kind = calls[i] % 4, to = calls[i] % 8, m = calls[i + 1] + calls[i] / 4 * UINT32_C(256);
+        if (calls[i] > 7) {
+            c = careful_monitor_switch(c.next, to, exact_text, len, exact, WORDS), p = monitor_switch(p.next, to, lent, len, words, WORDS);
+            g = guided_monitor_switch(g.next, to, lent, len, words, WORDS);
         } else {
             c = careful_monitor_step(c.next, kind, m, exact_text, len, exact, WORDS), p = monitor_step(p.next, kind, m, lent, len, words, WORDS);
             g = guided_monitor_step(g.next, kind, m, lent, len, words, WORDS);
@@ -212,16 +220,19 @@ static void try_table(const uint8_t *text, size_t len, uint32_t code, size_t wor
     free(exact_table), free(c.text), free(c.scratch), free(c.trace);
 }
 
-/* a list in memory of exact size, from bytes: the high ones are the last events that a sheet may have, and the highest is none */
+/* a number of two bytes; most high bytes would be far beyond every limit, so that the search would stay there */
+static size_t number_of(const uint8_t *two) { return two[0] + (size_t)256 * (two[1] % 8 == 7 ? 255 : two[1] % 8); }
+
+/* a list in memory of exact size, two bytes an event */
 static uint16_t *list_of(const uint8_t *bytes, size_t count) {
     uint16_t *list = malloc(2 * count);
-    for (size_t i = 0; i < count; i++) list[i] = (uint16_t)(bytes[i] == 255 ? 65535 : bytes[i] < 224 ? bytes[i] : CHANNEL_CHECK_EVENTS - 255 + bytes[i]);
+    for (size_t i = 0; i < count; i++) list[i] = (uint16_t)number_of(bytes + 2 * i);
     return list;
 }
 
 /* a course holds each event once, and none behind one that a list has behind it */
 static void is_course(const uint16_t *course, size_t events, const uint16_t *list, size_t count, const call *a) {
-    size_t at[512];
+    size_t at[CHANNEL_CHECK_EVENTS];
     memset(at, 255, sizeof at);
     for (size_t i = 0; i < events; i++) {
         if (course[i] >= events || at[course[i]] != SIZE_MAX) stop("a course with an event twice, or of no sheet", a);
@@ -234,7 +245,7 @@ static void is_course(const uint16_t *course, size_t events, const uint16_t *lis
 /* two taps: answer, output and scratch of all three; the header's promise of the buffers */
 static void try_taps(const uint8_t *text, size_t len, size_t words, size_t numbers, const uint8_t *lists, size_t first_len, size_t second_len) {
     uint8_t *exact_text = memcpy(malloc(len), text, len), *exact_output = memset(malloc(2 * numbers), PAINT, 2 * numbers);
-    uint16_t *first = list_of(lists, first_len), *second = list_of(lists + first_len, second_len);
+    uint16_t *first = list_of(lists, first_len), *second = list_of(lists + 2 * first_len, second_len);
     uint64_t *exact = memset(malloc(words * 8), PAINT, words * 8);
     taps_check_answer c = careful_taps_check(exact_text, len, exact, words, first, first_len, second, second_len, (uint16_t *)exact_output, numbers);
     for (int is_guided = 0; is_guided < 2; is_guided++) {
@@ -403,7 +414,6 @@ static void forge(counter *c, uint8_t kind, uint8_t a, uint8_t b) {
 
 /* the calls: an admission, turns, a cancellation, one that is lent less, a value kept or forged */
 static void call_all(counter *c, const uint8_t *calls, size_t count, const uint8_t *text, size_t len) {
-    static const uint32_t codes[8] = {0, 1, 2, 3, 4, 5, 6, UINT32_MAX};
     for (const uint8_t *at = calls; at + 3 <= calls + 3 * count; at += 3) {
         uint8_t kind = at[0], a = at[1], b = at[2];
         lend_sheet(&c->l, &c->sides[0].told.next, text, len, b, codes[a % 8]);
@@ -433,53 +443,64 @@ static void try_dispatcher(const uint8_t *calls, size_t count, const uint8_t *te
     free(c.sides[2].words), free(c.sides[2].trace);
 }
 
-int LLVMFuzzerTestOneInput(const uint8_t *data, size_t size) {
-    static const uint32_t codes[8] = {0, 1, 2, 3, 4, 5, 6, UINT32_MAX};
-    static const size_t words[8] = {WORDS, WORDS, WORDS, WORDS + 1, 2 * WORDS, WORDS, WORDS - 1, 0};
-    static const size_t bytes[8] = {BYTES, BYTES, BYTES, BYTES + 1, BYTES + 9, BYTES, BYTES - 1, 0};
-    enum { OUT = CURE_SHEET_OUTPUT_BYTES };
-    static const size_t output[8] = {OUT, OUT, OUT, OUT + 1, OUT + 9, OUT, OUT - 1, 0};
-    if (size < 2) return -1;
-    call c = {.choices = data[0] / 8 % 2, .text_len = size - 2, .words = words[data[1] % 8], .bytes = bytes[data[1] / 8 % 8]}, a = c;
-    uint32_t code = codes[data[0] % 8];
-    if (data[0] / 128) {
-        static const size_t sheets[8] = {PLACES * SHEET, PLACES * SHEET, PLACES * SHEET, PLACES * SHEET + 1, PLACES * SHEET - 1, SHEET, 3 * SHEET / 2, 0};
-        if (size < 3) return -1;
-        size_t count = data[2] < (size - 3) / 3 ? data[2] : (size - 3) / 3;
-        try_dispatcher(data + 3, count, data + 3 + 3 * count, size - 3 - 3 * count, sheets[data[1] % 8]);
-        return 0;
-    }
-    if (data[0] / 64 % 2) {
-        enum { LONG = TAPS_CHECK_OUTPUT_NUMBERS };
-        static const size_t numbers[8] = {LONG, LONG, LONG, LONG + 1, LONG + 9, LONG, LONG - 1, 0};
-        if (size < 4) return -1;
-        size_t rest = size - 4, m = data[2] < rest ? data[2] : rest, n = data[3] < rest - m ? data[3] : rest - m;
-        try_taps(data + 4 + m + n, rest - m - n, c.words, numbers[data[1] / 8 % 8], data + 4, m, n);
-        return 0;
-    }
-    if (data[1] > 127) {
-        if (size < 3) return -1;
-        size_t most = 3 * (size_t)data[2] + data[1] / 64 % 2, length = most < size - 3 ? most : size - 3;
-        if (data[0] / 16 % 2) try_monitor(data + 3 + length, size - 3 - length, code, data + 3, length);
-        else try_trace(data + 3 + length, size - 3 - length, code, c.words, data + 3, length);
-        return 0;
-    }
-    if (data[0] / 32 % 2) {
-        if (size < 3) return -1;
-        size_t most = 4 * (size_t)data[2], length = most < size - 3 ? most : size - 3;
-        try_table(data + 3 + length, size - 3 - length, code, c.words, c.bytes, data + 3, length);
-        return 0;
-    }
-    if (data[0] / 16 % 2) {
-        try_cure(data + 2, size - 2, c.words, output[data[1] / 8 % 8]);
-        return 0;
-    }
-    careful(&c, data + 2, code);
+/* ---- an input, by its call; -1 where it is too short to be one */
+/* the length of a buffer, by three bits: mostly exact, else larger, too short or none */
+static size_t length_of(size_t least, unsigned bits) {
+    const size_t lengths[8] = {least, least, least, least + 1, 2 * least, least, least - 1, 0};
+    return lengths[bits % 8];
+}
+
+static size_t at_most(size_t n, size_t most) { return n < most ? n : most; }
+
+static int dispatcher_input(const uint8_t *data, size_t size) {
+    static const size_t sheets[8] = {PLACES * SHEET, PLACES * SHEET, PLACES * SHEET, PLACES * SHEET + 1, PLACES * SHEET - 1, SHEET, 3 * SHEET / 2, 0};
+    if (size < 3) return -1;
+    size_t count = at_most(data[2], (size - 3) / 3);
+    try_dispatcher(data + 3, count, data + 3 + 3 * count, size - 3 - 3 * count, sheets[data[1] % 8]);
+    return 0;
+}
+
+static int taps_input(const uint8_t *data, size_t size) {
+    if (size < 6) return -1;
+    size_t rest = size - 6, m = at_most(number_of(data + 2), rest / 2), n = at_most(number_of(data + 4), rest / 2 - m), lists = 2 * (m + n);
+    try_taps(data + 6 + lists, rest - lists, length_of(WORDS, data[1]), length_of(TAPS_CHECK_OUTPUT_NUMBERS, data[1] / 8), data + 6, m, n);
+    return 0;
+}
+
+static int trace_input(const uint8_t *data, size_t size) {
+    if (size < 4) return -1;
+    size_t rest = size - 4, length = at_most(number_of(data + 2), rest);
+    const uint8_t *text = data + 4 + length;
+    if (data[0] / 16 % 2) try_monitor(text, rest - length, codes[data[0] % 8], data + 4, length);
+    else try_trace(text, rest - length, codes[data[0] % 8], length_of(WORDS, data[1]), data + 4, length);
+    return 0;
+}
+
+static int table_input(const uint8_t *data, size_t size) {
+    if (size < 3) return -1;
+    size_t rest = size - 3, length = at_most(4 * (size_t)data[2], rest);
+    try_table(data + 3 + length, rest - length, codes[data[0] % 8], length_of(WORDS, data[1]), length_of(BYTES, data[1] / 8), data + 3, length);
+    return 0;
+}
+
+static int check_input(const uint8_t *data, size_t size) {
+    call c = {.choices = data[0] / 8 % 2, .text_len = size - 2, .words = length_of(WORDS, data[1]), .bytes = length_of(BYTES, data[1] / 8)}, a = c;
+    careful(&c, data + 2, codes[data[0] % 8]);
     for (int is_guided = 0; is_guided < 2; is_guided++) {
-        proved(&a, data + 2, code, is_guided);
+        proved(&a, data + 2, codes[data[0] % 8], is_guided);
         agree(&a, &c);
         promised(&a);
     }
     free(c.text), free(c.scratch), free(c.trace);
     return 0;
+}
+
+int LLVMFuzzerTestOneInput(const uint8_t *data, size_t size) {
+    if (size < 2) return -1;
+    if (data[0] / 128) return dispatcher_input(data, size);
+    if (data[0] / 64 % 2) return taps_input(data, size);
+    if (data[1] > 127) return trace_input(data, size);
+    if (data[0] / 32 % 2) return table_input(data, size);
+    if (data[0] / 16 % 2) return try_cure(data + 2, size - 2, length_of(WORDS, data[1]), length_of(CURE_SHEET_OUTPUT_BYTES, data[1] / 8)), 0;
+    return check_input(data, size);
 }

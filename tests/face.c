@@ -306,6 +306,21 @@ static void replay(sheet s, uint32_t code, size_t words, const void *steps, size
     give_back(text), give_back(scratch), give_back(trace);
 }
 
+/* each message sent, delivered and consumed before the next: the longest trace there is, short of a step, of a byte, whole, and a step too long */
+static void longest_traces(void) {
+    static uint8_t steps[BYTES + 2];
+    begin(H "S 0 0\n");
+    repeat("M 0 1\n", MESSAGES);
+    sheet all = named("the most messages", made);
+    for (int i = 0; i < 3 * MESSAGES; i++) steps[2 * i] = (uint8_t)(i % 3), steps[2 * i + 1] = (uint8_t)(i / 3);
+    for (uint32_t code = 0; code < CODES; code++) {
+        replay(all, code, WORDS, steps, BYTES - 2, TRACE(2, 0, 0));
+        replay(all, code, WORDS, steps, BYTES - 1, TRACE(4, 12, 0));
+        replay(all, code, WORDS, steps, BYTES, TRACE(0, 0, 0));
+        replay(all, code, WORDS, steps, BYTES + 2, TRACE(4, 12, 0));
+    }
+}
+
 static void traces(void) {
     static uint8_t wrong[BYTES + 2];
     sheet one = named("sheet 1", H "S 0 0\n"), two = named("sheet 2", H "S 0 0\nM 0 1\nM 2 1\nP 1 3\n");
@@ -326,6 +341,7 @@ static void traces(void) {
         trace_check_answer refusal = TRACE(4, 12, 0), first = TRACE(3, 0, 0);
         replay(two, 0, WORDS, wrong, n, n % 2 || n > BYTES ? refusal : first);
     }
+    longest_traces();
     for (int w = 0; w < 5; w++)
         if (!trace_words[w]) printf("FAILED: trace_check never said %d\n", w), failures++;
 }
@@ -645,6 +661,8 @@ static void dispatchers(void) {
     for (int i = 0; i < 9; i++) d = serve(d, 1, 0, two, 0, 0, ALL_WORDS, BYTES, SAYS(2, order[i], 0)).next;
     for (int w = 0; w < 6; w++)
         if (!words_said[w]) printf("FAILED: the dispatcher never said %d\n", w), failures++;
+    for (int n = 1; n < 18; n++)
+        if (!refusals_said[n] && (n <= 3 || n == 5 || n >= 16)) printf("FAILED: the dispatcher never refused with %d\n", n), failures++;
 }
 
 /* ------------------------------------------------------------------ senders_check and permitted_check */
@@ -841,24 +859,39 @@ static void full_lists(void) {
     taps_refuse(s, (list){long_list, 70000}, (list){long_list, 70000}, 20, 1);
 }
 
-static void taps(void) {
-    sheet none = named("no event", H "S 0 0\n"), two = named("sheet 2", H "S 0 0\nM 0 1\nM 2 1\nP 1 3\n");
-    sheet three = named("three messages", H "S 0 0\nM 0 1\nM 2 3\nM 4 5\n");
-    taps_fit(none, none_seen, none_seen, none_seen);
-    taps_refuse(none, LIST(0), none_seen, 20, 1);
-    taps_refuse(none, none_seen, LIST(0), 20, 2);
+/* the sheets of the lists below: no message, two whose receives are ordered, three that nothing orders */
+static sheet no_event(void) { return named("no event", H "S 0 0\n"); }
+static sheet sheet_two(void) { return named("sheet 2", H "S 0 0\nM 0 1\nM 2 1\nP 1 3\n"); }
+static sheet unordered(void) { return named("three messages", H "S 0 0\nM 0 1\nM 2 3\nM 4 5\n"); }
+
+/* lists that one course of events obeys */
+static void courses(void) {
+    sheet two = sheet_two();
+    taps_fit(no_event(), none_seen, none_seen, none_seen);
     taps_fit(two, none_seen, none_seen, LIST(0, 1, 2, 3));
     taps_fit(two, LIST(3), LIST(2), LIST(0, 1, 2, 3));
     taps_fit(two, LIST(2, 0), none_seen, LIST(2, 0, 1, 3));
     taps_fit(two, none_seen, LIST(2, 1), LIST(0, 2, 1, 3));
     taps_fit(two, LIST(0, 1, 2, 3), LIST(0, 1, 2, 3), LIST(0, 1, 2, 3));
+    taps_fit(unordered(), LIST(4, 2), LIST(2, 0), LIST(4, 2, 0, 1, 3, 5));
+}
+
+/* lists by which an event would have to precede itself */
+static void clashes(void) {
+    sheet two = sheet_two(), three = unordered();
     taps_clash(two, LIST(0, 2), LIST(2, 0), 0);
     taps_clash(two, LIST(3, 2), none_seen, 2);
     taps_clash(two, none_seen, LIST(3, 0), 0);
-    taps_fit(three, LIST(4, 2), LIST(2, 0), LIST(4, 2, 0, 1, 3, 5));
     taps_clash(three, LIST(2, 4, 0), LIST(4, 2), 2); /* 0 is left over behind the circle, and lower */
     taps_clash(three, LIST(5, 2), LIST(3, 4), 2);    /* neither list alone: 4 5 2 3 4 */
     taps_clash(three, LIST(0, 1, 3, 2), none_seen, 2);
+}
+
+/* an event not in the sheet, or twice in one list */
+static void wrong_lists(void) {
+    sheet two = sheet_two();
+    taps_refuse(no_event(), LIST(0), none_seen, 20, 1);
+    taps_refuse(no_event(), none_seen, LIST(0), 20, 2);
     taps_refuse(two, LIST(4), none_seen, 20, 1);
     taps_refuse(two, none_seen, LIST(4), 20, 2);
     taps_refuse(two, LIST(4), LIST(4), 20, 1);
@@ -867,7 +900,10 @@ static void taps(void) {
     taps_refuse(two, LIST(65535), none_seen, 20, 1);
     taps_refuse(two, none_seen, LIST(EVENTS), 20, 2);
     taps_refuse(two, LIST(0, 1, 2, 3, 0), none_seen, 20, 1);
-    full_lists();
+}
+
+/* the sheet's refusals come ahead of the lists' */
+static void refused_sheets(void) {
     for (size_t i = 0; i < sizeof refused / sizeof *refused; i++) {
         taps_refuse(named(refused[i].name, refused[i].text), none_seen, none_seen, refused[i].number, refused[i].line);
         taps_refuse(named(refused[i].name, refused[i].text), LIST(0, 0), LIST(65535), refused[i].number, refused[i].line);
@@ -886,6 +922,14 @@ static void taps(void) {
     repeat("C 2 0\n", 32);
     repeat("S 2 0\n", 1);
     taps_refuse(named("9 calls", made), LIST(0), none_seen, 9, 36);
+}
+
+static void taps(void) {
+    courses();
+    clashes();
+    wrong_lists();
+    full_lists();
+    refused_sheets();
     for (int n = 2; n < 21; n++)
         if (!tap_refused[n] && (n < 12 || n == 20)) printf("FAILED: two taps were never refused with %d\n", n), failures++;
     if (!tap_words[0] || !tap_words[1]) printf("FAILED: two taps never fit, or never clashed\n"), failures++;

@@ -44,15 +44,24 @@ fn show_lent(name: &[u8], code: u32, scratch: &mut [u64], trace: &mut [u8]) {
     report::print_answer(a);
 }
 
-// Refusals 1 and 2, each limit from both sides.
-fn show_limits() {
+// The same with the least buffers that are enough.
+fn show_enough(name: &[u8], code: u32) {
     let mut scratch = [0u64; model::SCRATCH_LEAST];
     let mut trace = [0u8; model::TRACE_LEAST];
-    show_lent(b"channel-5", 5, &mut scratch, &mut trace);
-    show_lent(b"1-channel-6", 6, &mut scratch, &mut trace);
-    show_lent(b"bench-4096-words-1536-bytes", 0, &mut scratch, &mut trace);
-    show_lent(b"2-bench-4095-words", 0, &mut scratch[1..], &mut trace);
-    show_lent(b"2-bench-1535-bytes", 0, &mut scratch, &mut trace[1..]);
+    show_lent(name, code, &mut scratch, &mut trace);
+}
+
+// A word of scratch too few; and a byte of trace.
+fn show_short_scratch() {
+    let mut scratch = [0u64; model::SCRATCH_LEAST - 1];
+    let mut trace = [0u8; model::TRACE_LEAST];
+    show_lent(b"2-bench-4095-words", 0, &mut scratch, &mut trace);
+}
+
+fn show_short_trace() {
+    let mut scratch = [0u64; model::SCRATCH_LEAST];
+    let mut trace = [0u8; model::TRACE_LEAST - 1];
+    show_lent(b"2-bench-1535-bytes", 0, &mut scratch, &mut trace);
 }
 
 fn main() {
@@ -60,5 +69,9 @@ fn main() {
     let file = os::open_read(b"list");
     let n = io::read_full(file, &mut list);
     show_all(&list[..n]);
-    show_limits();
+    show_enough(b"channel-5", 5);
+    show_enough(b"1-channel-6", 6);
+    show_enough(b"bench-4096-words-1536-bytes", 0);
+    show_short_scratch();
+    show_short_trace();
 }

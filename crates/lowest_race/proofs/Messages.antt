@@ -10,7 +10,7 @@ use native.Mathlib.Numerals.{add-one}
 use lib.Dec.{eqb}
 use lib.ListN.{getD}
 use Rattle.model.specs.Order.{Event, receiveOf, event, board}
-use Rattle.model.specs.Race.{RaceRule, never, escapes, isRace, races, lowestEvent, lowestMessage, lowestRace}
+use Rattle.model.specs.Race.{RaceRule, never, notAtOrBefore, isRace, races, lowestEvent, lowestMessage, lowestRace}
 use Rattle.model.specs.Bounded.{lowest}
 use Rattle.model.proofs.Bounded.{which, not-both, any-from, any-some, lowest-none, lowest-some, lowest-hit, lowest-miss, lowest-nowhere}
 use Rattle.relation.specs.Scenario.{scenarioIn}
@@ -74,9 +74,9 @@ module _ (count : ℕ) (boards words : List ℕ) where
       sym (rw (m, lowestRace, lowestMessage))
 
   -- on the lazy channels no message races
-  escapes-never : (e : ℕ) (x : Event) → isRace (scenarioIn count boards words) never e x ≡ false
-  unfolding isRace escapes
-  escapes-never e x = falls (eqb (board (scenarioIn count boards words) x) (getD boards (2 * e + 1) 0)) ((scenarioIn count boards words) .before x (receiveOf e))
+  outside-never : (e : ℕ) (x : Event) → isRace (scenarioIn count boards words) never e x ≡ false
+  unfolding isRace notAtOrBefore
+  outside-never e x = falls (eqb (board (scenarioIn count boards words) x) (getD boards (2 * e + 1) 0)) ((scenarioIn count boards words) .before x (receiveOf e))
     where
       falls : (a b : Bool) → (a && b && false) ≡ false
       falls true true = refl
@@ -92,6 +92,6 @@ module _ (count : ℕ) (boards words : List ℕ) where
         within = omega arith;
         passed =
             lowest-nowhere count (races (scenarioIn count boards words) never)
-            (λ e h. races-none never e (lowest-nowhere (2 * count) (λ j. isRace (scenarioIn count boards words) never e (event j)) (λ k l. escapes-never e (event k))));
+            (λ e h. races-none never e (lowest-nowhere (2 * count) (λ j. isRace (scenarioIn count boards words) never e (event j)) (λ k l. outside-never e (event k))));
       })
       (omega arith))

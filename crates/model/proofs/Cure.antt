@@ -12,7 +12,7 @@ use borrow.Author.Tests.{eq-eqb, lt-ltb, le-ltb, ltb-true, ltb-false, not-true}
 use Rattle.model.specs.Limits.{rowsMost, channels, scratchLeast, traceLeast, sheetOutputLeast}
 use Rattle.model.specs.Refusal.{Out, ok, refusal, andThen, benchRefusal, curedRowsRefusal}
 use Rattle.model.specs.Order.{Event, sendOf, receiveOf, messageOf, boardOf, Scenario, scenarioOf, board, atOrBefore}
-use Rattle.model.specs.Race.{RaceRule, byEvent, byOrigin, never, raceRuleOf, origin, escapes, isRace}
+use Rattle.model.specs.Race.{RaceRule, byEvent, byOrigin, never, raceRuleOf, origin, notAtOrBefore, isRace}
 use Rattle.model.specs.Answer.{sheetOf, acceptedOf, answerOf, numbersOf, traceAfter, scratchBehind}
 use Rattle.model.specs.Verdict.{Verdict}
 use Rattle.model.specs.Cure.{curedBefore, curedRows, curedText, curedOf, cureOf, outputWith, CureNumbers, writtenWord, refusedWord, cureNumbers, FreeOn, CuredSheet, CureChecked}
@@ -79,7 +79,7 @@ module _ (S : Scenario) (C : Causal S) where
         (same (sendOf m) (receiveOf e) .1 (cured-trans S C (sendOf m) (receiveOf m) (receiveOf e) first (same (receiveOf m) (receiveOf e) .0 h)))
 
     pub nothing-races : (r : RaceRule) (e : ℕ) (x : Event) → isRace T r e x ≡ true → ⊥
-    unfolding escapes
+    unfolding notAtOrBefore
     nothing-races byEvent e x h =
         let p = race-parts T byEvent e x h in
         not-both (atOrBefore T x (sendOf e)) (at-its-send x e (p .1)) (not-true (atOrBefore T x (sendOf e)) (p .2))
@@ -91,7 +91,7 @@ module _ (S : Scenario) (C : Causal S) where
   -- In a sheet T that does not race on code 0, every event before a receive is at or before its send.
   module _ (T : Scenario) (D : Causal T) (quiet : (e : ℕ) (x : Event) → e < T .count → isRace T byEvent e x ≡ true → ⊥) where
     not-ahead : (z : Event) (e : ℕ) → T .before z (receiveOf e) ≡ true → board T z ≡ board T (receiveOf e) → atOrBefore T z (sendOf e) ≡ true
-    unfolding isRace escapes messageOf boardOf
+    unfolding isRace notAtOrBefore messageOf boardOf
     not-ahead z e h b =
         ⊎-elim (λ t. t)
         (λ (f : atOrBefore T z (sendOf e) ≡ false).

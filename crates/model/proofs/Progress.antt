@@ -10,7 +10,7 @@ use Rattle.model.specs.Bounded.{every}
 use Rattle.model.specs.Order.{Event, sendOf, receiveOf, number, event, messageOf, Scenario, board, boardOf, atOrBefore}
 use Rattle.model.specs.Channel.{Channel, ToSend, ToDeliver, inOrder, alone}
 use Rattle.model.specs.Run.{Step, send, deliver, consume, ready, allowed, finished}
-use Rattle.model.specs.Race.{RaceRule, byEvent, byOrigin, never, origin, escapes, isRace}
+use Rattle.model.specs.Race.{RaceRule, byEvent, byOrigin, never, origin, notAtOrBefore, isRace}
 use Rattle.model.proofs.Bounded.{which, not-both, not-is-true, every-at, every-not}
 use Rattle.model.proofs.Events.{event-number, below-number, below-event, at-or-before-cases}
 use Rattle.model.proofs.Causal.{Causal}
@@ -135,16 +135,16 @@ module _ (S : Scenario) (C : Causal S) where
           (which (atOrBefore S y x))
 
       -- what a held message waits for races with it
-      waits-escapes : (q : RaceRule) → (q ≡ never → ⊥) → (c .eager ≡ true)
+      waits-outside : (q : RaceRule) → (q ≡ never → ⊥) → (c .eager ≡ true)
           → (q ≡ byOrigin → (e g : ℕ) → φ e ≡ 2 → S .target g ≡ S .target e → S .before (sendOf g) (sendOf e) ≡ true → φ g ≡ 1 → ⊥)
-          → (e : ℕ) → φ e ≡ 2 → (y : Event) → Waits S C φ (receiveOf e) y → escapes S q e y ≡ true
-      unfolding escapes origin boardOf
-      waits-escapes never n v settled e p y W = absurd (n refl)
-      waits-escapes byEvent n v settled e p y W =
+          → (e : ℕ) → φ e ≡ 2 → (y : Event) → Waits S C φ (receiveOf e) y → notAtOrBefore S q e y ≡ true
+      unfolding notAtOrBefore origin boardOf
+      waits-outside never n v settled e p y W = absurd (n refl)
+      waits-outside byEvent n v settled e p y W =
           not-is-true (atOrBefore S y (sendOf e)) (undone-above y (sendOf e) (W .undone) (le-leb 1 (φ e) (omega arith)))
-      waits-escapes byOrigin n v settled e p (sendOf g) W =
+      waits-outside byOrigin n v settled e p (sendOf g) W =
           not-is-true (atOrBefore S (sendOf g) (sendOf e)) (undone-above (sendOf g) (sendOf e) (W .undone) (le-leb 1 (φ e) (omega arith)))
-      waits-escapes byOrigin n v settled e p (receiveOf g) W =
+      waits-outside byOrigin n v settled e p (receiveOf g) W =
           ⊎-elim
           (λ (t : atOrBefore S (sendOf g) (sendOf e) ≡ true).
           ⊎-elim
@@ -167,7 +167,7 @@ module _ (S : Scenario) (C : Causal S) where
           rw (
             eq-eqb (board S y) (S .target e) (W .onBoard),
             W .isBefore,
-            waits-escapes r (U .eager v) v (λ o. U .settled o φ I) e p y W,
+            waits-outside r (U .eager v) v (λ o. U .settled o φ I) e p y W,
           )
 
       -- what a held message does on an eager channel: it may be consumed, or it races

@@ -20,7 +20,7 @@ use Rattle.model.specs.Closure.{listed}
 use Rattle.model.specs.Refusal.{Out, ok, refusal, andThen, rowRefusal, placeRefusal, circleRefusal}
 use Rattle.model.specs.Text.{ascii, Line, fieldsOf, aheadOfField, placeOf, columnsOf, areColumns, headingOf}
 use Rattle.model.specs.Rows.{Row, sheet, message, order, formed, rowOf}
-use Rattle.model.specs.Place.{Place, outside, withMessage, messageFits, orderFits, moved, isSheet, placed, BlockBefore, given, paired, through, blockCircle, circleAt, lineOf, judged, rowsFrom, opens, strayCall, complete, bodyOf, readOf, readWith}
+use Rattle.model.specs.Place.{Place, outside, withMessage, messageFits, orderFits, moved, isSheet, placed, BlockBefore, given, paired, through, blockCircle, circleAt, lineOf, judged, rowsFrom, opens, absentCall, complete, bodyOf, readOf, readWith}
 use Rattle.model.specs.Order.{Event, sendOf, receiveOf, number, event, messageOf, boardOf, Scenario, board}
 use Rattle.model.specs.Cure.{curedBefore, isWritten, ordersAt, ordersBelow, Written, messageRows, orderRows, curedRows, rowsText, headingText, curedText}
 use Rattle.model.proofs.Bounded.{and-left, and-right, or-cases, or-left, or-right, which, not-both}
@@ -382,19 +382,19 @@ module _ (S : Scenario) (C : Causal S) (few : S .count ≤ messagesMost) (low : 
         (messages-taken (S .count) 0 pairs (zero-add (S .count)) (omega (arith, rows-count)) all-rows))
 
     -- no row calls, and sheet 0 is there
-    no-stray-order : (present : List ℕ) (i : ℕ) (ps : List (ℕ × ℕ)) → strayCall present i (ordersRead ps) ≡ none
-    unfolding strayCall ordersRead
-    no-stray-order present i [] = refl
-    no-stray-order present i (p ∷ ps) = no-stray-order present (suc i) ps
+    no-absent-order : (present : List ℕ) (i : ℕ) (ps : List (ℕ × ℕ)) → absentCall present i (ordersRead ps) ≡ none
+    unfolding absentCall ordersRead
+    no-absent-order present i [] = refl
+    no-absent-order present i (p ∷ ps) = no-absent-order present (suc i) ps
 
-    no-stray : (present : List ℕ) (i k n : ℕ) (ps : List (ℕ × ℕ)) → strayCall present i (messagesFrom S k n ++ ordersRead ps) ≡ none
-    unfolding strayCall messagesFrom
-    no-stray present i k zero ps = no-stray-order present i ps
-    no-stray present i k (suc n) ps = no-stray present (suc i) (suc k) n ps
+    no-absent : (present : List ℕ) (i k n : ℕ) (ps : List (ℕ × ℕ)) → absentCall present i (messagesFrom S k n ++ ordersRead ps) ≡ none
+    unfolding absentCall messagesFrom
+    no-absent present i k zero ps = no-absent-order present i ps
+    no-absent present i k (suc n) ps = no-absent present (suc i) (suc k) n ps
 
     all-there : complete rowsWritten ≡ ok rowsWritten
-    unfolding complete opens among strayCall
-    all-there = rw (no-stray (opens rowsWritten) 1 0 (S .count) pairs)
+    unfolding complete opens among absentCall
+    all-there = rw (no-absent (opens rowsWritten) 1 0 (S .count) pairs)
 
     orders-plain : (ps : List (ℕ × ℕ)) → AllRows ps → AllPlain (orderRows ps)
     unfolding orderRows

@@ -19,7 +19,7 @@ use Rattle.relation.specs.Width.{width}
 use Rattle.row.specs.Judged.{Reader, readerOf, judgedBy, StepAs}
 use Rattle.row.specs.declared.Step.{Step}
 use Rattle.row.specs.declared.Step.the-variants as step
-use Rattle.presence.specs.Stray.{presenceIn}
+use Rattle.presence.specs.AbsentCalls.{presenceIn}
 use Rattle.presence.specs.declared.Presence.{Presence}
 use Rattle.sheet.specs.Bridge.{rowFrom, rowsAt, rowsOf, storeOf, Sized}
 use Rattle.sheet.specs.Store.{verdictOn, BodyAs}

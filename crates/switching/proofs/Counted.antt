@@ -19,7 +19,7 @@ use Rattle.relation.specs.Width.{width, wordBits}
 use Rattle.relation.specs.Rows.{has}
 use Rattle.relation.proofs.Words.{has-and, shifted, alone-row}
 use Rattle.run.specs.State.{inRow}
-use Rattle.switching.specs.Crowded.{halfWord}
+use Rattle.switching.specs.TwoOrMore.{halfWord}
 
 -- a digit is one exactly if it is set
 digit : (d : ℕ) → d < 2 → d ≡ cond (eqb d 1) 1 0

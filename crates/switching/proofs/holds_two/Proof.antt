@@ -1,10 +1,10 @@
--- `switching::is_crowded` meets its contract: the boards passed hold one message at most. Assumes nothing.
+-- `switching::holds_two` meets its contract: the boards passed hold one message at most. Assumes nothing.
 use Prim.Native.Nat.{_-_}
 use borrow.Author.Needs.{needs}
 use Rattle.model.specs.Limits.{boards}
-use Rattle.switching.proofs.Boards.{Passed, passed-none, crowded-here, passed-one, passed-all}
-use Rattle.switching.proofs.is_crowded.Statement.{statement}
-use Rattle.switching.proofs.is_crowded.Tie as tie
+use Rattle.switching.proofs.Boards.{Passed, passed-none, two-here, passed-one, passed-all}
+use Rattle.switching.proofs.holds_two.Statement.{statement}
+use Rattle.switching.proofs.holds_two.Tie as tie
 
 abbrev Inv-loop : tie.InvT-loop
 Inv-loop run board₀ board = Passed run board
@@ -25,7 +25,7 @@ messages-in-requires : tie.Need-messages-in-requires Inv-loop μ-loop
 messages-in-requires c κs = search needs
 
 returns : tie.Need-returns Inv-loop μ-loop
-returns c = search crowded-here
+returns c = search two-here
 
 add-board : tie.Need-add-board Inv-loop μ-loop
 add-board c = search needs
@@ -39,8 +39,8 @@ loop-again c = search passed-one
 returns-2 : tie.Need-returns-2 Inv-loop μ-loop
 returns-2 c = search passed-all
 
-pub is-crowded-spec : {M : Type 1} → statement M
-is-crowded-spec =
+pub holds-two-spec : {M : Type 1} → statement M
+holds-two-spec =
     tie.close
     (tie.spec
     Inv-loop

@@ -1,12 +1,12 @@
--- `standing::is_still` meets its contract. Assumes nothing.
+-- `standing::has_no_step` meets its contract. Assumes nothing.
 use Prim.Native.Nat.{_-_}
-use Rattle.standing.proofs.AtEnd.{Stilled, stilled-starts, still-moves, still-stands, all-still}
+use Rattle.standing.proofs.AtEnd.{WithoutStep, without-step-starts, step-left, no-step-more, no-step-at-all}
 use borrow.Author.Needs.{needs}
-use Rattle.standing.proofs.is_still.Statement.{statement}
-use Rattle.standing.proofs.is_still.Tie as tie
+use Rattle.standing.proofs.has_no_step.Statement.{statement}
+use Rattle.standing.proofs.has_no_step.Tie as tie
 
 abbrev Inv-loop : tie.InvT-loop
-Inv-loop words masks boards count c done way rows m₀ m = Stilled count boards words c done way rows m
+Inv-loop words masks boards count c done way rows m₀ m = WithoutStep count boards words c done way rows m
 
 abbrev μ-loop : tie.MeasureT-loop
 μ-loop words masks boards count c done way rows m₀ m = count - m
@@ -15,13 +15,13 @@ lay-rows-requires : tie.Need-lay-rows-requires Inv-loop μ-loop
 lay-rows-requires c κs = search needs
 
 loop-holds : tie.Need-loop-holds Inv-loop μ-loop
-loop-holds c = search stilled-starts
+loop-holds c = search without-step-starts
 
 is-held-up-requires : tie.Need-is-held-up-requires Inv-loop μ-loop
 is-held-up-requires c κs = search needs
 
 returns : tie.Need-returns Inv-loop μ-loop
-returns c = search (still-moves, needs)
+returns c = search (step-left, needs)
 
 add-m : tie.Need-add-m Inv-loop μ-loop
 add-m c = search needs
@@ -30,13 +30,13 @@ loop-less : tie.Need-loop-less Inv-loop μ-loop
 loop-less c = search needs
 
 loop-again : tie.Need-loop-again Inv-loop μ-loop
-loop-again c = search still-stands
+loop-again c = search no-step-more
 
 returns-2 : tie.Need-returns-2 Inv-loop μ-loop
-returns-2 c = search (all-still, needs)
+returns-2 c = search (no-step-at-all, needs)
 
-pub is-still-spec : {M : Type 1} → statement M
-is-still-spec =
+pub has-no-step-spec : {M : Type 1} → statement M
+has-no-step-spec =
     tie.close
     (tie.spec
     Inv-loop

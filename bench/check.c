@@ -639,8 +639,9 @@ static void cover_rows(walk *w) {
     for (size_t e = 0; e < w->count; e++) {
         const uint64_t *row = w->words + 2 * e * W, *mask = on + w->boards[2 * e] * W;
         uint64_t hidden[W] = {0};
-        for (size_t k = 0; k < w->count; k++)
-            if (test(w->words, 2 * e, 2 * k)) join(hidden, 0, w->words, 2 * k);
+        for (size_t i = 0; i < W; i++)
+            for (uint64_t left = row[i] & sends; left; left &= left - 1)
+                join(hidden, 0, w->words, 64 * i + (size_t)__builtin_ctzll(left));
         for (size_t i = 0; i < W; i++) w->words[(2 * e + 1) * W + i] = row[i] & ~(hidden[i] | (row[i] >> 1 & sends)) & mask[i];
     }
 }
@@ -665,6 +666,36 @@ static size_t put_row(uint8_t *out, uint8_t letter, unsigned one, unsigned two) 
     return at;
 }
 
+/* the P rows, counted: each is a bit in the row of a receive */
+static size_t count_orders(const walk *w) {
+    size_t n = 0;
+    for (size_t e = 0; e < w->count; e++) {
+        const uint64_t *row = w->words + (2 * e + 1) * W;
+        for (size_t i = 0; i < W; i++)
+            if (row[i]) n += (size_t)__builtin_popcountll(row[i]);
+    }
+    return n;
+}
+
+/* the P rows of the events of word i, by x and then y: from the first message with one of them before its send to the last */
+static size_t put_orders(const walk *w, size_t i, uint8_t *out) {
+    const uint64_t *column = w->words + W + i; /* word i of e's receive stands 2 W e words on */
+    uint64_t events = 0;
+    size_t at = 0, first = w->count, end = 0;
+    for (size_t e = 0; e < w->count; e++)
+        if (column[2 * W * e]) {
+            events |= column[2 * W * e];
+            if (e < first) first = e;
+            end = e + 1;
+        }
+    for (; events; events &= events - 1) {
+        unsigned b = (unsigned)__builtin_ctzll(events);
+        for (size_t e = first; e < end; e++)
+            if (column[2 * W * e] >> b & 1) at += put_row(out + at, 'P', 64 * (unsigned)i + b, (unsigned)(2 * e));
+    }
+    return at;
+}
+
 static cure_sheet_answer cure(const uint8_t *text, size_t len, uint64_t *scratch, uint8_t *output) {
     static const char heading[] = "kind one two\n";
     sheet s;
@@ -674,16 +705,12 @@ static cure_sheet_answer cure(const uint8_t *text, size_t len, uint64_t *scratch
     if (!r.number) r = expand(&s, &w, 0);
     if (r.number) return (cure_sheet_answer){1, r.number, r.line};
     cover_rows(&w);
-    size_t rows = 1 + w.count, at = sizeof heading - 1;
-    for (size_t x = 0; x < 2 * w.count; x++)
-        for (size_t e = 0; e < w.count; e++) rows += (size_t)test(w.words, 2 * e + 1, x);
-    if (rows > ROWS) return (cure_sheet_answer){1, 15, 0};
+    size_t at = sizeof heading - 1;
+    if (1 + w.count + count_orders(&w) > ROWS) return (cure_sheet_answer){1, 15, 0};
     memcpy(output, heading, at);
     at += put_row(output + at, 'S', 0, 0);
     for (size_t m = 0; m < w.count; m++) at += put_row(output + at, 'M', w.boards[2 * m], w.boards[2 * m + 1]);
-    for (size_t x = 0; x < 2 * w.count; x++)
-        for (size_t e = 0; e < w.count; e++)
-            if (test(w.words, 2 * e + 1, x)) at += put_row(output + at, 'P', (unsigned)x, (unsigned)(2 * e));
+    for (size_t i = 0; i < W; i++) at += put_orders(&w, i, output + at);
     return (cure_sheet_answer){0, (uint32_t)at, 0};
 }
 

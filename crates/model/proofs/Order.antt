@@ -1,12 +1,12 @@
 -- The test "before" is exactly the relation "before" of specs/Order, and how a chain of it ends. Assumes nothing.
 use Prim.Native.Nat.{ℕ, _*_, _<_}
-use mathlib.Core.Path.{_≡_, refl, sym, ap, subst, subst₂}
+use mathlib.Core.Path.{_≡_, refl, subst, subst₂}
 use mathlib.Core.Logic.{_⊎_, inl, inr, ⊎-elim, _↔_}
-use mathlib.Core.Bool.{Bool, true, false, _&&_, _||_}
+use mathlib.Core.Bool.{Bool, true, _&&_, _||_}
 use lib.Dec.{eqb, ltb}
-use borrow.Author.Tests.{eqb-true, eq-eqb, ltb-true, lt-ltb}
+use borrow.Author.Tests.{eqb-true, ltb-true}
 use Rattle.model.specs.Order.{Event, sendOf, receiveOf, number, event, messageOf, Exchange, boardOf, isEvent, isOwn, isEarlier, Before, row, own, earlier, link, direct, beforeTable, scenarioOf, atOrBefore}
-use Rattle.model.proofs.Bounded.{and-left, and-right, and-both, or-cases, or-left, or-right, not-both}
+use Rattle.model.proofs.Bounded.{and-left, and-right, or-cases, or-left, or-right}
 use Rattle.model.proofs.Events.{event-number, own-parts, own-both, below-number, at-or-before-cases, at-or-before-same, at-or-before-before}
 use Rattle.model.proofs.Closure.{linked-below, closure-holds, closure-transitive, closure-least}
 use Rattle.model.proofs.Causal.{LastLink, Causal}

@@ -1,51 +1,23 @@
 -- The P rows are counted send by send, word by word. Assumes nothing.
-use mathlib.Core.Path.{_≡_, refl, sym, _∙_, ap, ap₂, subst}
+use mathlib.Core.Path.{_≡_, refl, sym, _∙_, ap, ap₂}
 use mathlib.Core.Bool.{Bool, true, false, cond}
 use mathlib.Core.List.{List, [], _∷_}
 use Prim.Native.Nat.{ℕ, zero, suc, _+_, _-_, _*_, _/_, _%_, _^_, _<_, _≤_}
-use native.Mathlib.Nat.{div-one, mod-lt, one-mul}
+use native.Mathlib.Nat.{mod-lt, one-mul}
 use native.Mathlib.Numerals.{add-one}
 use native.Mathlib.Omega.{arith}
-use lib.Arith.{lt-one}
 use lib.Bits.{bitAnd, and-mask}
-use lib.Count.{ones, ones-step, ones-le}
-use lib.Dec.{eqb}
+use lib.Count.{ones, ones-le}
 use lib.ListN.{length, getD, length-append}
-use lib.Pow.{pow-pos, shr-lt, shl-exact, field, mod-mod-pow}
+use lib.Pow.{pow-pos, shl-exact}
 use Rattle.model.specs.Limits.{messagesMost}
 use Rattle.model.specs.Bounded.{howMany}
-use Rattle.model.proofs.Bounded.{many-same, many-most, many-front, many-split}
+use Rattle.model.proofs.Bounded.{many-same, many-most, many-split}
 use Rattle.relation.specs.Width.{width, wordBits}
 use Rattle.relation.specs.Rows.{has, holds}
-use Rattle.relation.proofs.Words.{shifted, word-holds}
+use Rattle.relation.proofs.Words.{has-mod, word-holds}
+use Rattle.relation.proofs.Ones.{ones-bits}
 use Rattle.order_count.specs.Orders.{ordersFrom, ordersTo}
-
--- a digit is one exactly if it is set
-digit : (d : ℕ) → d < 2 → d ≡ cond (eqb d 1) 1 0
-digit zero l = refl
-digit (suc zero) l = refl
-digit (suc (suc d)) l = absurd (omega arith)
-
--- the set digits of a number, by their places
-ones-bits : (k w : ℕ) → w < 2 ^ k → ones w ≡ howMany k (has w)
-unfolding howMany ones has
-ones-bits zero w l = ap ones (lt-one l)
-ones-bits (suc k) w l =
-    let e : suc k ≡ k + 1 = omega arith in
-    let half : w / 2 < 2 ^ k = shr-lt k 1 (subst (λ (x : ℕ). w < 2 ^ x) e l) in
-    let rest : ones (w / 2) ≡ howMany k (λ j. has w (suc j))
-    = ones-bits k (w / 2) half ∙ many-same k (has (w / 2)) (λ j. has w (suc j)) (λ j m. let f : suc j ≡ 1 + j = omega arith in sym (ap (has w) f ∙ shifted w 1 j)) in
-    let low : w % 2 ≡ cond (has w 0) 1 0 = rw div-one (digit (w % 2) (mod-lt w (omega arith))) in
-    ones-step w ∙ ap₂ _+_ low rest ∙ sym (many-front k (has w))
-
--- the bits below place k are not touched by what stands above them
-has-mod : (n k b : ℕ) → b < k → has (n % 2 ^ k) b ≡ has n b
-unfolding has
-has-mod n k b h =
-    let split : k - b - 1 + 1 + b ≡ k = omega arith in
-    let parted : n % 2 ^ k / 2 ^ b ≡ n / 2 ^ b % 2 ^ (k - b - 1 + 1) =
-    subst (λ (i : ℕ). n % 2 ^ i / 2 ^ b ≡ n / 2 ^ b % 2 ^ (k - b - 1 + 1)) split (field n (k - b - 1 + 1) b) in
-    rw (parted, mod-mod-pow (n / 2 ^ b) (k - b - 1) 1)
 
 pub word-counted : (w r : ℕ) → w < 2 ^ wordBits → r ≡ ones w → r ≡ howMany wordBits (has w)
 word-counted w r small e = e ∙ ones-bits wordBits w small

@@ -7,5 +7,6 @@ pub mod Cleared
 pub mod Scenario
 pub mod Loops
 pub mod Words
+pub mod Ones
 pub mod Alone
 pub mod Order

@@ -124,16 +124,20 @@ static void blocks(int n) {
     for (int i = 0; i < 440; i++) line("B", 0, 0);
 }
 
-/* 8,192 bytes, all of them read: the last row, which is refused, has one field that takes the rest. */
+static const channel_check_answer *expected; /* where a sheet is for one answer alone */
+
+/* 8,192 bytes and 512 rows, all of them read: the last row, which is refused, has one field that takes the rest. */
 static void refused(int n) {
+    static const channel_check_answer last_row = {CHANNEL_CHECK_REFUSED, CHANNEL_CHECK_REFUSAL_ROW, ROWS + 1, 0};
     (void)n;
+    expected = &last_row;
     begin();
     for (int i = 0; i < 128; i++) line("M", 10 + i % 6, 10 + i % 5);
     line("B", 0, 0);
     for (int i = 0; i < 128; i++) line("M", 15, 15);
-    for (int i = 0; i < 253; i++) line("P", 100 + i % 128, 229 - i % 128 + (229 - i % 128 == 100 + i % 128));
+    while (rows < ROWS - 1) line("P", 100 + rows % 128, 228 + rows % 28); /* forwards, so that no circle is refused ahead of that row */
     len += (size_t)sprintf(text + len, "P 255 ");
-    while (len < 8191) text[len++] = '1';
+    while (len < CHANNEL_CHECK_TEXT_BYTES - 1) text[len++] = '1';
     text[len++] = '\n';
 }
 
@@ -235,6 +239,7 @@ static void run(int proved, uint32_t code) {
     unsigned sum = 0;
     for (size_t i = 0; i < sizeof trace; i++) sum = 31 * sum + trace[i];
     printf("%zu bytes, code %u: %u %u %u %u, trace %u\n", len, code, a.word, a.one, a.two, a.three, sum);
+    if (expected && memcmp(&a, expected, sizeof a) != 0) fprintf(stderr, "FAILED: another answer than the sheet is for\n"), exit(1);
     trace_check_answer t = (proved ? trace_check : careful_trace_check)((const uint8_t *)text, len, code, scratch, CHANNEL_CHECK_SCRATCH_WORDS, trace, a.word == 1 ? 2 * a.three : 0);
     printf("replayed: %u %u %u, waits", t.word, t.one, t.two);
     for (size_t b = 0; b < TRACE_CHECK_BOARDS; b++) printf(" %u", t.waits[b]);

@@ -4,7 +4,7 @@
 #include <string.h>
 
 enum { W = 8, ROWS = 512, SHEETS = 32, BOARDS = 16, MESSAGES = 256, EVENTS = 2 * MESSAGES, LEVELS = 8, CALLS = 1024, CHOICES = 8 };
-enum { NUMBER_MOST = 511, WORDS = EVENTS * W, TRACE = 6 * MESSAGES };
+enum { NUMBER_MOST = 511, WORDS = EVENTS * W, TRACE = 6 * MESSAGES, TEXT = 8192 };
 
 typedef struct { uint32_t number, line; } refusal; /* number 0: none */
 
@@ -79,67 +79,102 @@ static int formed(uint8_t kind, int one, int two, int choices) {
     return kind == 'S' || kind == 'C' || (kind == 'B' && one == 0);
 }
 
-/* The words hold the order of the open block: a message's two rows are made anew, so their contents do not matter. A rows are read where
- * `choices` says so. */
-static refusal read(const uint8_t *text, size_t len, sheet *s, uint64_t *words, int choices) {
+/* the field of the heading that has the name, or 3 */
+static size_t column_of(const uint8_t *text, const size_t from[3], const size_t to[3], const char *name) {
+    for (size_t f = 0; f < 3; f++)
+        if (named(text, from[f], to[f], name)) return f;
+    return 3;
+}
+
+/* the columns of kind, one and two; the position behind the heading, or 0 */
+static size_t heading(const uint8_t *text, size_t len, size_t column[3]) {
     static const char *names[3] = {"kind", "one", "two"};
-    size_t from[3], to[3], column[3] = {3, 3, 3}, messages = 0, row = 0;
-    uint8_t boards[EVENTS];
-    if (len == 0 || len > 8192) return (refusal){3, 0};
-    size_t at = cut(text, len, 0, from, to);
-    if (at == 0) return (refusal){4, 1};
-    for (size_t c = 0; c < 3; c++)
-        for (size_t f = 0; f < 3; f++)
-            if (named(text, from[f], to[f], names[c])) column[c] = f;
-    if (column[0] == 3 || column[1] == 3 || column[2] == 3) return (refusal){4, 1};
-    memset(s->start, 0, sizeof s->start);
-    for (; at < len; row++) {
-        uint32_t line = (uint32_t)row + 2;
-        if (row == ROWS) return (refusal){5, line};
-        size_t next = cut(text, len, at, from, to);
-        if (next == 0 || to[column[0]] - from[column[0]] != 1) return (refusal){5, line};
-        uint8_t kind = text[from[column[0]]];
-        int one = number(text, from[column[1]], to[column[1]]), two = number(text, from[column[2]], to[column[2]]);
-        if (one < 0 || two < 0 || !formed(kind, one, two, choices)) return (refusal){5, line};
-        int placed = row > 0;
-        switch (kind) {
-        case 'S':
-            placed = one < SHEETS && s->start[one] == 0;
-            if (placed) s->start[one] = (uint16_t)(row + 1);
-            messages = 0;
-            break;
-        case 'M':
-            placed = placed && one < BOARDS && two < BOARDS && messages < MESSAGES;
-            if (placed) {
-                boards[2 * messages] = (uint8_t)one;
-                boards[2 * messages + 1] = (uint8_t)two;
-                memset(words + 2 * messages * W, 0, 2 * W * sizeof *words);
-                mark(words, 2 * messages + 1, 2 * messages);
-                messages++;
-            }
-            break;
-        case 'P':
-            placed = placed && (size_t)one < 2 * messages && (size_t)two < 2 * messages && one != two && boards[one] == boards[two];
-            if (!placed) break;
-            if (test(words, (size_t)one, (size_t)two)) return (refusal){11, line};
-            insert(words, (size_t)one, (size_t)two, 0, 2 * messages);
-            break;
-        case 'B': messages = 0; break;
-        case 'A': placed = placed && one < SHEETS && two < SHEETS; messages = 0; break;
-        default: placed = placed && one < SHEETS; messages = 0;
-        }
-        if (!placed) return (refusal){6, line};
-        s->kind[row] = kind;
-        s->one[row] = (uint16_t)one;
-        s->two[row] = (uint16_t)two;
-        at = next;
-    }
-    s->count = row;
+    size_t from[3], to[3], at = cut(text, len, 0, from, to);
+    for (size_t c = 0; at != 0 && c < 3; c++)
+        if ((column[c] = column_of(text, from, to, names[c])) == 3) return 0;
+    return at;
+}
+
+/* row `row` from `at`, A rows where `choices` says so; the position behind it, or 0 */
+static size_t row_at(const uint8_t *text, size_t len, size_t at, const size_t column[3], int choices, sheet *s, size_t row) {
+    size_t from[3], to[3], next = cut(text, len, at, from, to);
+    if (next == 0 || to[column[0]] - from[column[0]] != 1) return 0;
+    uint8_t kind = text[from[column[0]]];
+    int one = number(text, from[column[1]], to[column[1]]), two = number(text, from[column[2]], to[column[2]]);
+    if (one < 0 || two < 0 || !formed(kind, one, two, choices)) return 0;
+    s->kind[row] = kind;
+    s->one[row] = (uint16_t)one;
+    s->two[row] = (uint16_t)two;
+    return next;
+}
+
+/* the open block: its messages, the boards of its events, and their order in the words */
+typedef struct { size_t messages; uint8_t boards[EVENTS]; uint64_t *words; } block;
+
+/* the number of the refusal, or 0; a message's two rows of the order are made anew, so what the words hold does not matter */
+static uint32_t place_message(block *open, size_t a, size_t b) {
+    size_t send = 2 * open->messages, receive = send + 1;
+    if (a >= BOARDS || b >= BOARDS || open->messages == MESSAGES) return 6;
+    open->boards[send] = (uint8_t)a;
+    open->boards[receive] = (uint8_t)b;
+    memset(open->words + send * W, 0, 2 * W * sizeof *open->words);
+    mark(open->words, receive, send);
+    open->messages++;
+    return 0;
+}
+
+static uint32_t place_order(block *open, size_t x, size_t y) {
+    size_t events = 2 * open->messages;
+    if (x >= events || y >= events || x == y || open->boards[x] != open->boards[y]) return 6;
+    if (test(open->words, x, y)) return 11;
+    insert(open->words, x, y, 0, events);
+    return 0;
+}
+
+static uint32_t place_sheet(sheet *s, size_t n, size_t row) {
+    if (n >= SHEETS || s->start[n] != 0) return 6;
+    s->start[n] = (uint16_t)(row + 1);
+    return 0;
+}
+
+/* the refusal's number, or 0, of a row that is well formed */
+static uint32_t place(sheet *s, block *open, size_t row) {
+    size_t one = s->one[row], two = s->two[row];
+    if (row == 0 && s->kind[row] != 'S') return 6;
+    if (s->kind[row] == 'M') return place_message(open, one, two);
+    if (s->kind[row] == 'P') return place_order(open, one, two);
+    open->messages = 0;
+    if (s->kind[row] == 'S') return place_sheet(s, one, row);
+    return one < SHEETS && two < SHEETS ? 0 : 6; /* B, C and A; what a row does not use is 0 */
+}
+
+/* refusal 7, or none */
+static refusal present(const sheet *s) {
     if (s->start[0] == 0) return (refusal){7, 0};
-    for (size_t i = 0; i < row; i++)
+    for (size_t i = 0; i < s->count; i++)
         if (s->kind[i] == 'C' || s->kind[i] == 'A')
             if (s->start[s->one[i]] == 0 || (s->kind[i] == 'A' && s->start[s->two[i]] == 0)) return (refusal){7, (uint32_t)i + 2};
     return (refusal){0, 0};
+}
+
+/* the words hold the order of the open block */
+static refusal read(const uint8_t *text, size_t len, sheet *s, uint64_t *words, int choices) {
+    size_t column[3];
+    block open;
+    open.messages = 0;
+    open.words = words;
+    if (len == 0 || len > TEXT) return (refusal){3, 0};
+    size_t at = heading(text, len, column);
+    if (at == 0) return (refusal){4, 1};
+    memset(s->start, 0, sizeof s->start);
+    for (s->count = 0; at < len; s->count++) {
+        uint32_t line = (uint32_t)s->count + 2;
+        at = s->count < ROWS ? row_at(text, len, at, column, choices, s, s->count) : 0;
+        if (at == 0) return (refusal){5, line};
+        uint32_t given = place(s, &open, s->count);
+        if (given != 0) return (refusal){given, line};
+    }
+    return present(s);
 }
 
 /* ------------------------------------------------------------------ expansion */
@@ -310,13 +345,7 @@ static int may_consume(const walk *w, const masks *k, const run *r, size_t m) {
 
 /* ------------------------------------------------------------------ the schedule */
 
-/* the messages whose step of a class can be allowed at all, as bits of their sends */
-static void held_anywhere(const run *r, uint64_t row[W]) {
-    memset(row, 0, W * sizeof *row);
-    for (size_t b = 0; b < BOARDS; b++)
-        for (size_t i = 0; i < W; i++) row[i] |= r->held[b][i];
-}
-
+/* the messages not yet sent, as bits of their sends */
 static void unsent(const run *r, uint64_t row[W]) {
     for (size_t i = 0; i < W; i++) row[i] = ~r->done[i] & sends;
 }
@@ -328,7 +357,7 @@ static void needed(const walk *w, size_t e, uint64_t row[W]) {
     row[2 * e / 64] |= own;
 }
 
-static int choose(const walk *w, const masks *k, channel c, const run *r, size_t e, uint8_t *kind, size_t *message) {
+static int choose(const walk *w, const masks *k, channel c, const run *r, const uint64_t anywhere[W], size_t e, uint8_t *kind, size_t *message) {
     size_t n = w->count, m;
     uint64_t row[W];
 #define EACH(test) \
@@ -338,7 +367,7 @@ static int choose(const walk *w, const masks *k, channel c, const run *r, size_t
             if (m < n && (test)) return *message = m, 1; \
         }
     *kind = 2;
-    held_anywhere(r, row);
+    memcpy(row, anywhere, sizeof row);
     EACH(may_consume(w, k, r, m))
     *kind = 1;
     if (may_deliver(w, k, c, r, e)) return *message = e, 1;
@@ -379,13 +408,15 @@ static void take(const walk *w, run *r, uint8_t kind, size_t m) {
 static size_t schedule(const walk *w, channel c, size_t e, uint8_t *trace) {
     masks k;
     run r;
+    uint64_t anywhere[W] = {0}; /* what the buffers hold together */
     boards_masks(w, &k);
     memset(&r, 0, sizeof r);
     for (size_t i = 0; i < 3 * w->count; i++) {
         uint8_t kind;
         size_t m;
-        if (!choose(w, &k, c, &r, e, &kind, &m)) return i;
+        if (!choose(w, &k, c, &r, anywhere, e, &kind, &m)) return i;
         take(w, &r, kind, m);
+        if (kind) flip(anywhere, 2 * m);
         trace[2 * i] = kind;
         trace[2 * i + 1] = (uint8_t)m;
     }
@@ -608,8 +639,9 @@ static void cover_rows(walk *w) {
     for (size_t e = 0; e < w->count; e++) {
         const uint64_t *row = w->words + 2 * e * W, *mask = on + w->boards[2 * e] * W;
         uint64_t hidden[W] = {0};
-        for (size_t k = 0; k < w->count; k++)
-            if (test(w->words, 2 * e, 2 * k)) join(hidden, 0, w->words, 2 * k);
+        for (size_t i = 0; i < W; i++)
+            for (uint64_t left = row[i] & sends; left; left &= left - 1)
+                join(hidden, 0, w->words, 64 * i + (size_t)__builtin_ctzll(left));
         for (size_t i = 0; i < W; i++) w->words[(2 * e + 1) * W + i] = row[i] & ~(hidden[i] | (row[i] >> 1 & sends)) & mask[i];
     }
 }
@@ -634,6 +666,36 @@ static size_t put_row(uint8_t *out, uint8_t letter, unsigned one, unsigned two) 
     return at;
 }
 
+/* the P rows, counted: each is a bit in the row of a receive */
+static size_t count_orders(const walk *w) {
+    size_t n = 0;
+    for (size_t e = 0; e < w->count; e++) {
+        const uint64_t *row = w->words + (2 * e + 1) * W;
+        for (size_t i = 0; i < W; i++)
+            if (row[i]) n += (size_t)__builtin_popcountll(row[i]);
+    }
+    return n;
+}
+
+/* the P rows of the events of word i, by x and then y: from the first message with one of them before its send to the last */
+static size_t put_orders(const walk *w, size_t i, uint8_t *out) {
+    const uint64_t *column = w->words + W + i; /* word i of e's receive stands 2 W e words on */
+    uint64_t events = 0;
+    size_t at = 0, first = w->count, end = 0;
+    for (size_t e = 0; e < w->count; e++)
+        if (column[2 * W * e]) {
+            events |= column[2 * W * e];
+            if (e < first) first = e;
+            end = e + 1;
+        }
+    for (; events; events &= events - 1) {
+        unsigned b = (unsigned)__builtin_ctzll(events);
+        for (size_t e = first; e < end; e++)
+            if (column[2 * W * e] >> b & 1) at += put_row(out + at, 'P', 64 * (unsigned)i + b, (unsigned)(2 * e));
+    }
+    return at;
+}
+
 static cure_sheet_answer cure(const uint8_t *text, size_t len, uint64_t *scratch, uint8_t *output) {
     static const char heading[] = "kind one two\n";
     sheet s;
@@ -643,16 +705,12 @@ static cure_sheet_answer cure(const uint8_t *text, size_t len, uint64_t *scratch
     if (!r.number) r = expand(&s, &w, 0);
     if (r.number) return (cure_sheet_answer){1, r.number, r.line};
     cover_rows(&w);
-    size_t rows = 1 + w.count, at = sizeof heading - 1;
-    for (size_t x = 0; x < 2 * w.count; x++)
-        for (size_t e = 0; e < w.count; e++) rows += (size_t)test(w.words, 2 * e + 1, x);
-    if (rows > ROWS) return (cure_sheet_answer){1, 15, 0};
+    size_t at = sizeof heading - 1;
+    if (1 + w.count + count_orders(&w) > ROWS) return (cure_sheet_answer){1, 15, 0};
     memcpy(output, heading, at);
     at += put_row(output + at, 'S', 0, 0);
     for (size_t m = 0; m < w.count; m++) at += put_row(output + at, 'M', w.boards[2 * m], w.boards[2 * m + 1]);
-    for (size_t x = 0; x < 2 * w.count; x++)
-        for (size_t e = 0; e < w.count; e++)
-            if (test(w.words, 2 * e + 1, x)) at += put_row(output + at, 'P', (unsigned)x, (unsigned)(2 * e));
+    for (size_t i = 0; i < W; i++) at += put_orders(&w, i, output + at);
     return (cure_sheet_answer){0, (uint32_t)at, 0};
 }
 
@@ -666,7 +724,7 @@ cure_sheet_answer careful_cure_sheet(const uint8_t *text, size_t text_len, uint6
 
 /* ------------------------------------------------------------------ the dispatcher */
 
-enum { PLACES = 8, SHEET = 8192 };
+enum { PLACES = 8, SHEET = TEXT };
 
 dispatcher careful_dispatcher_empty(void) { return (dispatcher){0}; }
 
@@ -830,7 +888,7 @@ typedef struct { rule_record rules[RULES]; size_t count; } sender_table;
 
 static refusal read_table(const uint8_t *table, size_t len, sender_table *t) {
     size_t from[3], to[3];
-    if (len == 0 || len > 8192) return (refusal){18, 0};
+    if (len == 0 || len > TEXT) return (refusal){18, 0};
     size_t at = cut(table, len, 0, from, to);
     if (at == 0 || !named(table, from[0], to[0], "from") || !named(table, from[1], to[1], "to") || !named(table, from[2], to[2], "verdict"))
         return (refusal){18, 1};
@@ -898,7 +956,7 @@ static channel_check_answer judge_permitted(const uint8_t *text, size_t len, uin
     size_t e, x;
     sender_table t;
     uint16_t permitted[BOARDS] = {0};
-    if (len == 0 || len > 8192) return (channel_check_answer){2, 3, 0, 0};
+    if (len == 0 || len > TEXT) return (channel_check_answer){2, 3, 0, 0};
     refusal r = read_table(table, table_len, &t);
     if (!r.number && judge_table(&t).word != 0) r.number = 18, r.line = 0;
     if (!r.number) r = read(text, len, &s, scratch, 0);

@@ -1,12 +1,17 @@
 /* The fuzz target over the C face. Each input is tried on the library as it is shipped, on the same proved code compiled with
  * coverage counters, which guides the search, and on the careful C program of bench/, and all must agree in answer, trace,
- * scratch and text. Input: a byte for the code, one for the buffers' lengths, then the text. Where the second byte is over 127 the call is
- * trace_check: a byte for a third of the trace's length follows, then the trace, then the text; with bit 4 of the first byte the bytes are
- * not a trace but calls of the monitor. Otherwise the call is permitted_check and senders_check where the first byte has bit 5: a byte for a
- * quarter of the table's length follows, then the table, then the text; cure_sheet where it has bit 4, choice_check where it has bit 3, else
- * channel_check. Where the first byte has bit 6 it is taps_check, whatever the rest: a byte for each list's length follows, then the lists, a byte
- * an event, 255 being 65,535, then the text. Where it has bit 7 it is the dispatcher's calls, whatever the rest: the second byte says how long the
- * sheets are that are lent, a byte for the number of calls follows, then the calls, three bytes each, then the text. */
+ * scratch and text. Input: a byte for the code, one for the buffers' lengths, then what the call reads beside the text, then the text.
+ * A number of two bytes has the low one first; of the high one three bits count, and all three set stand for 255, so that lengths and
+ * events reach beyond the limits at which they are refused.
+ *
+ * The first of these that holds says what the call is:
+ * - bit 7 of the first byte: the dispatcher's calls. The second byte says how long the sheets are that are lent, a byte for the number of
+ *   calls follows, then the calls, three bytes each.
+ * - its bit 6: taps_check. A number of two bytes for each list's length follows, then the lists, two bytes an event.
+ * - a second byte over 127: trace_check. A number of two bytes for the trace's length follows, then the trace. With bit 4 of the first byte
+ *   they are not a trace but calls of the monitor, two bytes each.
+ * - bit 5 of the first byte: permitted_check and senders_check. A byte for a quarter of the table's length follows, then the table.
+ * - bit 4: cure_sheet. Bit 3: choice_check. Else channel_check. */
 #define _GNU_SOURCE
 #include "../bench/check.h"
 #include <stdio.h>
@@ -31,6 +36,8 @@ dispatcher_answer guided_dispatcher_cancel(dispatcher, uint32_t, const uint8_t *
 int LLVMFuzzerTestOneInput(const uint8_t *data, size_t size);
 
 enum { WORDS = CHANNEL_CHECK_SCRATCH_WORDS, BYTES = CHANNEL_CHECK_TRACE_BYTES, PAINT = 0xa5, AHEAD = 64, ROOM = 1 << 19, GUARD = 1 << 16 };
+
+static const uint32_t codes[8] = {0, 1, 2, 3, 4, 5, 6, UINT32_MAX}; /* two of them are none */
 
 /* the answer of channel_check has length and choices 0 */
 typedef struct { int choices; choice_check_answer answer; size_t text_len, words, bytes; uint8_t *text, *scratch, *trace; } call;
@@ -126,7 +133,8 @@ static void try_trace(const uint8_t *text, size_t len, uint32_t code, size_t wor
     free(exact_text), free(exact_trace), free(exact);
 }
 
-/* the monitor: opened, and then two bytes a call, a step, or a switch where the first is over 2; all three agree in every answer */
+/* the monitor: opened, and then two bytes a call, a switch where the first is over 7; else its bits 0 and 1 are a step's code, and bit 2 is bit 8 of
+ * the message, so that those behind the last can be told; all three agree in every answer */
 static void try_monitor(const uint8_t *text, size_t len, uint32_t code, const uint8_t *calls, size_t bytes) {
     uint8_t *exact_text = memcpy(malloc(len), text, len), *lent = memcpy(guarded(0, len), text, len);
     uint64_t *exact = memset(malloc(WORDS * 8), PAINT, WORDS * 8), *words = (uint64_t *)guarded(1, WORDS * 8);
@@ -138,10 +146,10 @@ static void try_monitor(const uint8_t *text, size_t len, uint32_t code, const ui
         if (memcmp(&c.next, &p.next, offsetof(monitor, code) + 4) != 0 || memcmp(&g.next, &p.next, offsetof(monitor, code) + 4) != 0) stop("monitor's state", &a);
         if (memcmp(exact, words, WORDS * 8) != 0) stop("scratch behind a monitor's call", &a);
         if (i + 1 >= bytes) break;
-        uint32_t kind = calls[i], m = calls[i + 1];
-        if (kind > 2) {
-            c = careful_monitor_switch(c.next, kind % 8, exact_text, len, exact, WORDS), p = monitor_switch(p.next, kind % 8, lent, len, words, WORDS);
-            g = guided_monitor_switch(g.next, kind % 8, lent, len, words, WORDS);
+        uint32_t kind = calls[i] % 4, to = calls[i] % 8, m = calls[i + 1] + calls[i] / 4 * UINT32_C(256);
+        if (calls[i] > 7) {
+            c = careful_monitor_switch(c.next, to, exact_text, len, exact, WORDS), p = monitor_switch(p.next, to, lent, len, words, WORDS);
+            g = guided_monitor_switch(g.next, to, lent, len, words, WORDS);
         } else {
             c = careful_monitor_step(c.next, kind, m, exact_text, len, exact, WORDS), p = monitor_step(p.next, kind, m, lent, len, words, WORDS);
             g = guided_monitor_step(g.next, kind, m, lent, len, words, WORDS);
@@ -212,16 +220,19 @@ static void try_table(const uint8_t *text, size_t len, uint32_t code, size_t wor
     free(exact_table), free(c.text), free(c.scratch), free(c.trace);
 }
 
-/* a list in memory of exact size, from bytes: the high ones are the last events that a sheet may have, and the highest is none */
+/* a number of two bytes; most high bytes would be far beyond every limit, so that the search would stay there */
+static size_t number_of(const uint8_t *two) { return two[0] + (size_t)256 * (two[1] % 8 == 7 ? 255 : two[1] % 8); }
+
+/* a list in memory of exact size, two bytes an event */
 static uint16_t *list_of(const uint8_t *bytes, size_t count) {
     uint16_t *list = malloc(2 * count);
-    for (size_t i = 0; i < count; i++) list[i] = (uint16_t)(bytes[i] == 255 ? 65535 : bytes[i] < 224 ? bytes[i] : CHANNEL_CHECK_EVENTS - 256 + bytes[i]);
+    for (size_t i = 0; i < count; i++) list[i] = (uint16_t)number_of(bytes + 2 * i);
     return list;
 }
 
 /* a course holds each event once, and none behind one that a list has behind it */
 static void is_course(const uint16_t *course, size_t events, const uint16_t *list, size_t count, const call *a) {
-    size_t at[512];
+    size_t at[CHANNEL_CHECK_EVENTS];
     memset(at, 255, sizeof at);
     for (size_t i = 0; i < events; i++) {
         if (course[i] >= events || at[course[i]] != SIZE_MAX) stop("a course with an event twice, or of no sheet", a);
@@ -234,7 +245,7 @@ static void is_course(const uint16_t *course, size_t events, const uint16_t *lis
 /* two taps: answer, output and scratch of all three; the header's promise of the buffers */
 static void try_taps(const uint8_t *text, size_t len, size_t words, size_t numbers, const uint8_t *lists, size_t first_len, size_t second_len) {
     uint8_t *exact_text = memcpy(malloc(len), text, len), *exact_output = memset(malloc(2 * numbers), PAINT, 2 * numbers);
-    uint16_t *first = list_of(lists, first_len), *second = list_of(lists + first_len, second_len);
+    uint16_t *first = list_of(lists, first_len), *second = list_of(lists + 2 * first_len, second_len);
     uint64_t *exact = memset(malloc(words * 8), PAINT, words * 8);
     taps_check_answer c = careful_taps_check(exact_text, len, exact, words, first, first_len, second, second_len, (uint16_t *)exact_output, numbers);
     for (int is_guided = 0; is_guided < 2; is_guided++) {
@@ -275,13 +286,13 @@ enum { PLACES = DISPATCHER_PLACES, SHEET = DISPATCHER_SHEET_BYTES, BEHIND = 3, A
 enum { ADMIT, TURN, CANCEL };
 
 /* one implementation, with its words and its trace; both end at the end of their memory */
-typedef struct { admits *admit; turns *turn; cancels *cancel; uint64_t *words; uint8_t *trace; dispatcher_answer told; } desk;
+typedef struct { admits *admit; turns *turn; cancels *cancel; uint64_t *words; uint8_t *trace; dispatcher_answer told; } side;
 
 /* what a call is lent beside words and trace, and how much of these; and the number that is cancelled */
 typedef struct { uint8_t *sheets; uint32_t *lengths, *codes, number; size_t sheets_len, lengths_len, codes_len, words_len, trace_len; } lent;
 
 /* what is known of the dispatcher: its words; what the check answers to the sheet of each place. The careful C program reads no forged values. */
-typedef struct { lent l; desk desks[3]; int is_forged, turns; uint64_t words[ALL]; channel_check_answer expected[PLACES]; uint8_t steps[PLACES][BYTES]; dispatcher kept; } counter;
+typedef struct { lent l; side sides[3]; int is_forged, turns; uint64_t words[ALL]; channel_check_answer expected[PLACES]; uint8_t steps[PLACES][BYTES]; dispatcher kept; } counter;
 
 static void stop_at(const char *what, const dispatcher_answer *a) {
     call c = {.answer = {a->word, a->one, a->two, a->answer.word, a->answer.one, a->answer.two}};
@@ -298,7 +309,7 @@ static unsigned places_in(const dispatcher_queue *q) {
     return taken;
 }
 
-static dispatcher_answer ask(const desk *d, int kind, const lent *l) {
+static dispatcher_answer ask(const side *d, int kind, const lent *l) {
     uint64_t *words = d->words + ALL - l->words_len;
     dispatcher v = d->told.next;
     if (kind == ADMIT) return d->admit(v, l->sheets, l->sheets_len, l->lengths, l->lengths_len, l->codes, l->codes_len, words, l->words_len);
@@ -307,7 +318,7 @@ static dispatcher_answer ask(const desk *d, int kind, const lent *l) {
 }
 
 /* the header's promise of value, words and trace, whatever was handed in */
-static void keeps_promise(counter *c, desk *d, int kind, const dispatcher *before, uint64_t *words) {
+static void keeps_promise(counter *c, side *d, int kind, const dispatcher *before, uint64_t *words) {
     const dispatcher_answer *a = &d->told;
     unsigned taken = places_in(&a->next.queue);
     size_t written = kind == TURN && a->word == 3 && a->answer.word == 1 ? 2 * (size_t)a->answer.three : 0;
@@ -326,7 +337,7 @@ static void keeps_promise(counter *c, desk *d, int kind, const dispatcher *befor
 
 /* what was not forged: a job is admitted if the check accepts its sheet, and is answered as by the check */
 static void as_checked(counter *c, int kind, const dispatcher *before) {
-    const dispatcher_answer *a = &c->desks[0].told;
+    const dispatcher_answer *a = &c->sides[0].told;
     static uint64_t scratch[WORDS];
     if (kind == ADMIT && a->word == 0) {
         size_t p = a->two, from = p * SHEET < c->l.sheets_len ? p * SHEET : c->l.sheets_len, most = c->l.sheets_len - from;
@@ -339,28 +350,28 @@ static void as_checked(counter *c, int kind, const dispatcher *before) {
     if (kind == TURN && a->word == 3) {
         size_t p = before->queue.jobs[0].place;
         if (memcmp(&a->answer, &c->expected[p], sizeof a->answer) != 0) stop_at("another answer than the check's", a);
-        if (memcmp(c->desks[0].trace, c->steps[p], BYTES) != 0) stop_at("other steps than the check's", a);
+        if (memcmp(c->sides[0].trace, c->steps[p], BYTES) != 0) stop_at("other steps than the check's", a);
     }
 }
 
 /* one call of all implementations: they agree, and each keeps its promise */
 static dispatcher_answer serve(counter *c, int kind) {
     static uint64_t words[ALL];
-    dispatcher before = c->desks[0].told.next;
+    dispatcher before = c->sides[0].told.next;
     for (int i = 0; i < (c->is_forged ? 2 : 3); i++) {
-        desk *d = &c->desks[i];
+        side *d = &c->sides[i];
         dispatcher own = d->told.next;
         memset(d->trace, PAINT, BYTES);
         d->told = ask(d, kind, &c->l);
         keeps_promise(c, d, kind, &own, words);
-        if (memcmp(&d->told, &c->desks[0].told, offsetof(dispatcher_answer, next)) != 0) stop_at("a dispatcher's answer", &d->told);
-        if (memcmp(d->trace, c->desks[0].trace, BYTES) != 0 || memcmp(d->words, c->desks[0].words, sizeof words) != 0) stop_at("a dispatcher's words or trace", &d->told);
-        if (i == 1 && memcmp(&d->told.next, &c->desks[0].told.next, sizeof before) != 0) stop_at("a dispatcher's value", &d->told);
+        if (memcmp(&d->told, &c->sides[0].told, offsetof(dispatcher_answer, next)) != 0) stop_at("a dispatcher's answer", &d->told);
+        if (memcmp(d->trace, c->sides[0].trace, BYTES) != 0 || memcmp(d->words, c->sides[0].words, sizeof words) != 0) stop_at("a dispatcher's words or trace", &d->told);
+        if (i == 1 && memcmp(&d->told.next, &c->sides[0].told.next, sizeof before) != 0) stop_at("a dispatcher's value", &d->told);
         if (i < 2 && (!ahead_painted((uint8_t *)d->words) || !ahead_painted(d->trace))) stop_at("bytes ahead of a dispatcher's buffer", &d->told);
     }
     if (!c->is_forged) as_checked(c, kind, &before);
     memcpy(c->words, words, sizeof words);
-    return c->desks[0].told;
+    return c->sides[0].told;
 }
 
 /* the text's first lines, or all of it, as the sheet of the place that an admission takes */
@@ -394,19 +405,18 @@ static void forge(counter *c, uint8_t kind, uint8_t a, uint8_t b) {
     size_t at = a % 2 ? b % HEAD : (a / 2 * (size_t)256 + b) % sizeof(dispatcher), word = (a / 2 * (size_t)256 + b) % ALL;
     c->is_forged = 1;
     for (int i = 0; i < 2; i++) {
-        if (kind % 8 == 7) c->desks[i].told.next = c->kept;
-        else if (a % 4 == 2) ((uint8_t *)(c->desks[i].words + word))[kind / 8 % 8] ^= (uint8_t)(1u << b % 8);
-        else ((uint8_t *)&c->desks[i].told.next)[at] = (uint8_t)(kind / 8 * 33);
+        if (kind % 8 == 7) c->sides[i].told.next = c->kept;
+        else if (a % 4 == 2) ((uint8_t *)(c->sides[i].words + word))[kind / 8 % 8] ^= (uint8_t)(1u << b % 8);
+        else ((uint8_t *)&c->sides[i].told.next)[at] = (uint8_t)(kind / 8 * 33);
     }
-    memcpy(c->words, c->desks[0].words, sizeof c->words);
+    memcpy(c->words, c->sides[0].words, sizeof c->words);
 }
 
 /* the calls: an admission, turns, a cancellation, one that is lent less, a value kept or forged */
-static void call_desks(counter *c, const uint8_t *calls, size_t count, const uint8_t *text, size_t len) {
-    static const uint32_t codes[8] = {0, 1, 2, 3, 4, 5, 6, UINT32_MAX};
+static void call_all(counter *c, const uint8_t *calls, size_t count, const uint8_t *text, size_t len) {
     for (const uint8_t *at = calls; at + 3 <= calls + 3 * count; at += 3) {
         uint8_t kind = at[0], a = at[1], b = at[2];
-        lend_sheet(&c->l, &c->desks[0].told.next, text, len, b, codes[a % 8]);
+        lend_sheet(&c->l, &c->sides[0].told.next, text, len, b, codes[a % 8]);
         c->l.number = a;
         if (kind % 8 < 2) serve(c, ADMIT);
         if (kind % 8 == 2 || kind % 8 == 3)
@@ -414,7 +424,7 @@ static void call_desks(counter *c, const uint8_t *calls, size_t count, const uin
                 if (serve(c, TURN).word == 1) break;
         if (kind % 8 == 4) serve(c, CANCEL);
         if (kind % 8 == 5) lend_less(c, kind / 8 % 3, b);
-        if (kind % 8 == 6 && kind < 128) c->kept = c->desks[0].told.next;
+        if (kind % 8 == 6 && kind < 128) c->kept = c->sides[0].told.next;
         if ((kind % 8 == 6 && kind > 127) || kind == 7 || kind == 255) forge(c, kind, a, b);
     }
 }
@@ -422,64 +432,75 @@ static void call_desks(counter *c, const uint8_t *calls, size_t count, const uin
 static void try_dispatcher(const uint8_t *calls, size_t count, const uint8_t *text, size_t len, size_t sheets_len) {
     static counter c;
     c.l = (lent){guarded(0, sheets_len), (uint32_t *)guarded(3, 4 * PLACES), (uint32_t *)guarded(4, 4 * PLACES), 0, sheets_len, PLACES, PLACES, ALL, BYTES};
-    c.desks[0] = (desk){dispatcher_admit, dispatcher_turn, dispatcher_cancel, (uint64_t *)guarded(1, sizeof c.words), guarded(2, BYTES), {.next = dispatcher_empty()}};
-    c.desks[1] = (desk){guided_dispatcher_admit, guided_dispatcher_turn, guided_dispatcher_cancel, (uint64_t *)guarded(5, sizeof c.words), guarded(6, BYTES), {.next = guided_dispatcher_empty()}};
-    c.desks[2] = (desk){careful_dispatcher_admit, careful_dispatcher_turn, careful_dispatcher_cancel, memset(malloc(sizeof c.words), PAINT, sizeof c.words), malloc(BYTES), {.next = careful_dispatcher_empty()}};
+    c.sides[0] = (side){dispatcher_admit, dispatcher_turn, dispatcher_cancel, (uint64_t *)guarded(1, sizeof c.words), guarded(2, BYTES), {.next = dispatcher_empty()}};
+    c.sides[1] = (side){guided_dispatcher_admit, guided_dispatcher_turn, guided_dispatcher_cancel, (uint64_t *)guarded(5, sizeof c.words), guarded(6, BYTES), {.next = guided_dispatcher_empty()}};
+    c.sides[2] = (side){careful_dispatcher_admit, careful_dispatcher_turn, careful_dispatcher_cancel, memset(malloc(sizeof c.words), PAINT, sizeof c.words), malloc(BYTES), {.next = careful_dispatcher_empty()}};
     c.is_forged = c.turns = 0;
     c.kept = dispatcher_empty();
     memset(c.words, PAINT, sizeof c.words);
-    call_desks(&c, calls, count, text, len);
-    if (!ahead_painted(c.l.sheets) || !ahead_painted((uint8_t *)c.l.lengths) || !ahead_painted((uint8_t *)c.l.codes)) stop_at("bytes ahead of what is lent to be read", &c.desks[0].told);
-    free(c.desks[2].words), free(c.desks[2].trace);
+    call_all(&c, calls, count, text, len);
+    if (!ahead_painted(c.l.sheets) || !ahead_painted((uint8_t *)c.l.lengths) || !ahead_painted((uint8_t *)c.l.codes)) stop_at("bytes ahead of what is lent to be read", &c.sides[0].told);
+    free(c.sides[2].words), free(c.sides[2].trace);
 }
 
-int LLVMFuzzerTestOneInput(const uint8_t *data, size_t size) {
-    static const uint32_t codes[8] = {0, 1, 2, 3, 4, 5, 6, UINT32_MAX};
-    static const size_t words[8] = {WORDS, WORDS, WORDS, WORDS + 1, 2 * WORDS, WORDS, WORDS - 1, 0};
-    static const size_t bytes[8] = {BYTES, BYTES, BYTES, BYTES + 1, BYTES + 9, BYTES, BYTES - 1, 0};
-    enum { OUT = CURE_SHEET_OUTPUT_BYTES };
-    static const size_t output[8] = {OUT, OUT, OUT, OUT + 1, OUT + 9, OUT, OUT - 1, 0};
-    if (size < 2) return -1;
-    call c = {.choices = data[0] / 8 % 2, .text_len = size - 2, .words = words[data[1] % 8], .bytes = bytes[data[1] / 8 % 8]}, a = c;
-    uint32_t code = codes[data[0] % 8];
-    if (data[0] / 128) {
-        static const size_t sheets[8] = {PLACES * SHEET, PLACES * SHEET, PLACES * SHEET, PLACES * SHEET + 1, PLACES * SHEET - 1, SHEET, 3 * SHEET / 2, 0};
-        if (size < 3) return -1;
-        size_t count = data[2] < (size - 3) / 3 ? data[2] : (size - 3) / 3;
-        try_dispatcher(data + 3, count, data + 3 + 3 * count, size - 3 - 3 * count, sheets[data[1] % 8]);
-        return 0;
-    }
-    if (data[0] / 64 % 2) {
-        enum { LONG = TAPS_CHECK_OUTPUT_NUMBERS };
-        static const size_t numbers[8] = {LONG, LONG, LONG, LONG + 1, LONG + 9, LONG, LONG - 1, 0};
-        if (size < 4) return -1;
-        size_t rest = size - 4, m = data[2] < rest ? data[2] : rest, n = data[3] < rest - m ? data[3] : rest - m;
-        try_taps(data + 4 + m + n, rest - m - n, c.words, numbers[data[1] / 8 % 8], data + 4, m, n);
-        return 0;
-    }
-    if (data[1] > 127) {
-        if (size < 3) return -1;
-        size_t most = 3 * (size_t)data[2] + data[1] / 64 % 2, length = most < size - 3 ? most : size - 3;
-        if (data[0] / 16 % 2) try_monitor(data + 3 + length, size - 3 - length, code, data + 3, length);
-        else try_trace(data + 3 + length, size - 3 - length, code, c.words, data + 3, length);
-        return 0;
-    }
-    if (data[0] / 32 % 2) {
-        if (size < 3) return -1;
-        size_t most = 4 * (size_t)data[2], length = most < size - 3 ? most : size - 3;
-        try_table(data + 3 + length, size - 3 - length, code, c.words, c.bytes, data + 3, length);
-        return 0;
-    }
-    if (data[0] / 16 % 2) {
-        try_cure(data + 2, size - 2, c.words, output[data[1] / 8 % 8]);
-        return 0;
-    }
-    careful(&c, data + 2, code);
+/* ---- an input, by its call; -1 where it is too short to be one */
+/* the length of a buffer, by three bits: mostly exact, else larger, too short or none */
+static size_t length_of(size_t least, unsigned bits) {
+    const size_t lengths[8] = {least, least, least, least + 1, 2 * least, least, least - 1, 0};
+    return lengths[bits % 8];
+}
+
+static size_t at_most(size_t n, size_t most) { return n < most ? n : most; }
+
+static int dispatcher_input(const uint8_t *data, size_t size) {
+    static const size_t sheets[8] = {PLACES * SHEET, PLACES * SHEET, PLACES * SHEET, PLACES * SHEET + 1, PLACES * SHEET - 1, SHEET, 3 * SHEET / 2, 0};
+    if (size < 3) return -1;
+    size_t count = at_most(data[2], (size - 3) / 3);
+    try_dispatcher(data + 3, count, data + 3 + 3 * count, size - 3 - 3 * count, sheets[data[1] % 8]);
+    return 0;
+}
+
+static int taps_input(const uint8_t *data, size_t size) {
+    if (size < 6) return -1;
+    size_t rest = size - 6, m = at_most(number_of(data + 2), rest / 2), n = at_most(number_of(data + 4), rest / 2 - m), lists = 2 * (m + n);
+    try_taps(data + 6 + lists, rest - lists, length_of(WORDS, data[1]), length_of(TAPS_CHECK_OUTPUT_NUMBERS, data[1] / 8), data + 6, m, n);
+    return 0;
+}
+
+static int trace_input(const uint8_t *data, size_t size) {
+    if (size < 4) return -1;
+    size_t rest = size - 4, length = at_most(number_of(data + 2), rest);
+    const uint8_t *text = data + 4 + length;
+    if (data[0] / 16 % 2) try_monitor(text, rest - length, codes[data[0] % 8], data + 4, length);
+    else try_trace(text, rest - length, codes[data[0] % 8], length_of(WORDS, data[1]), data + 4, length);
+    return 0;
+}
+
+static int table_input(const uint8_t *data, size_t size) {
+    if (size < 3) return -1;
+    size_t rest = size - 3, length = at_most(4 * (size_t)data[2], rest);
+    try_table(data + 3 + length, rest - length, codes[data[0] % 8], length_of(WORDS, data[1]), length_of(BYTES, data[1] / 8), data + 3, length);
+    return 0;
+}
+
+static int check_input(const uint8_t *data, size_t size) {
+    call c = {.choices = data[0] / 8 % 2, .text_len = size - 2, .words = length_of(WORDS, data[1]), .bytes = length_of(BYTES, data[1] / 8)}, a = c;
+    careful(&c, data + 2, codes[data[0] % 8]);
     for (int is_guided = 0; is_guided < 2; is_guided++) {
-        proved(&a, data + 2, code, is_guided);
+        proved(&a, data + 2, codes[data[0] % 8], is_guided);
         agree(&a, &c);
         promised(&a);
     }
     free(c.text), free(c.scratch), free(c.trace);
     return 0;
+}
+
+int LLVMFuzzerTestOneInput(const uint8_t *data, size_t size) {
+    if (size < 2) return -1;
+    if (data[0] / 128) return dispatcher_input(data, size);
+    if (data[0] / 64 % 2) return taps_input(data, size);
+    if (data[1] > 127) return trace_input(data, size);
+    if (data[0] / 32 % 2) return table_input(data, size);
+    if (data[0] / 16 % 2) return try_cure(data + 2, size - 2, length_of(WORDS, data[1]), length_of(CURE_SHEET_OUTPUT_BYTES, data[1] / 8)), 0;
+    return check_input(data, size);
 }

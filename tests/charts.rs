@@ -407,54 +407,60 @@ fn try_trace(program: &str, file: &str, text: &[u8], code: usize, bytes: &[u8], 
     hold(&svg, &facts, &format!("a trace on channel {}", code), text);
 }
 
-/// Charts of a sheet on all channels, of its trace, of part of it, and of two with a step that is not allowed. What is handed back are the charts.
-fn try_sheet(program: &str, folder: &str, text: &[u8], count: &mut Count) -> Vec<String> {
-    let of = course(program, text);
-    let mut charts = Vec::new();
-    for code in 0..CODES {
-        let c = code.to_string();
-        let (svg, error) = run(program, &["chart", &c], text);
-        let (told, _) = run(program, &["steps", &c], text);
-        let answer = told.lines().next().expect("an answer");
-        let n = numbers(answer);
-        if answer.contains("refused") {
-            count.refused += 1;
-            if !svg.is_empty() || error != format!("refused {} {}\n", n[1], n[2]) {
-                fail(&format!("a refused sheet has a chart, or another refusal: {}\n{}", error, String::from_utf8_lossy(text)));
-            }
-            continue;
-        }
-        let free = answer.contains("free");
-        let steps: Vec<(usize, usize)> = told.lines().skip(1).filter_map(step_of).collect();
-        let bytes: Vec<u8> = steps.iter().flat_map(|s| [s.0 as u8, s.1 as u8]).collect();
-        let facts = Facts {
-            title: format!("{} on channel {}, {}", if free { "free" } else { "locked" }, code, NAMES[code]),
-            remark: if free { "a course of its events".into() } else { format!("race: message {}, {}; steps: {}", n[1], event(n[2]), n[3]) },
-            boards: of.0.clone(),
-            course: of.1.clone(),
-            steps,
-            jams: jams(&told),
-            not_allowed: None,
-            free,
-        };
-        hold(&svg, &facts, &format!("channel {}", code), text);
-        charts.push(svg);
-        if free {
-            count.free += 1;
-            continue;
-        }
-        count.locked += 1;
-        let file = format!("{}/try.trace", folder);
-        let half = bytes.len() / 4 * 2;
-        try_trace(program, &file, text, code, &bytes, &of, count);
-        try_trace(program, &file, text, code, &bytes[..half], &of, count);
-        try_trace(program, &file, text, code, &[&bytes[..half], &bytes[..2]].concat(), &of, count);
-        try_trace(program, &file, text, code, &[&bytes[..], &[7, 0]].concat(), &of, count);
-    }
-    charts
+/// Charts of a locked sheet's steps as a trace, of part of them, and of two with a step that is not allowed.
+fn try_traces(program: &str, folder: &str, text: &[u8], code: usize, steps: &[(usize, usize)], of: &(Vec<usize>, Vec<usize>), count: &mut Count) {
+    let file = format!("{}/try.trace", folder);
+    let bytes: Vec<u8> = steps.iter().flat_map(|s| [s.0 as u8, s.1 as u8]).collect();
+    let half = bytes.len() / 4 * 2;
+    try_trace(program, &file, text, code, &bytes, of, count);
+    try_trace(program, &file, text, code, &bytes[..half], of, count);
+    try_trace(program, &file, text, code, &[&bytes[..half], &bytes[..2]].concat(), of, count);
+    try_trace(program, &file, text, code, &[&bytes[..], &[7, 0]].concat(), of, count);
 }
 
-/// As many messages as a sheet may have, on all boards. First each board answers the one before it, to the last message but two; then two boards race.
+/// The chart of a sheet on a channel, and those of its traces; a refused sheet has none.
+fn try_channel(program: &str, folder: &str, text: &[u8], code: usize, of: &(Vec<usize>, Vec<usize>), count: &mut Count) -> Option<String> {
+    let c = code.to_string();
+    let (svg, error) = run(program, &["chart", &c], text);
+    let (told, _) = run(program, &["steps", &c], text);
+    let answer = told.lines().next().expect("an answer");
+    let n = numbers(answer);
+    if answer.contains("refused") {
+        count.refused += 1;
+        if !svg.is_empty() || error != format!("refused {} {}\n", n[1], n[2]) {
+            fail(&format!("a refused sheet has a chart, or another refusal: {}\n{}", error, String::from_utf8_lossy(text)));
+        }
+        return None;
+    }
+    let free = answer.contains("free");
+    let facts = Facts {
+        title: format!("{} on channel {}, {}", if free { "free" } else { "locked" }, code, NAMES[code]),
+        remark: if free { "a course of its events".into() } else { format!("race: message {}, {}; steps: {}", n[1], event(n[2]), n[3]) },
+        boards: of.0.clone(),
+        course: of.1.clone(),
+        steps: told.lines().skip(1).filter_map(step_of).collect(),
+        jams: jams(&told),
+        not_allowed: None,
+        free,
+    };
+    hold(&svg, &facts, &format!("channel {}", code), text);
+    if free {
+        count.free += 1;
+    } else {
+        count.locked += 1;
+        try_traces(program, folder, text, code, &facts.steps, of, count);
+    }
+    Some(svg)
+}
+
+/// The charts of a sheet, on all channels.
+fn try_sheet(program: &str, folder: &str, text: &[u8], count: &mut Count) -> Vec<String> {
+    let of = course(program, text);
+    (0..CODES).filter_map(|code| try_channel(program, folder, text, code, &of, count)).collect()
+}
+
+/// As many messages as a sheet may have, on all boards. In all but the last each board answers the one before it; the last goes to the same board as the
+/// one before it, and races with it.
 fn largest(messages: usize) -> String {
     let mut out = String::from("kind one two\nS 0 0\n");
     let ring = messages - 1;

@@ -152,21 +152,23 @@ fn replay(trace: &[u8], text: &[u8], s: &Scenario, code: u32) {
     }
 }
 
+/// The first step that is allowed, from one at random on and behind the last from the first; None where there is none.
+fn allowed_from(r: &mut Random, s: &Scenario, state: &State, code: u32) -> Option<Step> {
+    let all = 3 * s.messages.len();
+    let from = r.below(all.max(1));
+    let step = |i: usize| [Step::Send, Step::Deliver, Step::Consume][i % 3](i / 3);
+    (0..all).map(|i| step((from + i) % all)).find(|t| state.allowed(s, code, *t))
+}
+
 /// An order of a free sheet, taken at random, finishes with three steps a message.
 fn wander(r: &mut Random, text: &[u8], s: &Scenario, code: u32) {
     let mut state = State::start(s);
-    let all = 3 * s.messages.len();
-    let step = |i: usize| [Step::Send, Step::Deliver, Step::Consume][i % 3](i / 3);
     let mut taken = 0;
-    loop {
-        let from = r.below(all.max(1));
-        match (0..all).map(|i| step((from + i) % all)).find(|t| state.allowed(s, code, *t)) {
-            Some(t) => state.take(s, t),
-            None => break,
-        }
+    while let Some(t) = allowed_from(r, s, &state, code) {
+        state.take(s, t);
         taken += 1;
     }
-    if !state.finished() || taken != all {
+    if !state.finished() || taken != 3 * s.messages.len() {
         fail("a free sheet was stopped", text, code);
     }
 }
@@ -267,53 +269,68 @@ fn judge(r: &mut Random, seen: &mut Seen, text: &[u8], s: &Scenario, code: u32, 
     }
 }
 
+/// A text on a code that is no channel.
+fn try_no_channel(r: &mut Random, seen: &mut Seen, text: &[u8], sheet: &Result<Scenario, Refusal>) {
+    let code = *r.pick(&[6, 255, 256, u32::MAX]);
+    if let (Answer::Refused((n, _)), _) = compare(r, text, sheet, code) {
+        seen.refused[n as usize] += 1;
+    }
+}
+
+/// The check on a channel, and now and then the check of a trace.
+fn try_channel(r: &mut Random, seen: &mut Seen, text: &[u8], sheet: &Result<Scenario, Refusal>, code: u32, search: bool) {
+    let (answer, trace) = compare(r, text, sheet, code);
+    match (&answer, sheet) {
+        (Answer::Refused((n, _)), _) => seen.refused[*n as usize] += 1,
+        (Answer::Locked { .. }, Ok(s)) => judge(r, seen, text, s, code, Some(&trace), search),
+        (Answer::Free, Ok(s)) => judge(r, seen, text, s, code, None, search),
+        _ => fail("an answer to no sheet", text, code),
+    }
+    if r.one_in(4) {
+        traces::try_traces(r, &mut seen.traces, text, sheet, code, &trace);
+    }
+}
+
+/// The calls of the requests, each now and then.
+fn try_requests(r: &mut Random, seen: &mut Seen, text: &[u8], sheet: &Result<Scenario, Refusal>) {
+    if r.one_in(8) {
+        choices::try_choices(r, &mut seen.choices, text);
+    }
+    if r.one_in(8) {
+        monitors::try_monitors(r, &mut seen.monitors, text, sheet);
+    }
+    if r.one_in(8) {
+        cures::try_cure(r, &mut seen.cures, text);
+    }
+    if r.one_in(8) {
+        wired::try_wired(r, &mut seen.wired, text, sheet.as_ref().ok());
+    }
+    if r.one_in(64) {
+        dispatchers::try_dispatcher(r, &mut seen.dispatchers);
+    }
+    if r.one_in(8) {
+        senders::try_senders(r, &mut seen.senders, text);
+    }
+    if r.one_in(8) {
+        taps::try_taps(r, &mut seen.taps, text);
+    }
+}
+
 /// One text on all six channels, and now and then on a code that is none.
 fn try_text(r: &mut Random, seen: &mut Seen) {
     let text = texts::text(r);
     let sheet = reference::sheet(&text);
     let search = r.one_in(8);
     if r.one_in(16) {
-        let code = *r.pick(&[6, 255, 256, u32::MAX]);
-        if let (Answer::Refused((n, _)), _) = compare(r, &text, &sheet, code) {
-            seen.refused[n as usize] += 1;
-        }
+        try_no_channel(r, seen, &text, &sheet);
     }
     if let Ok(s) = &sheet {
         seen.limits_of(s);
     }
     for code in 0..CODES as u32 {
-        let (answer, trace) = compare(r, &text, &sheet, code);
-        match (&answer, &sheet) {
-            (Answer::Refused((n, _)), _) => seen.refused[*n as usize] += 1,
-            (Answer::Locked { .. }, Ok(s)) => judge(r, seen, &text, s, code, Some(&trace), search),
-            (Answer::Free, Ok(s)) => judge(r, seen, &text, s, code, None, search),
-            _ => fail("an answer to no sheet", &text, code),
-        }
-        if r.one_in(4) {
-            traces::try_traces(r, &mut seen.traces, &text, &sheet, code, &trace);
-        }
+        try_channel(r, seen, &text, &sheet, code, search);
     }
-    if r.one_in(8) {
-        choices::try_choices(r, &mut seen.choices, &text);
-    }
-    if r.one_in(8) {
-        monitors::try_monitors(r, &mut seen.monitors, &text, &sheet);
-    }
-    if r.one_in(8) {
-        cures::try_cure(r, &mut seen.cures, &text);
-    }
-    if r.one_in(8) {
-        wired::try_wired(r, &mut seen.wired, &text, sheet.as_ref().ok());
-    }
-    if r.one_in(64) {
-        dispatchers::try_dispatcher(r, &mut seen.dispatchers);
-    }
-    if r.one_in(8) {
-        senders::try_senders(r, &mut seen.senders, &text);
-    }
-    if r.one_in(8) {
-        taps::try_taps(r, &mut seen.taps, &text);
-    }
+    try_requests(r, seen, &text, &sheet);
 }
 
 fn main() {

@@ -306,6 +306,21 @@ static void replay(sheet s, uint32_t code, size_t words, const void *steps, size
     give_back(text), give_back(scratch), give_back(trace);
 }
 
+/* each message sent, delivered and consumed before the next: the longest trace there is, short of a step, of a byte, whole, and a step too long */
+static void longest_traces(void) {
+    static uint8_t steps[BYTES + 2];
+    begin(H "S 0 0\n");
+    repeat("M 0 1\n", MESSAGES);
+    sheet all = named("the most messages", made);
+    for (int i = 0; i < 3 * MESSAGES; i++) steps[2 * i] = (uint8_t)(i % 3), steps[2 * i + 1] = (uint8_t)(i / 3);
+    for (uint32_t code = 0; code < CODES; code++) {
+        replay(all, code, WORDS, steps, BYTES - 2, TRACE(2, 0, 0));
+        replay(all, code, WORDS, steps, BYTES - 1, TRACE(4, 12, 0));
+        replay(all, code, WORDS, steps, BYTES, TRACE(0, 0, 0));
+        replay(all, code, WORDS, steps, BYTES + 2, TRACE(4, 12, 0));
+    }
+}
+
 static void traces(void) {
     static uint8_t wrong[BYTES + 2];
     sheet one = named("sheet 1", H "S 0 0\n"), two = named("sheet 2", H "S 0 0\nM 0 1\nM 2 1\nP 1 3\n");
@@ -326,6 +341,7 @@ static void traces(void) {
         trace_check_answer refusal = TRACE(4, 12, 0), first = TRACE(3, 0, 0);
         replay(two, 0, WORDS, wrong, n, n % 2 || n > BYTES ? refusal : first);
     }
+    longest_traces();
     for (int w = 0; w < 5; w++)
         if (!trace_words[w]) printf("FAILED: trace_check never said %d\n", w), failures++;
 }
@@ -559,10 +575,10 @@ static void cures(void) {
 
 /* ------------------------------------------------------------------ the dispatcher */
 
-enum { DESK_WORDS = DISPATCHER_WORDS, SLOT = DISPATCHER_SHEET_BYTES };
+enum { ALL_WORDS = DISPATCHER_WORDS, SLOT = DISPATCHER_SHEET_BYTES };
 
-static int desk_words[6], desk_refused[18];
-static uint64_t desk[DESK_WORDS]; /* the words as the last call left them */
+static int words_said[6], refusals_said[18];
+static uint64_t kept[ALL_WORDS]; /* the words as the last call left them */
 
 /* which of the places the dispatcher's jobs are in */
 static int held(const dispatcher *d, size_t place) {
@@ -581,15 +597,15 @@ static dispatcher_answer serve(dispatcher d, int which, uint32_t number, sheet s
     memcpy(lengths.at + 4 * place, &size, 4);
     memcpy(codes.at + 4 * place, &code, 4);
     for (size_t p = 0; p < DISPATCHER_PLACES; p++)
-        if (held(&d, p) && (p + 1) * WORDS <= words) memcpy(w + p * WORDS, desk + p * WORDS, 8 * WORDS);
+        if (held(&d, p) && (p + 1) * WORDS <= words) memcpy(w + p * WORDS, kept + p * WORDS, 8 * WORDS);
     memcpy(was, w, words * 8);
     dispatcher_answer a =
         which == 0   ? dispatcher_admit(d, sheets.at, place * SLOT + s.len, (uint32_t *)lengths.at, place + 1, (uint32_t *)codes.at, place + 1, w, words)
         : which == 1 ? dispatcher_turn(d, sheets.at, place * SLOT + s.len, (uint32_t *)lengths.at, place + 1, (uint32_t *)codes.at, place + 1, w, words, trace.at, bytes)
                      : dispatcher_cancel(d, number, sheets.at, place * SLOT + s.len, (uint32_t *)lengths.at, place + 1, (uint32_t *)codes.at, place + 1, w, words);
     calls++;
-    if (a.word < 6) desk_words[a.word]++;
-    if (a.word == 5 && a.one < 18) desk_refused[a.one]++;
+    if (a.word < 6) words_said[a.word]++;
+    if (a.word == 5 && a.one < 18) refusals_said[a.one]++;
     if (a.word != e[0] || a.one != e[1] || a.two != e[2]) printf("  expected %u %u %u, got %u %u %u (call %d)\n", e[0], e[1], e[2], a.word, a.one, a.two, which);
     expect(a.word == e[0] && a.one == e[1] && a.two == e[2], s, code, "dispatcher's answer");
     int untouched = a.word == 5 && a.one <= 2;
@@ -599,52 +615,54 @@ static dispatcher_answer serve(dispatcher d, int which, uint32_t number, sheet s
         if (!held(&a.next, p)) expect(zero(from, from + 8 * WORDS), s, code, "words of a free place");
         if (held(&a.next, p) && held(&d, p)) expect(memcmp(from, was + p * WORDS, 8 * WORDS) == 0, s, code, "words of a held job");
     }
-    if (words > DESK_WORDS) expect(painted(lent.at + 8 * (size_t)DESK_WORDS, lent.guard), s, code, "words behind the last place");
+    if (words > ALL_WORDS) expect(painted(lent.at + 8 * (size_t)ALL_WORDS, lent.guard), s, code, "words behind the last place");
     expect(painted(trace.at + (a.answer.word == 1 ? 2 * a.answer.three : 0), trace.guard), s, code, "trace bytes behind the steps");
     expect(painted(lent.from, lent.at) && painted(trace.from, trace.at) && painted(sheets.from, sheets.at), s, code, "bytes ahead of a buffer");
     if (a.word == 1 || a.word == 5) expect(memcmp(&a.next, &d, sizeof d) == 0, s, code, "the dispatcher handed back");
-    if (!untouched) memcpy(desk, w, sizeof desk);
+    if (!untouched) memcpy(kept, w, sizeof kept);
     free(was), give_back(sheets), give_back(lengths), give_back(codes), give_back(lent), give_back(trace);
     return a;
 }
 
 /* turns of a job of n messages, held alone, up to its last */
 static dispatcher_answer answered(dispatcher d, sheet s, uint32_t number, int n) {
-    for (int t = 0; t < 2 * n; t++) d = serve(d, 1, 0, s, 0, 0, DESK_WORDS, BYTES, SAYS(2, number, 0)).next;
-    return serve(d, 1, 0, s, 9, 7, DESK_WORDS + 3, BYTES + 5, SAYS(3, number, 0));
+    for (int t = 0; t < 2 * n; t++) d = serve(d, 1, 0, s, 0, 0, ALL_WORDS, BYTES, SAYS(2, number, 0)).next;
+    return serve(d, 1, 0, s, 9, 7, ALL_WORDS + 3, BYTES + 5, SAYS(3, number, 0));
 }
 
 static void dispatchers(void) {
     sheet two = named("sheet 2", H "S 0 0\nM 0 1\nM 2 1\nP 1 3\n"), empty = named("sheet 1", H "S 0 0\n"), none = named("no sheet", ""), wrong = named("a row that is none", H "S 0 0\nX\n");
     dispatcher d = dispatcher_empty();
-    serve(d, 1, 0, two, 0, 0, DESK_WORDS, BYTES, SAYS(1, 0, 0));
-    serve(d, 1, 0, two, 0, 0, DESK_WORDS - 1, BYTES, SAYS(5, 2, 0)); /* ahead of idle */
-    serve(d, 1, 0, two, 0, 0, DESK_WORDS, BYTES - 1, SAYS(5, 2, 0));
-    serve(d, 0, 0, two, 6, 0, DESK_WORDS - 1, 0, SAYS(5, 1, 0));
-    serve(d, 0, 0, two, 0, 0, DESK_WORDS - 1, 0, SAYS(5, 2, 0));
-    serve(d, 0, 0, none, 0, 0, DESK_WORDS, 0, SAYS(5, 3, 0));
-    serve(d, 0, 0, wrong, 0, 0, DESK_WORDS + 3, 0, SAYS(5, 5, 3));
-    serve(d, 2, 0, two, 0, 0, DESK_WORDS, 0, SAYS(5, 17, 0));
+    serve(d, 1, 0, two, 0, 0, ALL_WORDS, BYTES, SAYS(1, 0, 0));
+    serve(d, 1, 0, two, 0, 0, ALL_WORDS - 1, BYTES, SAYS(5, 2, 0)); /* ahead of idle */
+    serve(d, 1, 0, two, 0, 0, ALL_WORDS, BYTES - 1, SAYS(5, 2, 0));
+    serve(d, 0, 0, two, 6, 0, ALL_WORDS - 1, 0, SAYS(5, 1, 0));
+    serve(d, 0, 0, two, 0, 0, ALL_WORDS - 1, 0, SAYS(5, 2, 0));
+    serve(d, 0, 0, none, 0, 0, ALL_WORDS, 0, SAYS(5, 3, 0));
+    serve(d, 0, 0, wrong, 0, 0, ALL_WORDS + 3, 0, SAYS(5, 5, 3));
+    serve(d, 2, 0, two, 0, 0, ALL_WORDS, 0, SAYS(5, 17, 0));
     serve(d, 2, 0, two, 0, 0, 0, 0, SAYS(5, 2, 0));
-    d = serve(d, 0, 0, two, 0, 0, DESK_WORDS, 0, SAYS(0, 0, 0)).next;
+    d = serve(d, 0, 0, two, 0, 0, ALL_WORDS, 0, SAYS(0, 0, 0)).next;
     dispatcher_answer a = answered(d, two, 0, 2);
     expect(a.answer.word == 1 && a.answer.one == 1 && a.answer.two == 1 && a.answer.three == 3, two, 0, "locked as by the check");
-    d = serve(a.next, 0, 0, two, 1, 0, DESK_WORDS, 0, SAYS(0, 1, 0)).next;
+    d = serve(a.next, 0, 0, two, 1, 0, ALL_WORDS, 0, SAYS(0, 1, 0)).next;
     a = answered(d, two, 1, 2);
     expect(a.answer.word == 0 && a.answer.one == 0 && a.answer.three == 0, two, 1, "free as by the check");
-    d = serve(a.next, 0, 0, empty, 0, 0, DESK_WORDS, 0, SAYS(0, 2, 0)).next;
+    d = serve(a.next, 0, 0, empty, 0, 0, ALL_WORDS, 0, SAYS(0, 2, 0)).next;
     d = answered(d, empty, 2, 0).next;
-    for (uint32_t p = 0; p < DISPATCHER_PLACES; p++) d = serve(d, 0, 0, two, p % CODES, p, DESK_WORDS, 0, SAYS(0, 3 + p, p)).next;
-    serve(d, 0, 0, two, 6, 7, DESK_WORDS, 0, SAYS(5, 16, 0)); /* no place free: no code to judge */
-    serve(d, 0, 0, two, 0, 7, DESK_WORDS - 1, 0, SAYS(5, 2, 0));
-    d = serve(d, 2, 5, two, 0, 0, DESK_WORDS, 0, SAYS(4, 5, 0)).next;
-    serve(d, 2, 5, two, 0, 0, DESK_WORDS, 0, SAYS(5, 17, 0));
-    d = serve(d, 1, 0, two, 0, 0, DESK_WORDS, BYTES, SAYS(2, 3, 0)).next;
-    d = serve(d, 0, 0, two, 0, 2, DESK_WORDS, 0, SAYS(0, 11, 2)).next; /* the lowest free place, behind the last */
+    for (uint32_t p = 0; p < DISPATCHER_PLACES; p++) d = serve(d, 0, 0, two, p % CODES, p, ALL_WORDS, 0, SAYS(0, 3 + p, p)).next;
+    serve(d, 0, 0, two, 6, 7, ALL_WORDS, 0, SAYS(5, 16, 0)); /* no place free: no code to judge */
+    serve(d, 0, 0, two, 0, 7, ALL_WORDS - 1, 0, SAYS(5, 2, 0));
+    d = serve(d, 2, 5, two, 0, 0, ALL_WORDS, 0, SAYS(4, 5, 0)).next;
+    serve(d, 2, 5, two, 0, 0, ALL_WORDS, 0, SAYS(5, 17, 0));
+    d = serve(d, 1, 0, two, 0, 0, ALL_WORDS, BYTES, SAYS(2, 3, 0)).next;
+    d = serve(d, 0, 0, two, 0, 2, ALL_WORDS, 0, SAYS(0, 11, 2)).next; /* the lowest free place, behind the last */
     static const uint32_t order[] = {4, 6, 7, 8, 9, 10, 3, 11, 4};
-    for (int i = 0; i < 9; i++) d = serve(d, 1, 0, two, 0, 0, DESK_WORDS, BYTES, SAYS(2, order[i], 0)).next;
+    for (int i = 0; i < 9; i++) d = serve(d, 1, 0, two, 0, 0, ALL_WORDS, BYTES, SAYS(2, order[i], 0)).next;
     for (int w = 0; w < 6; w++)
-        if (!desk_words[w]) printf("FAILED: the dispatcher never said %d\n", w), failures++;
+        if (!words_said[w]) printf("FAILED: the dispatcher never said %d\n", w), failures++;
+    for (int n = 1; n < 18; n++)
+        if (!refusals_said[n] && (n <= 3 || n == 5 || n >= 16)) printf("FAILED: the dispatcher never refused with %d\n", n), failures++;
 }
 
 /* ------------------------------------------------------------------ senders_check and permitted_check */
@@ -841,24 +859,39 @@ static void full_lists(void) {
     taps_refuse(s, (list){long_list, 70000}, (list){long_list, 70000}, 20, 1);
 }
 
-static void taps(void) {
-    sheet none = named("no event", H "S 0 0\n"), two = named("sheet 2", H "S 0 0\nM 0 1\nM 2 1\nP 1 3\n");
-    sheet three = named("three messages", H "S 0 0\nM 0 1\nM 2 3\nM 4 5\n");
-    taps_fit(none, none_seen, none_seen, none_seen);
-    taps_refuse(none, LIST(0), none_seen, 20, 1);
-    taps_refuse(none, none_seen, LIST(0), 20, 2);
+/* the sheets of the lists below: no message, two whose receives are ordered, three that nothing orders */
+static sheet no_event(void) { return named("no event", H "S 0 0\n"); }
+static sheet sheet_two(void) { return named("sheet 2", H "S 0 0\nM 0 1\nM 2 1\nP 1 3\n"); }
+static sheet unordered(void) { return named("three messages", H "S 0 0\nM 0 1\nM 2 3\nM 4 5\n"); }
+
+/* lists that one course of events obeys */
+static void courses(void) {
+    sheet two = sheet_two();
+    taps_fit(no_event(), none_seen, none_seen, none_seen);
     taps_fit(two, none_seen, none_seen, LIST(0, 1, 2, 3));
     taps_fit(two, LIST(3), LIST(2), LIST(0, 1, 2, 3));
     taps_fit(two, LIST(2, 0), none_seen, LIST(2, 0, 1, 3));
     taps_fit(two, none_seen, LIST(2, 1), LIST(0, 2, 1, 3));
     taps_fit(two, LIST(0, 1, 2, 3), LIST(0, 1, 2, 3), LIST(0, 1, 2, 3));
+    taps_fit(unordered(), LIST(4, 2), LIST(2, 0), LIST(4, 2, 0, 1, 3, 5));
+}
+
+/* lists by which an event would have to precede itself */
+static void clashes(void) {
+    sheet two = sheet_two(), three = unordered();
     taps_clash(two, LIST(0, 2), LIST(2, 0), 0);
     taps_clash(two, LIST(3, 2), none_seen, 2);
     taps_clash(two, none_seen, LIST(3, 0), 0);
-    taps_fit(three, LIST(4, 2), LIST(2, 0), LIST(4, 2, 0, 1, 3, 5));
     taps_clash(three, LIST(2, 4, 0), LIST(4, 2), 2); /* 0 is left over behind the circle, and lower */
     taps_clash(three, LIST(5, 2), LIST(3, 4), 2);    /* neither list alone: 4 5 2 3 4 */
     taps_clash(three, LIST(0, 1, 3, 2), none_seen, 2);
+}
+
+/* an event not in the sheet, or twice in one list */
+static void wrong_lists(void) {
+    sheet two = sheet_two();
+    taps_refuse(no_event(), LIST(0), none_seen, 20, 1);
+    taps_refuse(no_event(), none_seen, LIST(0), 20, 2);
     taps_refuse(two, LIST(4), none_seen, 20, 1);
     taps_refuse(two, none_seen, LIST(4), 20, 2);
     taps_refuse(two, LIST(4), LIST(4), 20, 1);
@@ -867,7 +900,10 @@ static void taps(void) {
     taps_refuse(two, LIST(65535), none_seen, 20, 1);
     taps_refuse(two, none_seen, LIST(EVENTS), 20, 2);
     taps_refuse(two, LIST(0, 1, 2, 3, 0), none_seen, 20, 1);
-    full_lists();
+}
+
+/* the sheet's refusals come ahead of the lists' */
+static void refused_sheets(void) {
     for (size_t i = 0; i < sizeof refused / sizeof *refused; i++) {
         taps_refuse(named(refused[i].name, refused[i].text), none_seen, none_seen, refused[i].number, refused[i].line);
         taps_refuse(named(refused[i].name, refused[i].text), LIST(0, 0), LIST(65535), refused[i].number, refused[i].line);
@@ -886,6 +922,14 @@ static void taps(void) {
     repeat("C 2 0\n", 32);
     repeat("S 2 0\n", 1);
     taps_refuse(named("9 calls", made), LIST(0), none_seen, 9, 36);
+}
+
+static void taps(void) {
+    courses();
+    clashes();
+    wrong_lists();
+    full_lists();
+    refused_sheets();
     for (int n = 2; n < 21; n++)
         if (!tap_refused[n] && (n < 12 || n == 20)) printf("FAILED: two taps were never refused with %d\n", n), failures++;
     if (!tap_words[0] || !tap_words[1]) printf("FAILED: two taps never fit, or never clashed\n"), failures++;

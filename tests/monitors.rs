@@ -1,11 +1,16 @@
 //! Lists of steps and switches through the monitor's calls, held to the plain reference's own step rules: words, states field by field,
-//! scratch. And monitors of random bits, of which only the refusals, the scratch and what is handed back unchanged are promised.
+//! scratch; on large sheets a few calls, on their highest messages. And monitors of random bits, of which only the refusals, the scratch and what is handed back unchanged are promised.
 
 use crate::reference::{self, Refusal, Scenario, State, Step, MESSAGES, ROW_WORDS as WIDTH, SCRATCH_LEAST};
 use crate::texts::Random;
 use crate::{bytes, fail, length, Buffers, BESIDE};
 
 const BOARDS: usize = 16;
+
+/// Sheets of more messages are large: a session on one is short, and takes one of so many highest steps.
+const FOLLOWED_MOST: usize = 24;
+const SHORT: usize = 60;
+const HIGHEST: usize = 6;
 
 #[repr(C)]
 #[derive(Clone, Copy, Debug, PartialEq)]
@@ -64,7 +69,8 @@ fn laid_out(s: &State, code: u32) -> Monitor {
     m
 }
 
-/// What was seen: by call and word, 14, switches with something under way, runs that were followed to their end, and forged monitors.
+/// What was seen: by call and word, 14, switches with something under way, runs that were followed to their end, forged monitors, and steps taken
+/// of messages in the upper half of a full sheet.
 #[derive(Default)]
 pub struct Seen {
     words: [[u64; 3]; 3],
@@ -72,6 +78,7 @@ pub struct Seen {
     under_way: u64,
     ended: u64,
     forged: u64,
+    high: u64,
 }
 
 impl Seen {
@@ -83,17 +90,19 @@ impl Seen {
         self.under_way += o.under_way;
         self.ended += o.ended;
         self.forged += o.forged;
+        self.high += o.high;
     }
 
     pub fn print(&self) {
         println!("monitors opened, stepped, switched, each taken, forbidden, refused: {:?}, refusal 14: {}", self.words, self.fourteen);
         println!("switched with messages under way {}, followed to the end {}, forged monitors {}", self.under_way, self.ended, self.forged);
+        println!("monitors' steps taken of messages from {} on: {}", MESSAGES / 2, self.high);
     }
 
     pub fn whole(&self) -> bool {
         let [open, step, switch] = self.words;
         let all = [open[0], open[2], step[0], step[1], step[2], switch[0], switch[2]].iter().all(|n| *n > 0);
-        all && self.fourteen * self.under_way * self.ended * self.forged > 0
+        all && self.fourteen * self.under_way * self.ended * self.forged * self.high > 0
     }
 }
 
@@ -135,13 +144,14 @@ fn told(kind: u32, message: u32) -> Option<Step> {
 
 /// Mostly a step that is allowed, else any step, a wrong one, or a switch.
 fn next_call(r: &mut Random, s: &Scenario, state: &State, code: u32) -> Call {
-    let steps = state.steps(s, code);
+    let steps = state.steps(s, code); // by message
+    let from = if s.messages.len() > FOLLOWED_MOST { steps.len().saturating_sub(HIGHEST) } else { 0 };
     match r.below(8) {
         0 => Call::Switch(*r.pick(&[0, 1, 2, 3, 4, 5, 5, 6, u32::MAX])),
         1 => Call::Step(*r.pick(&[0, 1, 2, 3, 255, u32::MAX]), *r.pick(&[0, 1, 2, MESSAGES as u32 - 1, MESSAGES as u32, 2 * MESSAGES as u32 - 1, u32::MAX])),
         _ if steps.is_empty() => Call::Switch(r.below(6) as u32),
         _ => {
-            let pair = bytes(&[*r.pick(&steps)]);
+            let pair = bytes(&[*r.pick(&steps[from..])]);
             Call::Step(u32::from(pair[0]), u32::from(pair[1]))
         }
     }
@@ -170,7 +180,8 @@ fn followed(s: &Scenario, state: &mut State, code: &mut u32, c: Call) -> [u32; 3
 fn session(r: &mut Random, seen: &mut Seen, text: &[u8], sheet: &Result<Scenario, Refusal>, s: &Scenario, opened: u32) {
     let (mut state, mut code) = (State::start(s), opened);
     let mut m = call(r, text, sheet, ZERO, Call::Open(code), SCRATCH_LEAST).next;
-    for _ in 0..4 * s.messages.len() + 4 {
+    let calls = if s.messages.len() > FOLLOWED_MOST { SHORT } else { 4 * s.messages.len() + 4 };
+    for _ in 0..calls {
         let c = next_call(r, s, &state, code);
         let scratch_len = length(r, SCRATCH_LEAST);
         let a = call(r, text, sheet, m, c, scratch_len);
@@ -188,6 +199,7 @@ fn session(r: &mut Random, seen: &mut Seen, text: &[u8], sheet: &Result<Scenario
         }
         seen.words[if let Call::Step(..) = c { 1 } else { 2 }][a.word as usize] += 1;
         seen.fourteen += u64::from(a.word == 2 && a.one == 14);
+        seen.high += u64::from(matches!(c, Call::Step(_, m) if a.word == 0 && m as usize >= MESSAGES / 2));
         m = a.next;
     }
     seen.ended += u64::from(state.finished());
@@ -211,7 +223,7 @@ fn forge(r: &mut Random, seen: &mut Seen, text: &[u8], sheet: &Result<Scenario, 
             fail("monitor: 14 from a forged state", text, to);
         }
     }
-    let any = Call::Step(r.below(4) as u32, r.below(130) as u32);
+    let any = Call::Step(r.below(4) as u32, r.below(MESSAGES + 2) as u32);
     let a = call(r, text, sheet, m, any, SCRATCH_LEAST);
     if a.word != 0 && a.next != m {
         fail("monitor: forbidden or refused, and not handed back", text, m.code);
@@ -228,9 +240,7 @@ pub fn try_monitors(r: &mut Random, seen: &mut Seen, text: &[u8], sheet: &Result
         if [a.word, a.one, a.two] != [0, 0, 0] || a.next != laid_out(&State::start(s), code) {
             fail("monitor: opened", text, code);
         }
-        if s.messages.len() <= 24 {
-            session(r, seen, text, sheet, s, code);
-        }
+        session(r, seen, text, sheet, s, code);
     } else {
         for c in [Call::Step(0, 0), Call::Switch(r.below(6) as u32)] {
             let a = call(r, text, sheet, ZERO, c, scratch_len);

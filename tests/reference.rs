@@ -117,6 +117,59 @@ fn circles(orders: &BTreeSet<(usize, usize)>, x: usize) -> bool {
     reached.contains(&x)
 }
 
+/// What the rows so far have opened: sheets, and the block with its messages and P rows.
+#[derive(Default)]
+struct Opened {
+    sheets: BTreeSet<usize>,
+    messages: Vec<(usize, usize)>,
+    orders: BTreeSet<(usize, usize)>,
+}
+
+impl Opened {
+    /// The row may stand behind those so far; if not it is refusal 6.
+    fn places(&self, r: Row) -> bool {
+        let events = 2 * self.messages.len();
+        let board = |x: usize| if x % 2 == 0 { self.messages[x / 2].0 } else { self.messages[x / 2].1 };
+        match r {
+            Row::Sheet(n) => n <= 31 && !self.sheets.contains(&n),
+            _ if self.sheets.is_empty() => false,
+            Row::Message(a, b) => a <= 15 && b <= 15 && self.messages.len() < MESSAGES,
+            Row::Order(x, y) => x < events && y < events && x != y && board(x) == board(y),
+            Row::Block => true,
+            Row::Call(n) => n <= 31,
+            Row::Choice(m, n) => m <= 31 && n <= 31,
+        }
+    }
+
+    /// The row is put behind those so far. What is handed back is false where it puts an event of its block before itself, refusal 11.
+    fn put(&mut self, r: Row) -> bool {
+        match r {
+            Row::Message(a, b) => self.messages.push((a, b)),
+            Row::Order(x, y) => {
+                self.orders.insert((x, y));
+                return !circles(&self.orders, x);
+            }
+            _ => {
+                self.messages.clear();
+                self.orders.clear();
+            }
+        }
+        if let Row::Sheet(n) = r {
+            self.sheets.insert(n);
+        }
+        true
+    }
+
+    /// The row calls a sheet that is not there.
+    fn lacks(&self, r: &Row) -> bool {
+        match r {
+            Row::Call(n) => !self.sheets.contains(n),
+            Row::Choice(m, n) => !self.sheets.contains(m) || !self.sheets.contains(n),
+            _ => false,
+        }
+    }
+}
+
 /// The rows of a text; A rows are rows where `choices` says so.
 pub fn read(text: &[u8], choices: bool) -> Result<Vec<Row>, Refusal> {
     if text.is_empty() || text.len() > 8192 {
@@ -124,48 +177,20 @@ pub fn read(text: &[u8], choices: bool) -> Result<Vec<Row>, Refusal> {
     }
     let lines = lines(text);
     let columns = heading(lines[0]).ok_or((4, 1))?;
-    let mut rows = Vec::new();
-    let mut opened = BTreeSet::new();
-    let mut open: Vec<(usize, usize)> = Vec::new();
-    let mut orders = BTreeSet::new();
+    let (mut rows, mut opened) = (Vec::new(), Opened::default());
     for (i, line) in lines[1..].iter().enumerate() {
         let at = i as u32 + 2;
         let r = row(columns, *line, choices).filter(|_| i < ROWS).ok_or((5, at))?;
-        let board = |x: usize| if x % 2 == 0 { open[x / 2].0 } else { open[x / 2].1 };
-        let placed = match r {
-            Row::Sheet(n) => n <= 31 && opened.insert(n),
-            _ if opened.is_empty() => false,
-            Row::Message(a, b) => a <= 15 && b <= 15 && open.len() < MESSAGES,
-            Row::Order(x, y) => x / 2 < open.len() && y / 2 < open.len() && x != y && board(x) == board(y),
-            Row::Block => true,
-            Row::Call(n) => n <= 31,
-            Row::Choice(m, n) => m <= 31 && n <= 31,
-        };
-        if !placed {
+        if !opened.places(r) {
             return Err((6, at));
         }
-        match r {
-            Row::Message(a, b) => open.push((a, b)),
-            Row::Order(x, y) => {
-                orders.insert((x, y));
-                if circles(&orders, x) {
-                    return Err((11, at));
-                }
-            }
-            _ => {
-                open.clear();
-                orders.clear();
-            }
+        if !opened.put(r) {
+            return Err((11, at));
         }
         rows.push(r);
     }
-    let absent = |r: &Row| match r {
-        Row::Call(n) => !opened.contains(n),
-        Row::Choice(m, n) => !opened.contains(m) || !opened.contains(n),
-        _ => false,
-    };
-    match rows.iter().position(absent) {
-        _ if !opened.contains(&0) => Err((7, 0)),
+    match rows.iter().position(|r| opened.lacks(r)) {
+        _ if !opened.sheets.contains(&0) => Err((7, 0)),
         Some(i) => Err((7, i as u32 + 2)),
         None => Ok(rows),
     }

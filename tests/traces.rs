@@ -1,9 +1,9 @@
 //! Traces of every kind through `trace_check`, held to the plain reference: allowed orders cut anywhere, the check's own steps, both
-//! with single bytes changed, bytes at random, and lengths from nothing to beyond the limit.
+//! with single bytes changed, bytes at random, whole orders of the most messages, and lengths from nothing to beyond the limit.
 
-use crate::reference::{self, Refusal, Replay, Scenario, State, Step, SCRATCH_LEAST, TRACE_LEAST};
+use crate::reference::{self, Refusal, Replay, Scenario, State, Step, MESSAGES, SCRATCH_LEAST, TRACE_LEAST};
 use crate::texts::Random;
-use crate::{bytes, fail, length, Buffers, BESIDE};
+use crate::{allowed_from, bytes, fail, length, Buffers, BESIDE};
 
 #[repr(C)]
 struct Numbers {
@@ -19,12 +19,13 @@ extern "C" {
     ) -> Numbers;
 }
 
-/// What was seen, by word, and of the refusals the one that this call adds.
+/// What was seen, by word, and of the refusals the one that this call adds; and finished traces of the most messages.
 #[derive(Default)]
 pub struct Seen {
     words: [u64; 5],
     twelve: u64,
     waiting: u64,
+    longest: u64,
 }
 
 impl Seen {
@@ -32,15 +33,16 @@ impl Seen {
         self.words.iter_mut().zip(o.words).for_each(|(a, b)| *a += b);
         self.twelve += o.twelve;
         self.waiting += o.waiting;
+        self.longest += o.longest;
     }
 
     pub fn print(&self) {
         println!("foreign traces finished, stuck, open, not allowed, refused: {:?}, refusal 12: {}", self.words, self.twelve);
-        println!("boards that wait where a trace is stuck: {}", self.waiting);
+        println!("boards that wait where a trace is stuck: {}, finished traces of {} bytes: {}", self.waiting, TRACE_LEAST, self.longest);
     }
 
     pub fn whole(&self) -> bool {
-        self.words.iter().all(|n| *n > 0) && self.twelve * self.waiting > 0
+        self.words.iter().all(|n| *n > 0) && self.twelve * self.waiting * self.longest > 0
     }
 }
 
@@ -49,11 +51,7 @@ fn order(r: &mut Random, s: &Scenario, code: u32, most: usize) -> Vec<Step> {
     let mut state = State::start(s);
     let mut taken = Vec::new();
     while taken.len() < most {
-        let steps = state.steps(s, code);
-        if steps.is_empty() {
-            break;
-        }
-        let step = *r.pick(&steps);
+        let Some(step) = allowed_from(r, s, &state, code) else { break };
         state.take(s, step);
         taken.push(step);
     }
@@ -62,6 +60,8 @@ fn order(r: &mut Random, s: &Scenario, code: u32, most: usize) -> Vec<Step> {
 
 fn trace(r: &mut Random, sheet: &Result<Scenario, Refusal>, code: u32, own: &[u8]) -> Vec<u8> {
     let mut out = match sheet {
+        // left as it is: sheets of the most messages are few
+        Ok(s) if code < 6 && s.messages.len() == MESSAGES && r.one_in(2) => return bytes(&order(r, s, code, 3 * MESSAGES)),
         Ok(s) if code < 6 && s.messages.len() <= 24 && !r.one_in(4) => {
             let most = if r.one_in(2) { 3 * s.messages.len() } else { r.below(3 * s.messages.len() + 1) };
             bytes(&order(r, s, code, most))
@@ -119,5 +119,6 @@ pub fn try_traces(r: &mut Random, seen: &mut Seen, text: &[u8], sheet: &Result<S
     }
     seen.words[got.word as usize] += 1;
     seen.twelve += u64::from(got.word == 4 && got.one == 12);
+    seen.longest += u64::from(got.word == 0 && trace.len() == TRACE_LEAST);
     seen.waiting += waits.iter().filter(|w| **w != u16::MAX).count() as u64;
 }

@@ -8,7 +8,7 @@ use borrow.Author.Tests.{lt-leb}
 use lib.ListN.{length, getD, set}
 use lib.Seq.{set-getD}
 use Rattle.model.specs.Limits.{channels, messagesMost, textMost, rowsMost, jobsMost, jobNumbers, jobWordsLeast}
-use Rattle.model.specs.Refusal.{Out, ok, refusal, channelRefusal, benchRefusal, lengthRefusal, jobsRefusal}
+use Rattle.model.specs.Refusal.{Out, refusal, channelRefusal, benchRefusal, lengthRefusal, jobsRefusal}
 use Rattle.model.specs.Place.{lineOf}
 use Rattle.model.specs.Order.{Scenario}
 use Rattle.model.specs.Answer.{sheetOf}
@@ -28,7 +28,7 @@ use Rattle.places.specs.Words.{FreeCleared, ClearedBut}
 use Rattle.share.specs.declared.Race.{Race}
 use Rattle.lent_sheet.specs.Sheet.{sheetIn, ReadsSheet}
 use Rattle.held_jobs.specs.declared.Boards.{Boards}
-use Rattle.held_jobs.specs.Held.{Held, deskOf, lent, toldWith}
+use Rattle.held_jobs.specs.Held.{Held, dispatcherOf, lent, toldWith}
 use Rattle.held_jobs.proofs.Cases.{admit-refused, full-short, full-held, code-unknown, words-short, numbers-out, sheet-long, sheet-judged}
 use Rattle.held_jobs.proofs.Serving.{untouched, cleared-by, cleared}
 use Rattle.admission.specs.declared.Part.{Part}
@@ -38,14 +38,14 @@ use Rattle.admission.proofs.Admission.{not-place, unsought, admitted-se
 
 -- ---- of one dispatcher
 module _ (d : Held) (words : List ℕ) (r : Served Held) (free : freePlaceIn (queueIn (d .queue)) ≡ none) where
-  none-free : freePlace (deskOf d) ≡ none
+  none-free : freePlace (dispatcherOf d) ≡ none
   unfolding freePlace isFree
   none-free = free
 
   admit-full-short : length words < jobWordsLeast → r ≡ toldWith refusedWord benchRefusal 0 d → (sheets lengths codes : List ℕ) → Admits d sheets lengths codes words words r
   admit-full-short h e sheets lengths codes =
       let l = lent sheets lengths codes words in
-      untouched d (admit l) benchRefusal 0 r (admit-refused (deskOf d) l benchRefusal 0 (full-short (deskOf d) l none-free h)) (omega arith) e
+      untouched d (admit l) benchRefusal 0 r (admit-refused (dispatcherOf d) l benchRefusal 0 (full-short (dispatcherOf d) l none-free h)) (omega arith) e
 
   -- all places are held, so that there is none to clear
   all-held : FreeCleared (queueIn (d .queue)) words words
@@ -61,12 +61,12 @@ module _ (d : Held) (words : List ℕ) (r : Served Held) (free : freePlaceIn (qu
   unfolding touchesNothing leavesAll
   admit-full-jobs h e sheets lengths codes =
       let l = lent sheets lengths codes words in
-      cleared d (admit l) (refused jobsRefusal 0) words r (admit-refused (deskOf d) l jobsRefusal 0 (full-held (deskOf d) l none-free h)) refl (lt-leb jobsRefusal benchRefusal (omega arith)) e all-held
+      cleared d (admit l) (refused jobsRefusal 0) words r (admit-refused (dispatcherOf d) l jobsRefusal 0 (full-held (dispatcherOf d) l none-free h)) refl (lt-leb jobsRefusal benchRefusal (omega arith)) e all-held
 
 module _ (d : Held) (place : ℕ) (free : freePlaceIn (queueIn (d .queue)) ≡ some place) where
-  free-desk : freePlace (deskOf d) ≡ some place
+  free-there : freePlace (dispatcherOf d) ≡ some place
   unfolding freePlace isFree
-  free-desk = free
+  free-there = free
 
   module _ (sheets lengths codes words : List ℕ) (code : ℕ) (isCode : code ≡ getD codes place channels) (r : Served Held) where
     abbrev l : Lent
@@ -78,7 +78,7 @@ module _ (d : Held) (place : ℕ) (free : freePlaceIn (queueIn (d .queue)) ≡ s
 
     pub admit-unknown : channels ≤ code → r ≡ toldWith refusedWord channelRefusal 0 d → Admits d sheets lengths codes words words r
     admit-unknown h e =
-        (untouched d (admit l) channelRefusal 0 r (admit-refused (deskOf d) l channelRefusal 0 (code-unknown (deskOf d) l place free-desk (rw code-is h))) (omega arith) e)
+        (untouched d (admit l) channelRefusal 0 r (admit-refused (dispatcherOf d) l channelRefusal 0 (code-unknown (dispatcherOf d) l place free-there (rw code-is h))) (omega arith) e)
 
     module _ (known : code < channels) where
       at-code : codeAt l place < channels
@@ -86,20 +86,20 @@ module _ (d : Held) (place : ℕ) (free : freePlaceIn (queueIn (d .queue)) ≡ s
 
       pub admit-short : length words < jobWordsLeast → r ≡ toldWith refusedWord benchRefusal 0 d → Admits d sheets lengths codes words words r
       admit-short h e =
-          (untouched d (admit l) benchRefusal 0 r (admit-refused (deskOf d) l benchRefusal 0 (words-short (deskOf d) l place free-desk at-code h)) (omega arith) e)
+          (untouched d (admit l) benchRefusal 0 r (admit-refused (dispatcherOf d) l benchRefusal 0 (words-short (dispatcherOf d) l place free-there at-code h)) (omega arith) e)
 
       module _ (w : jobWordsLeast ≤ length words) where
         pub admit-numbers : (exit : List ℕ) → jobNumbers ≤ d .given → FreeCleared (queueIn (d .queue)) words exit → r ≡ toldWith refusedWord jobsRefusal 0 d
             → Admits d sheets lengths codes words exit r
         unfolding touchesNothing leavesAll
         admit-numbers exit h F e =
-            (cleared d (admit l) (refused jobsRefusal 0) exit r (admit-refused (deskOf d) l jobsRefusal 0 (numbers-out (deskOf d) l place free-desk at-code w h)) refl (lt-leb jobsRefusal benchRefusal (omega arith)) e F)
+            (cleared d (admit l) (refused jobsRefusal 0) exit r (admit-refused (dispatcherOf d) l jobsRefusal 0 (numbers-out (dispatcherOf d) l place free-there at-code w h)) refl (lt-leb jobsRefusal benchRefusal (omega arith)) e F)
 
         pub admit-long : (exit : List ℕ) (size : ℕ) → size ≡ getD lengths place 0 → d .given < jobNumbers → textMost < size → FreeCleared (queueIn (d .queue)) words exit
             → r ≡ toldWith refusedWord lengthRefusal 0 d → Admits d sheets lengths codes words exit r
         unfolding touchesNothing leavesAll lengthAt
         admit-long exit size i g h F e =
-            (cleared d (admit l) (refused lengthRefusal 0) exit r (admit-refused (deskOf d) l lengthRefusal 0 (sheet-long (deskOf d) l place free-desk at-code w g (rw (sym i) h))) refl (lt-leb lengthRefusal benchRefusal (omega arith)) e F)
+            (cleared d (admit l) (refused lengthRefusal 0) exit r (admit-refused (dispatcherOf d) l lengthRefusal 0 (sheet-long (dispatcherOf d) l place free-there at-code w g (rw (sym i) h))) refl (lt-leb lengthRefusal benchRefusal (omega arith)) e F)
 
   -- the sheet was read: refused, or accepted
   module _ (sheets : List ℕ) (size code : ℕ) (words boards written : List ℕ) (v : Expanded) (R : ReadsSheet sheets size place words boards written v) where
@@ -110,11 +110,11 @@ module _ (d : Held) (place : ℕ) (free : freePlaceIn (queueIn (d .queue)) ≡ s
     admit-read-refused number line exit r i known w g few F e lengths codes isSize isCode =
         let l = lent sheets lengths codes words in
         let text : sheetOf (sheetIn sheets size place) ≡ refusal number line = sheet-refused (sheetIn sheets size place) boards (placeWords place written) v (R .sheet) number line i in
-        let judged : admissible (deskOf d) l ≡ refusal number line =
-        sheet-judged (deskOf d) l place free-desk (rw (sym isCode) known) w g (rw (sym isSize) few)
+        let judged : admissible (dispatcherOf d) l ≡ refusal number line =
+        sheet-judged (dispatcherOf d) l place free-there (rw (sym isCode) known) w g (rw (sym isSize) few)
         ∙ ap (λ k. sheetOf (sheetIn sheets k place)) (sym isSize) ∙ text in
         let late : benchRefusal < number = subst (λ (o : Out Scenario). Well (lineOf rowsMost) o) text (sheet-well (sheetIn sheets size place)) .behind in
-        cleared-by d (admit l) (refused number line) written exit r (admit-refused (deskOf d) l number line judged) refl (lt-leb number benchRefusal late) e F (R .put .kept) (R .put .rest)
+        cleared-by d (admit l) (refused number line) written exit r (admit-refused (dispatcherOf d) l number line judged) refl (lt-leb number benchRefusal late) e F (R .put .kept) (R .put .rest)
         (λ p h f. R .put .others p h (not-place d place free p f))
 
 pub no-place : (js : List model.Job) (v : Place) → placeIn v ≡ freePlaceIn js → v ≡ places.Nothing → freePlaceIn js ≡ none

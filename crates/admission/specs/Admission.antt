@@ -10,7 +10,7 @@ use Rattle.model.specs.Dispatcher.{sheetAt, placeWords, admit, refusedWord, Ser
 use Rattle.relation.specs.Scenario.{scenarioIn}
 use Rattle.scenario.specs.Contract.{Fit}
 use Rattle.places.specs.Words.{Put}
-use Rattle.held_jobs.specs.Held.{Held, deskOf, raceAt, HoldsJob, lent, toldWith}
+use Rattle.held_jobs.specs.Held.{Held, dispatcherOf, raceAt, HoldsJob, lent, toldWith}
 use Rattle.admission.specs.declared.Part.{Part}
 use Rattle.admission.specs.declared.Entry.{Entry}
 
@@ -35,7 +35,7 @@ enteredBy d place r =
 
 -- the admission of one dispatcher, and as it is of every one with this part
 abbrev pub Admits : Held → List ℕ → List ℕ → List ℕ → List ℕ → List ℕ → Served Held → Type 0
-Admits d sheets lengths codes words exit r = Serves deskOf HoldsJob d (admit (lent sheets lengths codes words)) exit [] r
+Admits d sheets lengths codes words exit r = Serves dispatcherOf HoldsJob d (admit (lent sheets lengths codes words)) exit [] r
 
 pub record AdmitIn (part : Part) (place : ℕ) (sheets lengths codes words exit : List ℕ) (r : Entry) : Type 0 where
   pub serves : (d : Held) → PartIs d place part → Admits d sheets lengths codes words exit (enteredBy d place r)

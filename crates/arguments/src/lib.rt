@@ -4,7 +4,7 @@ use libc::STDERR_FILENO;
 // The longest word that names a command, and more.
 pub const WORD_MOST: usize = 16;
 
-// The words that name no channel code behind them, and any other.
+// The commands without a channel code, and any other word.
 pub enum Command {
     Check,
     Cure,
@@ -14,7 +14,7 @@ pub enum Command {
     Other,
 }
 
-// The words that name a channel code behind them, and any other.
+// The commands with a channel code, and any other word.
 pub enum ChannelCommand {
     Steps,
     Trace,
@@ -54,7 +54,6 @@ pub fn print_usage() {
     print_call(b"chart CODE [TRACEFILE] < SHEET > CHART.svg\n");
 }
 
-// The word is this one.
 fn is(word: &[u8], name: &[u8]) -> bool {
     check::same(word, name)
 }

@@ -11,21 +11,29 @@ use lib.Dec.{eqb}
 use lib.ListN.{length}
 use borrow.Author.Tests.{eqb-true, eq-eqb, ne-eqb}
 use Rattle.model.specs.Limits.{messagesMost}
-use Rattle.model.specs.Place.{BlockBefore, given, through, blockCircle}
+use Rattle.model.specs.Closure.{reads}
+use Rattle.model.specs.Place.{BlockBefore, given, through, blockTable, blockCircle}
 use Rattle.model.proofs.Bounded.{or-cases, or-left, or-right, both-ways}
 use Rattle.model.proofs.Lists.{replicate-at}
 use Rattle.model.proofs.Block.{Inside, inside-more, listed-first, blockBefore, NoCircle, before-below, before-transitive, block-exact, before-more, more-split, circle-exactly, message-old, message-new, message-split}
 use Rattle.relation.specs.Width.{width, wordBits}
 use Rattle.relation.specs.Rows.{holds}
-use Rattle.relation.specs.Order.{before, Transitive, Covers, linked}
+use Rattle.relation.specs.Order.{before, Transitive}
 use Rattle.relation.proofs.Bits.{has-zero}
 use Rattle.relation.proofs.Marked.{length-marked, holds-marked}
+use Rattle.relation.proofs.Order.{Covers, linked}
 use Rattle.joined_rows.specs.Joins.{copiedFrom}
 use Rattle.closure.specs.Insertion.{inserted}
 use Rattle.joined_rows.proofs.Joined.{length-copied-from, copied-row, copied-other}
 use Rattle.closure.proofs.Inserted.{length-inserted, holds-inserted}
 use Rattle.closure.proofs.Closed.{inserted-linked}
-use Rattle.block_order.specs.Noted.{nothing, begun, HoldsOrder}
+use Rattle.block_order.specs.Noted.{nothing, begun}
+
+-- The words hold the order of a block of n events: event x is in row y exactly if it is before y.
+pub record HoldsOrder (n : ℕ) (orders : List (ℕ × ℕ)) (words : List ℕ) : Type 0 where
+  pub long : length words ≡ 2 * messagesMost * width
+  pub few : n ≤ 2 * messagesMost
+  pub held : (x y : ℕ) → x < wordBits * width → y < n → holds width words y x ≡ reads (blockTable n orders) x y
 
 -- a test that is true only where it is not is false
 never : (b : Bool) → (b ≡ true → ⊥) → b ≡ false

@@ -19,8 +19,8 @@ use Rattle.model.proofs.Walked.{order-parts}
 use Rattle.model.proofs.Block.{Inside}
 use Rattle.model.proofs.Clean.{Ordered}
 use Rattle.relation.specs.Width.{width}
-use Rattle.block_order.specs.Noted.{begun, noted, circles, HoldsOrder}
-use Rattle.block_order.proofs.Held.{held-empty, held-message, held-order, circle-held}
+use Rattle.block_order.specs.Noted.{begun, noted, circles}
+use Rattle.block_order.proofs.Held.{HoldsOrder, held-empty, held-message, held-order, circle-held}
 
 -- the words hold the order of the block that is open at a place
 abbrev pub HeldAt : Place → List ℕ → Type 0

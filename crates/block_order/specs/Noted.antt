@@ -1,15 +1,13 @@
--- What a row does to the words of the open block's order, list by list; and what the words then hold.
+-- What a row does to the words of the open block's order, list by list.
 -- Assumes nothing.
-use Prim.Native.Nat.{ℕ, _+_, _*_, _<_, _≤_}
+use Prim.Native.Nat.{ℕ, _+_, _*_, _<_}
 use mathlib.Core.Path.{_≡_}
 use mathlib.Core.Bool.{Bool, false, cond}
 use mathlib.Core.List.{List}
 use lib.ListN.{length, replicate}
 use Rattle.model.specs.Limits.{messagesMost}
-use Rattle.model.specs.Closure.{reads}
 use Rattle.model.specs.Rows.{Row, sheet, message, order, block, call, choice}
-use Rattle.model.specs.Place.{blockTable}
-use Rattle.relation.specs.Width.{width, wordBits}
+use Rattle.relation.specs.Width.{width}
 use Rattle.relation.specs.Rows.{holds, marked}
 use Rattle.joined_rows.specs.Joins.{copiedFrom}
 use Rattle.closure.specs.Insertion.{inserted}
@@ -55,9 +53,3 @@ pub record NotedAs (words : List ℕ) (m : ℕ) (r : Row) (exit : List ℕ) (cir
   pub found : circle ≡ circles words r
   pub left : exit ≡ cond circle words (noted words m r)
   pub long : length exit ≡ length words
-
--- The words hold the order of a block of n events: event x is in row y exactly if it is before y.
-pub record HoldsOrder (n : ℕ) (orders : List (ℕ × ℕ)) (words : List ℕ) : Type 0 where
-  pub long : length words ≡ 2 * messagesMost * width
-  pub few : n ≤ 2 * messagesMost
-  pub held : (x y : ℕ) → x < wordBits * width → y < n → holds width words y x ≡ reads (blockTable n orders) x y

@@ -3,6 +3,6 @@ pub mod Added
 pub mod Sim
 mod SimMessage
 mod SimOrder
-mod Twin
+mod Together
 pub mod Scenarios
 mod Turns

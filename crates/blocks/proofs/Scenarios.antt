@@ -1,4 +1,4 @@
--- The scenario that the store holds is the model's, and so is the circle test: the rows hold exactly "before".
+-- The scenario that the store holds is the model's: the rows hold exactly "before".
 -- Assumes nothing.
 use Prim.Native.Nat.{ℕ, _+_, _*_, _/_, _%_, _<_}
 use native.Mathlib.Omega.{arith}
@@ -13,8 +13,8 @@ use Rattle.model.specs.Rows.{Row}
 use Rattle.model.specs.Expansion.{Walk, Progress, expand}
 use Rattle.model.specs.Order.{Event, sendOf, receiveOf, number, event, messageOf, isEvent, isOwn, isEarlier, Scenario, Met, exchangeOf, scenarioOf}
 use Rattle.model.proofs.Bounded.{and-left, and-right, and-both}
-use Rattle.model.proofs.Events.{event-number, number-event, below-number, below-event}
-use Rattle.model.proofs.Order.{boardIn, own-parts, EarlierBlock, earlier-parts, before-row, before-own, before-earlier, before-transitive, before-least}
+use Rattle.model.proofs.Events.{event-number, number-event, own-parts, below-number, below-event}
+use Rattle.model.proofs.Order.{boardIn, EarlierBlock, earlier-parts, before-row, before-own, before-earlier, before-transitive, before-least}
 use Rattle.model.proofs.Standing.{Fits}
 use Rattle.model.proofs.Walked.{Sound}
 use Rattle.model.proofs.Accepted.{board-at, rows-inside}
@@ -24,7 +24,7 @@ use Rattle.relation.specs.Scenario.{scenarioIn}
 use Rattle.relation.proofs.Tests.{both-ways}
 use Rattle.blocks.specs.Store.{Store, storeOps, concluded, countedWith}
 use Rattle.blocks.proofs.Sim.{Orders, Sim, Begins, inRow}
-use Rattle.blocks.proofs.Twin.{met, Match, going, stopped, expand-match}
+use Rattle.blocks.proofs.Together.{met, Match, going, stopped, expand-match}
 
 -- the message of an event number
 message-half : (k : ℕ) → messageOf (event k) ≡ k / 2
@@ -100,10 +100,10 @@ module _ (w : Walk) (m : Met) (t : Store) (h : Sound (met w m)) (r : Sim w m t) 
   unfolding Held exchangeOf
   held-row x y l = let p = rows-inside (met w m) h x y l in (p .0, p .1, r .ordered .rows (number x) (number y) l)
 
-  held-own : (x y : Event) → isOwn (exchangeOf (met w m)) x y ≡ true → Held x y
+  held-own : (x y : Event) → isOwn (exchangeOf (met w m) .count) x y ≡ true → Held x y
   unfolding Held exchangeOf number messageOf
   held-own x y l =
-      let p = own-parts (exchangeOf (met w m)) x y l in
+      let p = own-parts (exchangeOf (met w m) .count) x y l in
       subst₂ Held (sym (p .1)) (sym (p .2)) (p .3, p .3, r .ordered .owns (p .0) (p .3))
 
   held-earlier : (x y : Event) → isEarlier (exchangeOf (met w m)) x y ≡ true → Held x y

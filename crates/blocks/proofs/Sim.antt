@@ -14,8 +14,9 @@ use Rattle.model.specs.Order.{Met, nothingMet}
 use Rattle.model.proofs.Bounded.{not-both}
 use Rattle.relation.specs.Width.{width, wordBits}
 use Rattle.relation.specs.Rows.{holds, bitOf, wordOf}
-use Rattle.relation.specs.Order.{before, Transitive, Within}
+use Rattle.relation.specs.Order.{before, Transitive}
 use Rattle.relation.proofs.Bits.{has-zero}
+use Rattle.relation.proofs.Order.{Within}
 use Rattle.blocks.specs.Store.{Store}
 
 -- a test on event numbers holds the sources of "before" among the first n messages, and is transitive there

@@ -16,9 +16,9 @@ use Rattle.model.specs.Order.{Met, metOps}
 use Rattle.model.proofs.Bounded.{or-cases, or-left, or-right}
 use Rattle.model.proofs.Walked.{Sound}
 use Rattle.relation.specs.Width.{width}
-use Rattle.relation.specs.Rows.{holds}
-use Rattle.relation.specs.Order.{before, Transitive, Within}
-use Rattle.blocks.specs.Store.{Store, seated, added, storeOps}
+use Rattle.relation.specs.Order.{before, Transitive}
+use Rattle.relation.proofs.Order.{Within}
+use Rattle.blocks.specs.Store.{Store, boardsWith, added, storeOps}
 use Rattle.blocks.proofs.Added.{length-added, added-other, added-send, added-receive}
 use Rattle.blocks.proofs.Sim.{Orders, Sim, inRow, inPast, bits}
 
@@ -78,8 +78,8 @@ module _ (w : Walk) (m : Met) (t : Store) (h : Sound (record { walk = w; kept = 
       go (no f) (no e) = absurd (omega (arith, block-old k (omega arith), h .openBlock k (omega arith) (omega arith)))
 
   -- the same boards in the store
-  boards-same : (k : ℕ) → getD (seated (t .events) c a b) k 0 ≡ getD events′ k 0
-  unfolding seated
+  boards-same : (k : ℕ) → getD (boardsWith (t .events) c a b) k 0 ≡ getD events′ k 0
+  unfolding boardsWith
   boards-same k = go (ℕ-discrete k (2 * c + 1)) (ℕ-discrete k (2 * c))
     where
       go : Dec (k ≡ 2 * c + 1) → Dec (k ≡ 2 * c) → getD (set (set (t .events) (2 * c) a) (2 * c + 1) b) k 0 ≡ getD events′ k 0
@@ -321,7 +321,7 @@ module _ (w : Walk) (m : Met) (t : Store) (h : Sound (record { walk = w; kept = 
         receive e = at (2 * c + 1) (sym e) (behind (received x hx (row-at x y (2 * c + 1) e i)))
 
   pub sim-message : Sim (record { calls = w .calls; choices = w .choices; first = w .first; count = suc (w .count) }) (metOps .withMessage w a b m) (storeOps .withMessage w a b t)
-  unfolding metOps storeOps seated
+  unfolding metOps storeOps boardsWith
   sim-message =
       record {
         eventsLong = length-set (set (t .events) (2 * c) a) (2 * c + 1) b ∙ length-set (t .events) (2 * c) a ∙ r .eventsLong;

@@ -18,7 +18,8 @@ use Rattle.model.proofs.Bounded.{and-left, and-right, or-cases, or-left, or-rig
 use Rattle.model.proofs.Walked.{Sound}
 use Rattle.relation.specs.Width.{width}
 use Rattle.relation.specs.Rows.{holds}
-use Rattle.relation.specs.Order.{before, Within, linked}
+use Rattle.relation.specs.Order.{before}
+use Rattle.relation.proofs.Order.{Within, linked}
 use Rattle.closure.specs.Insertion.{inserted}
 use Rattle.closure.proofs.Inserted.{length-inserted, holds-inserted}
 use Rattle.closure.proofs.Closed.{linked-holds, linked-pair, linked-least, inserted-linked, inserted-closed}

@@ -26,8 +26,8 @@ storeOf events words past = record { events = events; words = words; past = past
 
 -- message m, from board a to board b, on the boards; and its two rows, made anew: each event is behind its board's past, and the
 -- receive behind its send too
-unfoldable pub seated : List ℕ → ℕ → ℕ → ℕ → List ℕ
-seated events m a b = set (set events (2 * m) a) (2 * m + 1) b
+unfoldable pub boardsWith : List ℕ → ℕ → ℕ → ℕ → List ℕ
+boardsWith events m a b = set (set events (2 * m) a) (2 * m + 1) b
 
 unfoldable pub begun : ℕ → List ℕ → List ℕ → ℕ → ℕ → ℕ → List ℕ
 begun W words past m a b = copiedFrom W (copiedFrom W words (2 * m) past a) (2 * m + 1) past b
@@ -52,7 +52,7 @@ passed W past events words from to = passedIn W past events words from (to - fro
 unfoldable pub storeOps : Ops Store
 storeOps =
     record {
-      withMessage = λ w a b t. record { events = seated (t .events) (w .count) a b; words = added width (t .words) (t .past) (w .count) a b; past = t .past };
+      withMessage = λ w a b t. record { events = boardsWith (t .events) (w .count) a b; words = added width (t .words) (t .past) (w .count) a b; past = t .past };
       withOrder = λ w x y t. record {
         events = t .events;
         words = inserted width (t .words) (2 * w .first + x) (2 * w .first + y) (2 * w .first) (2 * w .count);

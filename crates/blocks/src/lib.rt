@@ -6,7 +6,7 @@ ghost use lib.ListN.{length};
 ghost use Rattle.model.specs.Limits.{boards as boardsMost, messagesMost};
 ghost use Rattle.relation.specs.Width.{width};
 ghost use Rattle.closure.specs.Insertion.{inserted};
-ghost use Rattle.blocks.specs.Store.{storeOf, seated, added, passed};
+ghost use Rattle.blocks.specs.Store.{storeOf, boardsWith, added, passed};
 ghost use Rattle.blocks.specs.Room.{Room};
 
 // The words of the past: a row a board.
@@ -20,7 +20,7 @@ pub fn add_message(boards: &mut [u8], words: &mut [u64], past: &[u64], m: usize,
     requires { ⌜ m < messagesMost ⌝ }
     requires { ⌜ a < boardsMost ⌝ }
     requires { ⌜ b < boardsMost ⌝ }
-    ensures { λ _. ⌜ (now (boards .exit) ≡ seated (now (boards .entry)) m a b) × (now (words .exit) ≡ added width (now (words .entry)) (now (past .entry)) m a b) ⌝ }
+    ensures { λ _. ⌜ (now (boards .exit) ≡ boardsWith (now (boards .entry)) m a b) × (now (words .exit) ≡ added width (now (words .entry)) (now (past .entry)) m a b) ⌝ }
 {
     let send = 2 * m;
     let receive = send + 1;

@@ -14,6 +14,7 @@ const MASK_ROWS: usize = 2 * model::BOARDS + 1;
 
 pub const MASK_WORDS: usize = MASK_ROWS * WIDTH;
 
+// The row of all sends.
 pub const SENDS: usize = 2 * model::BOARDS;
 
 // The masks with message m besides, from one board to another.

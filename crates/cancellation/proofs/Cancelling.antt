@@ -14,7 +14,7 @@ use Rattle.model.specs.Dispatcher.{numbersIn, without, cancel, refused, cancell
 use Rattle.queue.specs.declared.Queue.{Queue}
 use Rattle.queue.specs.Bridge.{queueIn, PlacesOf}
 use Rattle.places.specs.Words.{FreeCleared, ClearedBut}
-use Rattle.held_jobs.specs.Held.{Held, deskOf, HoldsJob, lent, toldWith}
+use Rattle.held_jobs.specs.Held.{Held, dispatcherOf, HoldsJob, lent, toldWith}
 use Rattle.held_jobs.proofs.Cases.{cancel-words, cancel-unheld}
 use Rattle.held_jobs.proofs.Serving.{untouched, cleared}
 use Rattle.cancellation.specs.Cancelling.{leftBy, LeavesIn}
@@ -23,15 +23,15 @@ use Rattle.cancellation.proofs.Leaving.{cancelled-serves}
 -- ---- cancelling of one dispatcher, whatever sheets and codes it is lent
 module _ (d : Held) (n : ℕ) (words : List ℕ) (r : Served Held) where
   pub cancel-short : length words < jobWordsLeast → r ≡ toldWith refusedWord benchRefusal 0 d → (sheets lengths codes : List ℕ)
-      → Serves deskOf HoldsJob d (cancel n (lent sheets lengths codes words)) words [] r
-  cancel-short h e sheets lengths codes = untouched d _ benchRefusal 0 r (cancel-words (deskOf d) n (lent sheets lengths codes words) h) (omega arith) e
+      → Serves dispatcherOf HoldsJob d (cancel n (lent sheets lengths codes words)) words [] r
+  cancel-short h e sheets lengths codes = untouched d _ benchRefusal 0 r (cancel-words (dispatcherOf d) n (lent sheets lengths codes words) h) (omega arith) e
 
   pub cancel-none : (exit : List ℕ) (b : Bool) → b ≡ among n (numbersIn (queueIn (d .queue))) → not b ≡ true → jobWordsLeast ≤ length words
       → FreeCleared (queueIn (d .queue)) words exit → r ≡ toldWith refusedWord heldRefusal 0 d → (sheets lengths codes : List ℕ)
-      → Serves deskOf HoldsJob d (cancel n (lent sheets lengths codes words)) exit [] r
+      → Serves dispatcherOf HoldsJob d (cancel n (lent sheets lengths codes words)) exit [] r
   unfolding touchesNothing leavesAll
   cancel-none exit b i t w F e sheets lengths codes =
-      cleared d _ (refused heldRefusal 0) exit r (cancel-unheld (deskOf d) n (lent sheets lengths codes words) w (sym i ∙ not-true b t)) refl (lt-leb heldRefusal benchRefusal (omega arith)) e F
+      cleared d _ (refused heldRefusal 0) exit r (cancel-unheld (dispatcherOf d) n (lent sheets lengths codes words) w (sym i ∙ not-true b t)) refl (lt-leb heldRefusal benchRefusal (omega arith)) e F
 
 pub is-held : (n : ℕ) (js : List model.Job) (b : Bool) → b ≡ among n (numbersIn js) → not b ≡ false → among n (numbersIn js) ≡ true
 is-held n js b e t = sym e ∙ not-false b t

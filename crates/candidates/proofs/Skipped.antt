@@ -1,9 +1,9 @@
 -- The messages that the search of a class passes over: rows built word by word, and that a message which is not in the row of
 -- candidates has no allowed step. Assumes nothing.
-use mathlib.Core.Path.{_≡_, refl, sym, ap, _∙_, subst, subst⁻¹}
+use mathlib.Core.Path.{_≡_, refl, sym, ap, _∙_, subst⁻¹}
 use mathlib.Core.Bool.{Bool, true, false, not, _&&_, _||_, and-false}
 use mathlib.Core.List.{List}
-use Prim.Native.Nat.{ℕ, _+_, _-_, _*_, _/_, _%_, _^_, _<_, _≤_}
+use Prim.Native.Nat.{ℕ, _+_, _*_, _/_, _%_, _^_, _<_, _≤_}
 use native.Mathlib.Nat.{not-suc-le-zero}
 use native.Mathlib.Decide.{ℕ-discrete}
 use native.Mathlib.Omega.{arith}
@@ -84,26 +84,28 @@ unsent-all row now i p h small m l clear =
     go true e = refl
     go false e = sym (rw e at off)
 
-pub common-all : (words row kept now : List ℕ) (e i : ℕ) → Filled (common words (2 * e * width) row) row kept i → width ≤ i → e < messagesMost
-    → now ≡ marked width kept 0 (2 * e) → Needed words e row now
-unfolding holds
-common-all words row kept now e i p h few m k l clear = (both, other)
-  where
-    mark-bit : inRow now k ≡ (inRow kept k || eqb k (2 * e))
-    mark-bit = rw m (holds-marked width kept 0 (2 * e) 0 k (omega (arith, p .long)) (omega arith) l)
+-- what is in common is kept, and e's send with it, if the row has it
+module _ (words row kept : List ℕ) (e i : ℕ) (p : Filled (common words (2 * e * width) row) row kept i) (all : width ≤ i) where
+  in-common : (k : ℕ) → k < wordBits * width → inRow kept k ≡ false → (inRow row k && holds width words (2 * e) k) ≡ false
+  unfolding holds
+  in-common k l clear =
+      rw (alone-row width row k, ← has-and (getD row (k / wordBits) 0) (getD words (2 * e * width + k / wordBits) 0) (k % wordBits))
+      (sym (filled-bit (common words (2 * e * width) row) row kept i k p all l) ∙ clear)
 
-    neither : (inRow kept k || eqb k (2 * e)) ≡ false
-    neither = sym mark-bit ∙ clear
+  pub needed-marked : (now : List ℕ) → e < messagesMost → now ≡ marked width kept 0 (2 * e) → Needed words e row now
+  needed-marked now few m k l clear =
+      rw (or-right-false (inRow kept k) (eqb k (2 * e)) neither) (in-common k l (or-left-false (inRow kept k) (eqb k (2 * e)) neither))
+    where
+      neither : (inRow kept k || eqb k (2 * e)) ≡ false
+      neither =
+          sym (rw m (holds-marked width kept 0 (2 * e) 0 k (omega (arith, p .long)) (omega arith) l)) ∙ clear
 
-    both : (inRow row k && holds width words (2 * e) k) ≡ false
-    both =
-        rw (alone-row width row k, ← has-and (getD row (k / wordBits) 0) (getD words (2 * e * width + k / wordBits) 0) (k % wordBits))
-        (sym (filled-bit (common words (2 * e * width) row) row kept i k p h l) ∙ or-left-false (inRow kept k) (eqb k (2 * e)) neither)
-
-    other : k ≡ 2 * e → ⊥
-    other s =
-        let z : true ≡ false = sym (eq-eqb k (2 * e) s) ∙ or-right-false (inRow kept k) (eqb k (2 * e)) neither in
-        absurd (let n : _≡_ {A = ℕ} 0 1 = cc in omega arith)
+  pub needed-absent : (t : Bool) → t ≡ holds width row 0 (2 * e) → t ≡ false → Needed words e row kept
+  needed-absent t h f k l clear = go (ℕ-discrete k (2 * e))
+    where
+      go : Dec (k ≡ 2 * e) → (inRow row k && (eqb k (2 * e) || holds width words (2 * e) k)) ≡ false
+      go (yes s) = let out : inRow row k ≡ false = ap (inRow row) s ∙ sym h ∙ f in rw out
+      go (no n) = rw (ne-eqb k (2 * e) n) (in-common k l clear)
 
 -- the words of the messages under way in common with the sends whose receive is in one of the relation's
 abbrev pub behindSends : List ℕ → ℕ → List ℕ → ℕ → ℕ
@@ -208,21 +210,22 @@ module _ (words done way held : List ℕ) (e : ℕ) (q : Class) (row : List ℕ)
       subst⁻¹ Left-out i (λ rows h m l clear run d w s count on c. sent row u (scenarioIn count on words) (channelIn c) run m d l clear)
 
   -- a send that is neither e's nor before it
-  not-needed : (S : Scenario) (m : ℕ) → (2 * m ≡ 2 * e → ⊥) → S .before (sendOf m) (sendOf e) ≡ false → atOrBefore S (sendOf m) (sendOf e) ≡ false
+  not-needed : (count : ℕ) (on : List ℕ) (m : ℕ) → (eqb (2 * m) (2 * e) || holds width words (2 * e) (2 * m)) ≡ false
+      → atOrBefore (scenarioIn count on words) (sendOf m) (sendOf e) ≡ false
   unfolding atOrBefore number
-  not-needed S m n b = rw (ne-eqb (2 * m) (2 * e) n, b)
-
-  not-before : (count : ℕ) (on : List ℕ) (m : ℕ) → holds width words (2 * e) (2 * m) ≡ false → scenarioIn count on words .before (sendOf m) (sendOf e) ≡ false
-  unfolding number
-  not-before count on m h = rw (h, and-false)
+  not-needed count on m n =
+      rw (
+        or-left-false (eqb (2 * m) (2 * e)) (holds width words (2 * e) (2 * m)) n,
+        or-right-false (eqb (2 * m) (2 * e)) (holds width words (2 * e) (2 * m)) n,
+        and-false,
+      )
 
   pub candidates-needed-send : (left : List ℕ) → q ≡ NeededSend → Unsent done left → Needed words e left row → CandidatesIn words done way held e q row
   candidates-needed-send left i u n =
-      subst⁻¹ Left-out i (λ rows h m l clear run d w s. go m l (n (2 * m) (omega arith) clear .1) (inRow left (2 * m)) refl (n (2 * m) (omega arith) clear .0) run d)
+      subst⁻¹ Left-out i (λ rows h m l clear run d w s. go m l (inRow left (2 * m)) refl (n (2 * m) (omega arith) clear) run d)
     where
-      go : (m : ℕ) → m < messagesMost → (2 * m ≡ 2 * e → ⊥) → (b : Bool) → inRow left (2 * m) ≡ b → (inRow left (2 * m) && holds width words (2 * e) (2 * m)) ≡ false
+      go : (m : ℕ) → m < messagesMost → (b : Bool) → inRow left (2 * m) ≡ b → (inRow left (2 * m) && (eqb (2 * m) (2 * e) || holds width words (2 * e) (2 * m))) ≡ false
           → (run : Run) → run .done ≡ done → (count : ℕ) (on : List ℕ) (c : Channel) → fits count on words c run e NeededSend m ≡ false
-      go m l other true k both run d count on c =
-          rw (not-needed (scenarioIn count on words) m other (not-before count on m (rw k at both)))
-      go m l other false k both run d count on c =
+      go m l true k none run d count on c = rw (not-needed count on m (rw k at none))
+      go m l false k none run d count on c =
           rw (sent left u (scenarioIn count on words) (channelIn c) run m d l k, and-false)

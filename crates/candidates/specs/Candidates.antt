@@ -1,8 +1,9 @@
 -- The candidates of a class: what the search may pass over. Assumes nothing.
 use mathlib.Core.Path.{_≡_}
-use mathlib.Core.Bool.{Bool, true, false, _&&_}
+use mathlib.Core.Bool.{Bool, true, false, _&&_, _||_}
 use mathlib.Core.List.{List}
 use Prim.Native.Nat.{ℕ, _+_, _*_, _<_}
+use lib.Dec.{eqb}
 use Rattle.model.specs.Limits.{messagesMost}
 use Rattle.model.specs.Run.{allowed}
 use Rattle.relation.specs.Width.{width, wordBits}
@@ -29,7 +30,7 @@ Unsent done row = (m : ℕ) → m < messagesMost → inRow row (2 * m) ≡ false
 -- an event that is not in the row kept was not in the row, or is neither e's send nor before it
 abbrev pub Needed : List ℕ → ℕ → List ℕ → List ℕ → Type 0
 Needed words e row kept =
-    (k : ℕ) → k < wordBits * width → inRow kept k ≡ false → ((inRow row k && holds width words (2 * e) k) ≡ false) × (k ≡ 2 * e → ⊥)
+    (k : ℕ) → k < wordBits * width → inRow kept k ≡ false → (inRow row k && (eqb k (2 * e) || holds width words (2 * e) k)) ≡ false
 
 -- a message that is not in the row is not under way, or its receive is not before e's send
 abbrev pub NeededDeliveries : List ℕ → ℕ → List ℕ → List ℕ → Type 0

@@ -19,7 +19,7 @@ fn unsent(done: [u64; WIDTH]) -> [u64; WIDTH]
     rest
 }
 
-// The events of a row that are before e's send, and e's send.
+// The events of a row that are e's send or before it.
 fn needed(words: &[u64], e: usize, row: [u64; WIDTH]) -> [u64; WIDTH]
     requires { ⌜ (e < messagesMost) × (2 * e * width + width ≤ length (now words)) ⌝ }
     ensures { λ r. ⌜ Needed (now (words .entry)) e row r ⌝ }
@@ -31,7 +31,9 @@ fn needed(words: &[u64], e: usize, row: [u64; WIDTH]) -> [u64; WIDTH]
         let at = from + i;
         kept[i] = kept[i] & words[at];
     }
-    relation::mark(&mut kept, 0, send);
+    if relation::test(&row, 0, send) {
+        relation::mark(&mut kept, 0, send);
+    }
     kept
 }
 

@@ -14,7 +14,7 @@ use step::Step;
 use step_rules::allowed_by;
 use step_rules::held_up;
 
-// A step is allowed, by the parts of a run that it reads, with the buffer of its board. For single use: each call copies the buffer.
+// A step is allowed, by the parts of a run that it reads, with the buffer of its board.
 pub fn allowed<'a>(
     words: &[u64],
     masks: &[u64],

@@ -1,1 +1,1 @@
-mod Desk
+mod Served

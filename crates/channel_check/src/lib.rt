@@ -2,17 +2,18 @@
 ghost use mathlib.Core.Path.{_≡_};
 ghost use mathlib.Core.List.{[]};
 ghost use Rattle.model.specs.Verdict.{Checked};
+ghost use Rattle.model.specs.EverySheet.{EverySheet};
 ghost use Rattle.model.specs.Choice.{ChoiceChecked};
 ghost use Rattle.model.specs.Waits.{TraceChecked};
 ghost use Rattle.model.specs.Monitor.{Opened, Stepped, Switched, WholeLists};
 ghost use Rattle.model.specs.Cure.{CureChecked};
-ghost use Rattle.model.specs.Dispatcher as desks;
-ghost use Rattle.model.specs.Dispatcher.{admit, turn, cancel, Serves};
+ghost use Rattle.model.specs.Dispatcher as dispatchers;
+ghost use Rattle.model.specs.Dispatcher.{emptyDispatcher, admit, turn, cancel, Serves};
 ghost use Rattle.model.specs.Senders.{TableJudged, PermittedCheck};
 ghost use Rattle.model.specs.Taps.{TapsChecked};
 ghost use Rattle.choice_answer.specs.Bridge as chosen;
-ghost use Rattle.dispatcher.specs.Bridge as desk;
-ghost use Rattle.dispatcher.specs.Bridge.{deskIn, Holds, emptied, lent};
+ghost use Rattle.dispatcher.specs.Bridge as bridge;
+ghost use Rattle.dispatcher.specs.Bridge.{dispatcherIn, Holds, emptied, lent};
 ghost use Rattle.monitor.specs.Bridge.{heldIn, zeros, answerIn};
 ghost use Rattle.trace_answer.specs.Numbers as replayed;
 ghost use Rattle.answers.specs.Numbers.{numbersIn};
@@ -30,7 +31,7 @@ use monitor::Monitor;
 use monitor::MonitorAnswer;
 use trace_answer::TraceCheckAnswer;
 
-// The check: any text, any channel code, any lengths.
+// The check: any text, any channel code, any lengths. With it goes what is so of every sheet, by the requests that brought no call.
 #[no_mangle]
 pub extern "C" fn channel_check(
     text: &[u8],
@@ -39,6 +40,7 @@ pub extern "C" fn channel_check(
     trace: &mut [u8],
 ) -> ChannelCheckAnswer
     ensures { λ r. ⌜ Checked (now (text .entry)) code (now (scratch .entry)) (now (scratch .exit)) (now (trace .entry)) (now (trace .exit)) (numbersIn r) ⌝ }
+    ensures { λ _. ⌜ EverySheet ⌝ }
 {
     answers::checked(sheet_verdict::check(text, code, scratch, trace))
 }
@@ -116,6 +118,7 @@ pub extern "C" fn cure_sheet(text: &[u8], scratch: &mut [u64], output: &mut [u8]
 #[no_mangle]
 pub extern "C" fn dispatcher_empty() -> Dispatcher
     ensures { λ r. ⌜ r ≡ emptied ⌝ }
+    ensures { λ r. ⌜ dispatcherIn r ≡ emptyDispatcher ⌝ }
 {
     Dispatcher::empty()
 }
@@ -129,7 +132,7 @@ pub extern "C" fn dispatcher_admit(
     codes: &[u32],
     words: &mut [u64],
 ) -> DispatcherAnswer
-    ensures { λ r. ⌜ Serves deskIn Holds state (admit (lent (now (sheets .entry)) (now (lengths .entry)) (now (codes .entry)) (now (words .entry)))) (now (words .exit)) [] (desk.answerIn r) × desks.WholeLists deskIn Holds emptied ⌝ }
+    ensures { λ r. ⌜ Serves dispatcherIn Holds state (admit (lent (now (sheets .entry)) (now (lengths .entry)) (now (codes .entry)) (now (words .entry)))) (now (words .exit)) [] (bridge.answerIn r) × dispatchers.WholeLists dispatcherIn Holds emptied ⌝ }
 {
     state.admit(sheets, lengths, codes, words)
 }
@@ -144,7 +147,7 @@ pub extern "C" fn dispatcher_turn(
     words: &mut [u64],
     trace: &mut [u8],
 ) -> DispatcherAnswer
-    ensures { λ r. ⌜ Serves deskIn Holds state (turn (lent (now (sheets .entry)) (now (lengths .entry)) (now (codes .entry)) (now (words .entry))) (now (trace .entry))) (now (words .exit)) (now (trace .exit)) (desk.answerIn r) × desks.WholeLists deskIn Holds emptied ⌝ }
+    ensures { λ r. ⌜ Serves dispatcherIn Holds state (turn (lent (now (sheets .entry)) (now (lengths .entry)) (now (codes .entry)) (now (words .entry))) (now (trace .entry))) (now (words .exit)) (now (trace .exit)) (bridge.answerIn r) × dispatchers.WholeLists dispatcherIn Holds emptied ⌝ }
 {
     state.turn(words, trace)
 }
@@ -159,7 +162,7 @@ pub extern "C" fn dispatcher_cancel(
     codes: &[u32],
     words: &mut [u64],
 ) -> DispatcherAnswer
-    ensures { λ r. ⌜ Serves deskIn Holds state (cancel number (lent (now (sheets .entry)) (now (lengths .entry)) (now (codes .entry)) (now (words .entry)))) (now (words .exit)) [] (desk.answerIn r) × desks.WholeLists deskIn Holds emptied ⌝ }
+    ensures { λ r. ⌜ Serves dispatcherIn Holds state (cancel number (lent (now (sheets .entry)) (now (lengths .entry)) (now (codes .entry)) (now (words .entry)))) (now (words .exit)) [] (bridge.answerIn r) × dispatchers.WholeLists dispatcherIn Holds emptied ⌝ }
 {
     state.cancel(number, words)
 }

@@ -1,5 +1,5 @@
 -- The answer as the model's numbers. Assumes nothing.
-use Prim.Native.Nat.{ℕ, _^_, _<_}
+use Prim.Native.Nat.{_^_, _<_}
 use Rattle.model.specs.Answer.{freeWord, lockedWord, refusedWord}
 use Rattle.model.specs.Choice.{ChoiceNumbers}
 use Rattle.choice_answer.specs.declared.Choice.{Choice}

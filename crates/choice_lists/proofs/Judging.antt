@@ -42,9 +42,9 @@ use Rattle.expansion.specs.Outcome.{countedOf}
 use Rattle.expansion.specs.declared.Counted.{Counted}
 use Rattle.expansion.specs.declared.Counted.the-variants.{Messages, Refused}
 use Rattle.expansion.proofs.Listed.{listed-refused, listed-messages}
-use Rattle.choice_lists.specs.Places.{placeOf, Tiles}
+use Rattle.choice_lists.specs.Places.{placeOf}
 use Rattle.choice_lists.specs.Walked.{firstFrom, LockAt, LastList}
-use Rattle.choice_lists.proofs.Places.{place-below, padding, options-at, padded-length, tiles-all}
+use Rattle.choice_lists.proofs.Places.{Tiles, place-below, padding, options-at, padded-length, tiles-all}
 
 -- The walk of the list at a place, as the code hands it on.
 module _ (file : List Row) (l : List Bool) (c : ChoiceList file l) where

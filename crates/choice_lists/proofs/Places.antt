@@ -15,10 +15,10 @@ use native.Mathlib.Nat.{mod-eq-of-lt}
 use lib.Seq.{take-at}
 use Rattle.model.specs.Limits.{choicesMost, listsMost}
 use Rattle.model.specs.Rows.{Row}
-use Rattle.model.specs.Choice.{asks, Beginning, nothing, more, listsFrom, listsOf}
+use Rattle.model.specs.Choice.{ChoiceList, asks, Beginning, nothing, more, listsFrom, listsOf}
 use Rattle.model.proofs.Asking.{asked-short}
 use Rattle.levels.specs.Options.{optionsIn, optionsOf}
-use Rattle.choice_lists.specs.Places.{placeIn, placeOf, Tiles}
+use Rattle.choice_lists.specs.Places.{placeIn, placeOf}
 
 pub place-below : (n : ℕ) (l : List Bool) → placeIn n l < 2 ^ n
 unfolding placeIn
@@ -98,6 +98,11 @@ module _ (list met : ℕ) where
   next-fits l =
       let h : 2 ^ (choicesMost - met) ≤ 2 ^ choicesMost = pow-mono {i = choicesMost - met} {j = choicesMost} (omega arith) in
       omega (arith, shifted)
+
+-- the lists from a place on: each begins where the one ahead of it ends, and the last ends at 256
+abbrev pub Tiles : List Row → ℕ → List (List Bool) → Type 0
+Tiles file at [] = at ≡ listsMost
+Tiles file at (l ∷ ls) = ChoiceList file l × (at ≡ placeOf l) × Tiles file (at + 2 ^ (choicesMost - length l)) ls
 
 -- the lists that begin with l tile the numbers that do
 module _ (file : List Row) where

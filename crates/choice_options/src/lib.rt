@@ -11,7 +11,7 @@ fn print_option(k: u32, row: usize, sheet: u16) {
     printing::print(b"A row ");
     printing::print_decimal(k);
     printing::print(b", line ");
-    printing::print_decimal((row % ROWS_MOST) as u32 + 2);
+    printing::print_decimal((row % ROWS_MOST) as u32 + model::FIRST_LINE as u32);
     printing::print(b": sheet ");
     printing::print_decimal(sheet as u32);
     printing::print(b"\n");

@@ -1,29 +1,25 @@
 -- What each part of the call is to show, from what its own parts handed on. Assumes nothing.
 use Prim.Native.Nat.{ℕ, _*_, _≤_}
 use native.Mathlib.Omega.{arith}
-use mathlib.Core.Path.{_≡_, refl, sym, _∙_, ap, subst, subst⁻¹}
-use mathlib.Core.Bool.{Bool, true}
+use mathlib.Core.Path.{_≡_, refl, sym, _∙_, ap, subst}
+use mathlib.Core.Bool.{Bool}
 use mathlib.Core.List.{List, [], _∷_}
 use mathlib.Core.Option.{Option, none, some}
 use lib.ListN.{length, take}
 use Rattle.model.specs.Limits.{choicesMost, listsMost, messagesMost}
 use Rattle.model.specs.Refusal.{Out, ok}
 use Rattle.model.specs.Rows.{Row}
-use Rattle.model.specs.Place.{readWith}
 use Rattle.model.specs.Order.{Scenario}
 use Rattle.model.specs.Race.{raceRuleOf, lowestRace}
 use Rattle.model.specs.Answer as model
 use Rattle.model.specs.Answer.{expandedWith, verdictOf, answerFor, traceAfter}
-use Rattle.model.specs.Choice.{ChoiceAnswer, firstRefused, listsOf, refusalIn, lockIn, judgedOver, choiceAnswerFor, choicesNumber, traceChosen}
+use Rattle.model.specs.Choice.{ChoiceAnswer, firstRefused, listsOf, refusalIn, lockIn, judgedOver, choicesNumber, traceChosen}
 use Rattle.model.proofs.Asking.{beginning-most}
 use Rattle.model.proofs.Refusal.{not-refused}
 use Rattle.relation.specs.Width.{width}
 use Rattle.relation.specs.Scenario.{scenarioIn}
 use Rattle.blocks.specs.Store.{countedWith}
-use Rattle.sheet.specs.Bridge.{rowsOf, ReadAs}
-use Rattle.sheet.specs.declared.Verdict.{Verdict}
-use Rattle.sheet.specs.declared.Verdict.the-variants as verdict
-use Rattle.sheet.proofs.Bridge.{refused-is, rows-are, starts-are, count-most, kind-long, one-long, two-long}
+use Rattle.sheet.specs.Bridge.{rowsOf}
 use Rattle.levels.specs.Options.{optionsOf}
 use Rattle.scenario.specs.Contract.{Fit}
 use Rattle.expansion.specs.Lent.{RowsRead}

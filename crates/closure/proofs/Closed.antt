@@ -12,8 +12,9 @@ use borrow.Author.Tests.{eq-eqb, ne-eqb, eqb-true, le-leb, lt-ltb}
 use Rattle.model.proofs.Bounded.{or-cases, or-left, or-right}
 use Rattle.relation.specs.Width.{wordBits}
 use Rattle.relation.specs.Rows.{holds}
-use Rattle.relation.specs.Order.{before, Transitive, Within, Covers, linked}
+use Rattle.relation.specs.Order.{before, Transitive}
 use Rattle.relation.proofs.Tests.{both-ways}
+use Rattle.relation.proofs.Order.{Within, Covers, linked}
 use Rattle.closure.specs.Insertion.{inserted}
 use Rattle.closure.proofs.Inserted.{holds-inserted}
 

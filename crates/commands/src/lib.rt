@@ -1,5 +1,5 @@
 // What several commands of the technician's program share: an event and a step that is not allowed in words, a refusal, the steps of an
-// answer, and bytes from a file.
+// answer, a number's digits, and bytes from a file.
 ghost use Prim.Native.Nat.{_*_, _≤_};
 ghost use lib.ListN.{length};
 use libc::STDERR_FILENO;
@@ -62,6 +62,12 @@ pub fn steps_in(trace: &[u8], steps: u32) -> usize
     let all = trace.len() / 2;
     let counted = steps as usize;
     if counted < all { counted } else { all }
+}
+
+// A number with a digit more. One beyond 65,535 stays there: no sheet has such an event or message, and no channel such a code.
+pub fn grown(value: u16, digit: u8) -> u16 {
+    let next = value as u32 * 10 + digit as u32 % 16;
+    if next < 65535 { next as u16 } else { 65535 }
 }
 
 // The bytes of the file that argument i names. `whose` says in the message on standard error which file cannot be opened.

@@ -8,7 +8,6 @@ use Prim.Native.Nat.{ℕ, _*_, _<_}
 use native.Mathlib.Omega.{arith}
 use lib.ListN.{length}
 use Rattle.model.specs.Bounded.{lowest, among, eachOnce}
-use Rattle.model.specs.Order.{event}
 use Rattle.model.specs.Taps.{ahead, isSooner, precedes, courseOf}
 use Rattle.model.proofs.Bounded.{not-both, lowest-same, lowest-none}
 use Rattle.model.proofs.Closure.{Over, over, closure-holds, closure-transitive, closure-least}
@@ -17,10 +16,11 @@ use Rattle.model.proofs.Course.{course-holds, course-closure}
 use Rattle.model.proofs.Taps.{sooner-cases, by-sheet, by-first, by-second}
 use Rattle.relation.specs.Width.{width}
 use Rattle.relation.specs.Rows.{holds}
-use Rattle.relation.specs.Order.{before, Transitive, Within, Covers, linked}
+use Rattle.relation.specs.Order.{before, Transitive}
 use Rattle.relation.specs.Own.{isOwn}
 use Rattle.relation.specs.Scenario.{scenarioIn}
 use Rattle.relation.proofs.Tests.{both-ways}
+use Rattle.relation.proofs.Order.{Within, Covers, linked}
 use Rattle.closure.specs.Insertion.{inserted}
 use Rattle.closure.proofs.Inserted.{length-inserted}
 use Rattle.closure.proofs.Closed.{linked-holds, linked-pair, linked-least, inserted-linked, inserted-closed}

@@ -74,7 +74,7 @@ pub fn met(s: Search, number: usize, rule: Rule) -> Search
     }
     let t = joined(s, rule.from, rule.to);
     if is_covered(rule.from, rule.to, s.sender, s.receiver) {
-        noted(t, number + 2)
+        noted(t, number + model::FIRST_LINE)
     } else {
         t
     }

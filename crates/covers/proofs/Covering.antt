@@ -1,10 +1,9 @@
 -- What stands directly before a send, word by word and row by row. Assumes nothing.
-use mathlib.Core.Path.{_≡_, refl, sym, _∙_, ap, subst, subst⁻¹}
-use mathlib.Core.Bool.{Bool, true, false, not, cond, _&&_, _||_, or-false}
+use mathlib.Core.Path.{_≡_, refl, sym, _∙_, ap, subst⁻¹}
+use mathlib.Core.Bool.{Bool, true, false, not, _&&_, _||_}
 use mathlib.Core.List.{List}
-use Prim.Native.Nat.{ℕ, suc, _+_, _*_, _-_, _/_, _%_, _^_, _<_, _≤_}
+use Prim.Native.Nat.{ℕ, _+_, _*_, _-_, _/_, _%_, _^_, _<_, _≤_}
 use native.Mathlib.Decide.{ℕ-discrete, decLt}
-use native.Mathlib.Numerals.{add-one}
 use native.Mathlib.Omega.{arith}
 use lib.Bits.{bitAnd, bitOr, or-lt, and-le-l}
 use lib.Dec.{eqb, ltb}
@@ -14,84 +13,20 @@ use lib.Seq.{getD-set-same, getD-set-other}
 use borrow.Author.Tests.{eq-eqb, ne-eqb}
 use Rattle.model.specs.Limits.{messagesMost}
 use Rattle.model.specs.Limits as limits
-use Rattle.model.specs.Bounded.{every, any}
-use Rattle.model.proofs.Lists.{replicate-at}
+use Rattle.model.specs.Bounded.{any}
 use Rattle.model.proofs.Bounded.{any-from, any-some, both-ways}
 use Rattle.relation.specs.Width.{width, wordBits}
 use Rattle.relation.specs.Rows.{has, holds}
-use Rattle.relation.proofs.Bits.{has-zero, has-or}
+use Rattle.relation.proofs.Bits.{has-or}
 use Rattle.relation.proofs.Words.{has-and, has-not, shifted, evenBits, has-even-bits, word-holds, alone-row}
-use Rattle.joined_rows.specs.Joins.{joinedFrom, copiedFrom}
-use Rattle.joined_rows.proofs.Joined.{length-joined-from, holds-joined-from, length-copied-from, copied-row, copied-other}
+use Rattle.joined_rows.specs.Joins.{copiedFrom}
+use Rattle.joined_rows.proofs.Joined.{length-copied-from, copied-row, copied-other}
 use Rattle.board.specs.Boards.{BoardsBelow}
 use Rattle.board.specs.Masks.{maskRows, MasksOf, Standing}
-use Rattle.covers.specs.Covers.{RowOf, isHiddenBy, hiddenBy, hiddenAt, receivedAt, coverAt, CoverWord, Sheet, CoverRows}
+use Rattle.covers.specs.Covers.{RowOf, isHiddenBy, hiddenAt, receivedAt, coverAt, CoverWord, Sheet, CoverRows}
 
 abbrev rowBits : ℕ
 rowBits = wordBits * width
-
--- The two ways of a send that is tested.
-module _ (words hidden exit : List ℕ) (e k : ℕ) (t : Bool) (h : t ≡ holds width words (2 * e) (2 * k)) where
-  pub hide-yes : t ≡ true → exit ≡ joinedFrom width hidden 0 words (2 * k) → exit ≡ hiddenBy words e k hidden
-  unfolding hiddenBy
-  hide-yes i s = rw (← h, i) s
-
-  pub hide-no : t ≡ false → hidden ≡ hiddenBy words e k hidden
-  unfolding hiddenBy
-  hide-no i = rw (← h, i)
-
--- What the sends below k hide.
-module _ (words : List ℕ) (count e : ℕ) where
-  pub record Hiding (k : ℕ) (hidden : List ℕ) : Type 0 where
-    pub exact : RowOf (hiddenAt words k e) hidden
-    pub long : length hidden ≡ width
-    pub most : k ≤ count
-
-  none-yet : (x : ℕ) → hiddenAt words 0 e x ≡ false
-  unfolding hiddenAt any every
-  none-yet x = refl
-
-  hidden-more : (k x : ℕ) → hiddenAt words (suc k) e x ≡ (hiddenAt words k e x || isHiddenBy words e x k)
-  unfolding hiddenAt any every
-  hidden-more k x = turns (every k (λ j. not (isHiddenBy words e x j))) (isHiddenBy words e x k)
-    where
-      turns : (a b : Bool) → not (a && not b) ≡ (not a || b)
-      turns true true = refl
-      turns true false = refl
-      turns false b = refl
-
-  pub hiding-start : Hiding 0 (replicate width 0)
-  hiding-start = record { exact = λ x h. alone-row width (replicate width 0) x ∙ zero-word (x / wordBits) (x % wordBits) ∙ sym (none-yet x); long = refl; most = omega arith }
-    where
-      zero-word : (i b : ℕ) → has (getD (replicate width 0) i 0) b ≡ false
-      zero-word i b = ap (λ (w : ℕ). has w b) (replicate-at width i 0) ∙ has-zero b
-
-  pub hiding-more : (k : ℕ) (hidden exit : List ℕ) → Hiding k hidden → exit ≡ hiddenBy words e k hidden → k < count → Hiding (k + 1) exit
-  unfolding hiddenBy
-  hiding-more k hidden exit g s h =
-      subst⁻¹ (λ (j : ℕ). Hiding j exit) (add-one k) (subst⁻¹ (Hiding (suc k)) s (go (holds width words (2 * e) (2 * k)) refl))
-    where
-      more : (x : ℕ) (t : Bool) → holds width words (2 * e) (2 * k) ≡ t → hiddenAt words (suc k) e x ≡ (hiddenAt words k e x || t && holds width words (2 * k) x)
-      more x t i = hidden-more k x ∙ ap (λ (q : Bool). hiddenAt words k e x || q && holds width words (2 * k) x) i
-
-      go : (t : Bool) → holds width words (2 * e) (2 * k) ≡ t → Hiding (suc k) (cond t (joinedFrom width hidden 0 words (2 * k)) hidden)
-      go true i =
-          record {
-            exact = λ x l.
-                holds-joined-from width hidden 0 words (2 * k) 0 x (omega (arith, g .long)) l
-                ∙ ap (λ (q : Bool). q || true && holds width words (2 * k) x) (g .exact x l) ∙ sym (more x true i);
-            long = length-joined-from width hidden 0 words (2 * k) ∙ g .long;
-            most = omega arith;
-          }
-      go false i =
-          record {
-            exact = λ x l. g .exact x l ∙ sym (more x false i ∙ or-false (hiddenAt words k e x));
-            long = g .long;
-            most = omega arith;
-          }
-
-  pub hiding-end : (k : ℕ) (hidden : List ℕ) → Hiding k hidden → count ≤ k → RowOf (hiddenAt words count e) hidden
-  hiding-end k hidden g h = subst (λ (j : ℕ). RowOf (hiddenAt words j e) hidden) (omega (arith, g .most)) (g .exact)
 
 -- A word of the row, bit by bit.
 pub word-covers : (row hidden mask : ℕ) → row < 2 ^ wordBits → hidden < 2 ^ wordBits

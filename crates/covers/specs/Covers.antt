@@ -21,12 +21,20 @@ RowOf test row = (x : ℕ) → x < wordBits * width → holds width row 0 x ≡ 
 abbrev pub isHiddenBy : List ℕ → ℕ → ℕ → ℕ → Bool
 isHiddenBy words e x k = holds width words (2 * e) (2 * k) && holds width words (2 * k) x
 
--- the row with what message k's send hides besides
+-- the row with what a send of the sheet hides besides
 unfoldable pub hiddenBy : List ℕ → ℕ → ℕ → List ℕ → List ℕ
-hiddenBy words e k hidden = cond (holds width words (2 * e) (2 * k)) (joinedFrom width hidden 0 words (2 * k)) hidden
+hiddenBy words count send hidden = cond (ltb send (2 * count)) (joinedFrom width hidden 0 words send) hidden
 
 unfoldable pub hiddenAt : List ℕ → ℕ → ℕ → ℕ → Bool
 hiddenAt words count e x = any count (isHiddenBy words e x)
+
+-- the same of the sends below event p alone, and a row of what they hide
+unfoldable pub hiddenBelow : List ℕ → ℕ → ℕ → ℕ → ℕ → Bool
+hiddenBelow words count e p x = any count (λ k. ltb (2 * k) p && isHiddenBy words e x k)
+
+pub record Hidden (words : List ℕ) (count e p : ℕ) (hidden : List ℕ) : Type 0 where
+  pub exact : RowOf (hiddenBelow words count e p) hidden
+  pub long : length hidden ≡ width
 
 -- event x is a send whose receive is in e's row
 unfoldable pub receivedAt : List ℕ → ℕ → ℕ → Bool

@@ -1,27 +1,54 @@
 // What stands directly before each send in the cured order, in words. The row of a message's receive, which the cured order does not need,
 // becomes that of the events directly before its send, on its board.
 ghost use mathlib.Core.Path.{_≡_};
-ghost use Prim.Native.Nat.{_+_, _*_, _<_, _≤_};
+ghost use Prim.Native.Nat.{_+_, _*_, _^_, _<_, _≤_};
 ghost use lib.ListN.{length, getD};
 ghost use Rattle.model.specs.Limits.{messagesMost};
-ghost use Rattle.relation.specs.Width.{width};
+ghost use Rattle.relation.specs.Width.{width, wordBits};
 ghost use Rattle.board.specs.Boards.{BoardsBelow};
 ghost use Rattle.board.specs.Masks.{maskRows, Standing};
-ghost use Rattle.covers.specs.Covers.{RowOf, hiddenBy, hiddenAt, CoverWord, coverAt, Sheet, CoverRows};
+ghost use Rattle.covers.specs.Covers.{RowOf, hiddenBy, hiddenAt, Hidden, CoverWord, coverAt, Sheet, CoverRows};
 use relation::SENDS;
 use relation::WIDTH;
+use relation::WORD_BITS;
 
-// Where k's send is before e's send, all that is before it is hidden.
-fn hide_by(words: &[u64], hidden: &mut [u64], e: usize, k: usize)
-    requires { ⌜ (e < messagesMost) × (k < messagesMost) ⌝ }
-    requires { ⌜ (2 * e * width + width ≤ length (now words)) × (2 * k * width + width ≤ length (now words)) ⌝ }
-    requires { ⌜ width ≤ length (now hidden) ⌝ }
-    ensures { λ _. ⌜ now (hidden .exit) ≡ hiddenBy (now (words .entry)) e k (now (hidden .entry)) ⌝ }
+// A count of bits, as an index.
+fn wide(bits: u32) -> usize
+    ensures { λ r. ⌜ (r ≡ bits) × (r < 2 ^ 32) ⌝ }
 {
-    let send = 2 * e;
-    let other = 2 * k;
-    if relation::test(words, send, other) {
-        joined_rows::join_from(hidden, 0, words, other);
+    bits as usize
+}
+
+// All that is before the send is hidden, where it is one of the sheet's.
+fn hide_by(words: &[u64], hidden: &mut [u64], count: usize, send: usize)
+    requires { ⌜ (count ≤ messagesMost) × (2 * count * width ≤ length (now words)) ⌝ }
+    requires { ⌜ width ≤ length (now hidden) ⌝ }
+    ensures { λ _. ⌜ now (hidden .exit) ≡ hiddenBy (now (words .entry)) count send (now (hidden .entry)) ⌝ }
+{
+    let events = 2 * count;
+    if send < events {
+        joined_rows::join_from(hidden, 0, words, send);
+    }
+}
+
+// Each send in word i of e's row hides all that is before it: from send to send by trailing zeros.
+fn hide_word(words: &[u64], hidden: &mut [u64], count: usize, e: usize, i: usize)
+    requires { ⌜ (e < count) × (count ≤ messagesMost) ⌝ }
+    requires { ⌜ (2 * count * width ≤ length (now words)) × (i < width) ⌝ }
+    requires { ⌜ Hidden (now words) count e (wordBits * i) (now hidden) ⌝ }
+    ensures { λ _. ⌜ Hidden (now (words .entry)) count e (wordBits * (i + 1)) (now (hidden .exit)) ⌝ }
+{
+    let at = 2 * e * WIDTH + i;
+    let sends = words[at] & SENDS;
+    let mut bit = 0;
+    while bit < WORD_BITS {
+        let left = sends >> bit;
+        if left == 0 {
+            return;
+        }
+        let here = bit + wide(u64::trailing_zeros(left));
+        hide_by(words, hidden, count, WORD_BITS * i + here);
+        bit = here + 1;
     }
 }
 
@@ -32,8 +59,8 @@ fn hidden_from(words: &[u64], count: usize, e: usize) -> [u64; WIDTH]
     ensures { λ r. ⌜ RowOf (hiddenAt (now (words .entry)) count e) r ⌝ }
 {
     let mut hidden = [0u64; WIDTH];
-    for k in 0..count {
-        hide_by(words, &mut hidden, e, k);
+    for i in 0..WIDTH {
+        hide_word(words, &mut hidden, count, e, i);
     }
     hidden
 }

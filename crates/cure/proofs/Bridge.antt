@@ -14,9 +14,9 @@ use Rattle.model.specs.Bounded.{any}
 use Rattle.model.specs.Order.{Event, sendOf, receiveOf, number, event, boardOf, Scenario}
 use Rattle.model.specs.Cure.{curedBefore, isBetween, isWritten, ordersAt, ordersBelow, Written, messageRows, orderRows, curedRows}
 use Rattle.model.proofs.Bounded.{and-left, and-right, and-both, or-cases, or-left, or-right, any-from, any-some, both-ways}
-use Rattle.model.proofs.Events.{number-event, send-event, receive-event, at-or-before-cases, at-or-before-same}
+use Rattle.model.proofs.Events.{number-event, no-own-send, send-event, receive-event, at-or-before-cases, at-or-before-same}
 use Rattle.model.proofs.Causal.{Causal}
-use Rattle.model.proofs.Cured.{no-own-send, to-send, from-send, to-receive, from-receive, written-to-send}
+use Rattle.model.proofs.Cured.{to-send, from-send, to-receive, from-receive, written-to-send}
 use Rattle.relation.specs.Width.{width}
 use Rattle.relation.specs.Rows.{holds}
 use Rattle.relation.specs.Scenario.{scenarioIn}
@@ -131,7 +131,7 @@ module _ (count : ℕ) (boards words : List ℕ) (few : count ≤ messagesMost) 
           board-at count boards words x,
           in-row x e h l,
           both-ways (any (2 * count) (isBetween S (event x) (sendOf e))) (hiddenAt words count e x || receivedAt words e x) hides shows,
-          no-own-send S (event x) e,
+          no-own-send (S .count) (event x) e,
           lt-ltb x (2 * count) h,
         )
         (turns (eqb (getD boards x 0) (getD boards (2 * e) 0)) (holds width words (2 * e) x) (hiddenAt words count e x || receivedAt words e x))

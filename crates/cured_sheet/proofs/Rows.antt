@@ -2,7 +2,7 @@
 use mathlib.Core.Path.{_≡_, refl, sym, _∙_, ap, subst, subst⁻¹, subst₂}
 use mathlib.Core.Bool.{Bool, true, false, not}
 use mathlib.Core.List.{List, [], _∷_, _++_, append-nil, append-assoc}
-use Prim.Native.Nat.{ℕ, zero, suc, _+_, _*_, _-_, _<_, _≤_}
+use Prim.Native.Nat.{ℕ, zero, suc, _+_, _*_, _-_, _/_, _%_, _<_, _≤_}
 use Prim.Native.Char.{code}
 use native.Mathlib.Numerals.{add-one}
 use native.Mathlib.Omega.{arith}
@@ -11,12 +11,15 @@ use borrow.Author.Tests.{not-true, not-false}
 use Rattle.model.specs.Limits.{rowsMost, sheetOutputLeast}
 use Rattle.model.specs.Text.{ascii}
 use Rattle.model.specs.Cure.{Written, messageRows, orderRows, rowText, rowsText, headingText}
-use Rattle.relation.specs.Width.{width}
-use Rattle.relation.specs.Rows.{holds}
+use Rattle.relation.specs.Width.{width, wordBits}
+use Rattle.relation.specs.Rows.{has, holds}
 use Rattle.sheet_text.specs.Writing.{Writes, rowOf, rowBytesMost, headingBytes}
 use Rattle.sheet_text.proofs.Putting.{restFrom, withRest, writes-same, rest-written, rest-room, row-few, writes-none}
 use Rattle.order_count.specs.Orders.{ordersFrom, ordersTo}
 use Rattle.cured_sheet.specs.Sheet.{messageRow, messagesIn, orderIf, sheetRow, headText, listedText, headMost, rowsIn, textIn}
+use Rattle.cured_sheet.specs.declared.Span.{Span}
+use Rattle.cured_sheet.specs.Spans.{SpanOf, SpanHeld}
+use Rattle.cured_sheet.proofs.Spans.{held-none, held-next, none-first, none-last, none-at-all}
 
 rows-append : (rs ks : List Written) → rowsText (rs ++ ks) ≡ rowsText rs ++ rowsText ks
 unfolding rowsText
@@ -61,10 +64,6 @@ module _ (boards : List ℕ) (count : ℕ) where
   pub messages-none : (rest : List ℕ) → Messages rest rest 0 0
   unfolding messageRows rowsText
   messages-none rest = record { rowed = record { written = writes-none rest; few = omega arith; same = refl }; most = omega arith }
-
-  pub messages-room : (rest now : List ℕ) (at m : ℕ) → Messages rest now at m → m < count → rowBytesMost * count ≤ length rest → rowBytesMost ≤ length (restFrom at now)
-  messages-room rest now at m g h room =
-      rest-room (rowsText (messagesIn boards m)) rest now at rowBytesMost (g .rowed .written) (omega (arith, g .rowed .few))
 
   more-text : (m : ℕ) → rowsText (messagesIn boards (m + 1)) ≡ rowsText (messagesIn boards m) ++ rowText (messageRow boards m)
   unfolding messageRows
@@ -134,18 +133,30 @@ module _ (words : List ℕ) (count x : ℕ) where
     pub rowed : Rowed (rowsText (orderRows (ordersFrom words x e))) rest now at (length (ordersFrom words x e))
     pub most : e ≤ count
 
-  pub from-none : (rest : List ℕ) → From rest rest 0 0
+  none-written : (rest : List ℕ) → Rowed (rowsText (orderRows (ordersFrom words x 0))) rest rest 0 (length (ordersFrom words x 0))
   unfolding ordersFrom orderRows rowsText
-  from-none rest = record { rowed = record { written = writes-none rest; few = omega arith; same = refl }; most = omega arith }
+  none-written rest = record { written = writes-none rest; few = omega arith; same = refl }
+
+  pub from-first : (rest : List ℕ) (span : Span) → SpanOf words count (x / wordBits) span → From rest rest 0 (span .first)
+  from-first rest span s =
+      record {
+        rowed = subst (λ (l : List (ℕ × ℕ)). Rowed (rowsText (orderRows l)) rest rest 0 (length l)) (none-first words count x span s) (none-written rest);
+        most = s .first .most;
+      }
+
+  pub from-nothing : (rest : List ℕ) (span : Span) (t : Bool) → SpanOf words count (x / wordBits) span → t ≡ has (span .events) (x % wordBits) → not t ≡ true
+      → Writes (rowsText (orderRows (ordersFrom words x count))) rest rest 0
+  from-nothing rest span t s e f =
+      subst (λ (l : List (ℕ × ℕ)). Writes (rowsText (orderRows l)) rest rest 0) (none-at-all words count x span s (sym e ∙ not-true t f)) (none-written rest .written)
 
   pub from-room : (rest now : List ℕ) (at e : ℕ) → From rest now at e → rowBytesMost * length (ordersFrom words x count) + rowBytesMost ≤ length rest
       → rowBytesMost ≤ length (restFrom at now)
   from-room rest now at e g room =
       rest-room (rowsText (orderRows (ordersFrom words x e))) rest now at rowBytesMost (g .rowed .written) (omega (arith, g .rowed .few, from-most e (g .most)))
 
-  pub from-more : (rest now exit : List ℕ) (at e k : ℕ) → From rest now at e → e < count → Writes (rowsText (orderRows (orderIf words x e))) (restFrom at now) exit k
+  pub from-more : (rest now exit : List ℕ) (at e k : ℕ) (span : Span) → From rest now at e → SpanOf words count (x / wordBits) span → e < span .end → Writes (rowsText (orderRows (orderIf words x e))) (restFrom at now) exit k
       → From rest (withRest at now exit) (at + k) (e + 1)
-  from-more rest now exit at e k g h w =
+  from-more rest now exit at e k span g s h w =
       let more = rowed-more (rowsText (orderRows (ordersFrom words x e))) (rowsText (orderRows (orderIf words x e))) rest now exit at k
       (length (ordersFrom words x e)) (length (orderIf words x e)) (g .rowed) w (omega (arith, orders-few (orderIf words x e), w .long)) in
       let text : rowsText (orderRows (ordersFrom words x (suc e))) ≡ rowsText (orderRows (ordersFrom words x e)) ++ rowsText (orderRows (orderIf words x e)) =
@@ -157,13 +168,13 @@ module _ (words : List ℕ) (count x : ℕ) where
             subst⁻¹ (λ (j : ℕ). Rowed (rowsText (orderRows (ordersFrom words x j))) rest (withRest at now exit) (at + k) (length (ordersFrom words x j))) (add-one e)
             (subst⁻¹ (λ (t : List ℕ). Rowed t rest (withRest at now exit) (at + k) (length (ordersFrom words x (suc e)))) text
             (subst⁻¹ (λ (n : ℕ). Rowed (rowsText (orderRows (ordersFrom words x e)) ++ rowsText (orderRows (orderIf words x e))) rest (withRest at now exit) (at + k) n) rows more));
-        most = omega arith;
+        most = omega (arith, s .last .most);
       }
 
-  pub from-all : (rest now : List ℕ) (at e : ℕ) → From rest now at e → count ≤ e → Writes (rowsText (orderRows (ordersFrom words x count))) rest now at
-  from-all rest now at e g h =
-      let i : e ≡ count = omega (arith, g .most) in
-      subst (λ (k : ℕ). Writes (rowsText (orderRows (ordersFrom words x k))) rest now at) i (g .rowed .written)
+  pub from-all : (rest now : List ℕ) (at e : ℕ) (span : Span) → From rest now at e → SpanOf words count (x / wordBits) span → span .end ≤ e
+      → Writes (rowsText (orderRows (ordersFrom words x count))) rest now at
+  from-all rest now at e span g s h =
+      subst (λ (l : List (ℕ × ℕ)). Writes (rowsText (orderRows l)) rest now at) (none-last words count x span s e h (g .most)) (g .rowed .written)
 
 -- All P rows, by the events.
 module _ (words : List ℕ) (count : ℕ) where
@@ -177,25 +188,31 @@ module _ (words : List ℕ) (count : ℕ) where
       subst (λ (k : ℕ). length (ordersTo words count x) ≤ length (ordersTo words count k)) i
       (growing (ordersTo words count) (λ k. ordersFrom words k count) to-step x (2 * count - x))
 
-  pub record To (rest now : List ℕ) (at x : ℕ) : Type 0 where
+  pub record To (rest now : List ℕ) (at : ℕ) (span : Span) (x : ℕ) : Type 0 where
     pub rowed : Rowed (rowsText (orderRows (ordersTo words count x))) rest now at (length (ordersTo words count x))
     pub most : x ≤ 2 * count
+    pub held : SpanHeld words count x span
 
-  pub to-none : (rest : List ℕ) → To rest rest 0 0
+  pub to-none : (rest : List ℕ) (span : Span) → To rest rest 0 span 0
   unfolding ordersTo orderRows rowsText
-  to-none rest = record { rowed = record { written = writes-none rest; few = omega arith; same = refl }; most = omega arith }
+  to-none rest span =
+      record {
+        rowed = record { written = writes-none rest; few = omega arith; same = refl };
+        most = omega arith;
+        held = held-none words count span;
+      }
 
-  pub to-room : (rest now : List ℕ) (at x : ℕ) → To rest now at x → x < 2 * count → rowBytesMost * length (ordersTo words count (2 * count)) + rowBytesMost ≤ length rest
+  pub to-room : (rest now : List ℕ) (at x : ℕ) (span : Span) → To rest now at span x → x < 2 * count → rowBytesMost * length (ordersTo words count (2 * count)) + rowBytesMost ≤ length rest
       → rowBytesMost * length (ordersFrom words x count) + rowBytesMost ≤ length (restFrom at now)
-  to-room rest now at x g h room =
+  to-room rest now at x span g h room =
       let next : length (ordersTo words count (suc x)) ≡ length (ordersTo words count x) + length (ordersFrom words x count) =
       ap length (to-step x) ∙ length-append (ordersTo words count x) (ordersFrom words x count) in
       rest-room (rowsText (orderRows (ordersTo words count x))) rest now at (rowBytesMost * length (ordersFrom words x count) + rowBytesMost) (g .rowed .written)
       (omega (arith, g .rowed .few, to-most (suc x) h))
 
-  pub to-more : (rest now exit : List ℕ) (at x k : ℕ) → To rest now at x → x < 2 * count → Writes (rowsText (orderRows (ordersFrom words x count))) (restFrom at now) exit k
-      → To rest (withRest at now exit) (at + k) (x + 1)
-  to-more rest now exit at x k g h w =
+  pub to-more : (rest now exit : List ℕ) (at x k : ℕ) (span next : Span) → To rest now at span x → x < 2 * count → SpanOf words count (x / wordBits) next → Writes (rowsText (orderRows (ordersFrom words x count))) (restFrom at now) exit k
+      → To rest (withRest at now exit) (at + k) next (x + 1)
+  to-more rest now exit at x k span next g h s w =
       let more = rowed-more (rowsText (orderRows (ordersTo words count x))) (rowsText (orderRows (ordersFrom words x count))) rest now exit at k
       (length (ordersTo words count x)) (length (ordersFrom words x count)) (g .rowed) w (omega (arith, orders-few (ordersFrom words x count), w .long)) in
       let text : rowsText (orderRows (ordersTo words count (suc x))) ≡ rowsText (orderRows (ordersTo words count x)) ++ rowsText (orderRows (ordersFrom words x count)) =
@@ -208,10 +225,11 @@ module _ (words : List ℕ) (count : ℕ) where
             (subst⁻¹ (λ (t : List ℕ). Rowed t rest (withRest at now exit) (at + k) (length (ordersTo words count (suc x)))) text
             (subst⁻¹ (λ (n : ℕ). Rowed (rowsText (orderRows (ordersTo words count x)) ++ rowsText (orderRows (ordersFrom words x count))) rest (withRest at now exit) (at + k) n) rows more));
         most = omega arith;
+        held = held-next words count x next s;
       }
 
-  pub to-all : (rest now : List ℕ) (at x : ℕ) → To rest now at x → 2 * count ≤ x → Writes (rowsText (orderRows (ordersTo words count (2 * count)))) rest now at
-  to-all rest now at x g h =
+  pub to-all : (rest now : List ℕ) (at x : ℕ) (span : Span) → To rest now at span x → 2 * count ≤ x → Writes (rowsText (orderRows (ordersTo words count (2 * count)))) rest now at
+  to-all rest now at x span g h =
       let i : x ≡ 2 * count = omega (arith, g .most) in
       subst (λ (k : ℕ). Writes (rowsText (orderRows (ordersTo words count k))) rest now at) i (g .rowed .written)
 

@@ -7,7 +7,7 @@ use native.Mathlib.Omega.{arith}
 use lib.ListN.{length, getD, set}
 use Rattle.model.specs.Limits.{jobsMost}
 use Rattle.model.specs.Dispatcher as model
-use Rattle.model.specs.Dispatcher.{Call, admit, cancel, Served, Serves, WholeLists}
+use Rattle.model.specs.Dispatcher.{emptyDispatcher, Call, admit, cancel, Served, Serves, WholeLists}
 use Rattle.model.proofs.Dispatcher.{whole-lists}
 use Rattle.queue.specs.declared.Queue.{Queue}
 use Rattle.queue.specs.Bridge.{emptyQueue, queueIn}
@@ -18,7 +18,7 @@ use Rattle.last_turn.specs.declared.Numbers.{Numbers}
 use Rattle.last_turn.specs.Answer as last
 use Rattle.last_turn.specs.Answer.{zeros}
 use Rattle.held_jobs.specs.declared.Boards.{Boards}
-use Rattle.held_jobs.specs.Held.{Held, deskOf, boardsAt, raceAt, HoldsJob, lent}
+use Rattle.held_jobs.specs.Held.{Held, dispatcherOf, boardsAt, raceAt, HoldsJob, lent}
 use Rattle.admission.specs.declared.Part.{Part}
 use Rattle.admission.specs.declared.Entry.{Entry}
 use Rattle.admission.specs.Admission.{AdmitIn}
@@ -27,24 +27,29 @@ use Rattle.head_turn.specs.Serving.{TurnIn}
 use Rattle.cancellation.specs.declared.Left.{Left}
 use Rattle.cancellation.specs.Cancelling.{LeavesIn}
 use Rattle.dispatcher.specs.declared.Dispatcher.{Dispatcher}
-use Rattle.dispatcher.specs.Bridge.{heldIn, deskIn, Holds, emptied, TurnOf, CancelOf, AdmitOf}
+use Rattle.dispatcher.specs.Bridge.{heldIn, dispatcherIn, Holds, emptied, TurnOf, CancelOf, AdmitOf}
+
+-- with an empty queue and no number given out it is the model's empty dispatcher
+pub empty-state : (q : Queue) → q ≡ emptyQueue → dispatcherIn (record { queue = q; given = 0; races = emptied .races; boards = emptied .boards }) ≡ emptyDispatcher
+empty-state q e = ap (λ (p : Queue). record { queue = queueIn p; given = 0 }) e ∙ ap (λ (q : List model.Job). record { queue = q; given = 0 }) empty-none
 
 -- the theorem over whole lists of calls
-pub whole : WholeLists deskIn Holds emptied
-whole = whole-lists deskIn Holds emptied (ap (λ (q : List model.Job). record { queue = q; given = 0 }) empty-none)
+pub whole : WholeLists dispatcherIn Holds emptied
+whole = whole-lists dispatcherIn Holds emptied (empty-state emptyQueue refl)
 
 pub empty-as : (q : Queue) → q ≡ emptyQueue → record { queue = q; given = 0; races = emptied .races; boards = emptied .boards } ≡ emptied
 empty-as q e = ap (λ (p : Queue). record { queue = p; given = 0; races = emptied .races; boards = emptied .boards }) e
 
 -- what is so of a dispatcher's fields is so of the dispatcher
 serves-as : (d : Dispatcher) (c : Call) (exit traceExit : List ℕ) (r : Served Dispatcher)
-    → Serves deskOf HoldsJob (heldIn d) c exit traceExit (record { told = r .told; next = heldIn (r .next) }) → Serves deskIn Holds d c exit traceExit r
+    → Serves dispatcherOf HoldsJob (heldIn d) c exit traceExit (record { told = r .told; next = heldIn (r .next) }) → Serves dispatcherIn Holds d c exit traceExit r
 serves-as d c exit traceExit r s =
     record {
       told = s .told;
       next = s .next;
       leftAlone = λ u. ap (λ (h : Held). record { queue = h .queue; given = h .given; races = h .races; boards = h .boards }) (s .leftAlone u);
       wordsLeft = s .wordsLeft;
+      freeOrLocked = s .freeOrLocked;
       traceKept = s .traceKept;
       traceLocked = s .traceLocked;
       admits = s .admits;
@@ -80,7 +85,7 @@ module _ (d : Dispatcher) (place : ℕ) (raceElse : Race) (boardsElse : Boards) 
       let race : getD (d .races) place raceElse ≡ raceAt (heldIn d) place = race-read (heldIn d) place raceElse races h in
       let own : getD (d .boards) place boardsElse ≡ getD (d .boards) place (record { on = [] }) = there (d .boards) place boardsElse _ (omega arith) in
       serves-as d _ exit [] _
-      (subst⁻¹ (λ (a : Numbers). Serves deskOf HoldsJob (heldIn d) (admit (lent sheets lengths codes words)) exit [] (record { told = record { word = r .word; one = r .one; two = r .two; answer = last.numbersIn a }; next = record { queue = r .queue; given = r .given; races = set (d .races) place (r .race); boards = set (d .boards) place (r .boards) } })) e
+      (subst⁻¹ (λ (a : Numbers). Serves dispatcherOf HoldsJob (heldIn d) (admit (lent sheets lengths codes words)) exit [] (record { told = record { word = r .word; one = r .one; two = r .two; answer = last.numbersIn a }; next = record { queue = r .queue; given = r .given; races = set (d .races) place (r .race); boards = set (d .boards) place (r .boards) } })) e
       (A .serves (heldIn d)
       (record {
         is = i ∙ ap (λ (x : Race). record { queue = d .queue; given = d .given; race = x; boards = getD (d .boards) place boardsElse }) race
@@ -108,6 +113,6 @@ cancel-as d n words exit r a L e =
     record {
       serves = λ sheets lengths codes.
           serves-as d _ exit [] _
-          (subst⁻¹ (λ (a : Numbers). Serves deskOf HoldsJob (heldIn d) (cancel n (lent sheets lengths codes words)) exit [] (record { told = record { word = r .word; one = r .one; two = 0; answer = last.numbersIn a }; next = record { queue = r .queue; given = d .given; races = d .races; boards = d .boards } })) e
+          (subst⁻¹ (λ (a : Numbers). Serves dispatcherOf HoldsJob (heldIn d) (cancel n (lent sheets lengths codes words)) exit [] (record { told = record { word = r .word; one = r .one; two = 0; answer = last.numbersIn a }; next = record { queue = r .queue; given = d .given; races = d .races; boards = d .boards } })) e
           (L .serves (heldIn d) refl sheets lengths codes));
     }

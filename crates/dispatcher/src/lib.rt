@@ -1,7 +1,7 @@
 // Several makers at the counter: up to eight jobs, each with its place and its words, and a turn at a time for the head of their queue.
 ghost use mathlib.Core.Path.{_≡_};
-ghost use Rattle.model.specs.Dispatcher.{WholeLists};
-ghost use Rattle.dispatcher.specs.Bridge.{deskIn, Holds, emptied, answerIn, AdmitOf, TurnOf, CancelOf};
+ghost use Rattle.model.specs.Dispatcher.{emptyDispatcher, WholeLists};
+ghost use Rattle.dispatcher.specs.Bridge.{dispatcherIn, Holds, emptied, answerIn, AdmitOf, TurnOf, CancelOf};
 use admission::Part;
 pub use held_jobs::Boards;
 use last_turn::Numbers;
@@ -33,6 +33,7 @@ impl Dispatcher {
     // No job is held, and no number was given out.
     pub fn empty() -> Self
         ensures { λ r. ⌜ r ≡ emptied ⌝ }
+        ensures { λ r. ⌜ dispatcherIn r ≡ emptyDispatcher ⌝ }
     {
         Dispatcher {
             queue: Queue::empty(),
@@ -56,7 +57,7 @@ impl Dispatcher {
         codes: &[u32],
         words: &mut [u64],
     ) -> DispatcherAnswer
-        ensures { λ r. ⌜ AdmitOf self (now (sheets .entry)) (now (lengths .entry)) (now (codes .entry)) (now (words .entry)) (now (words .exit)) (answerIn r) × WholeLists deskIn Holds emptied ⌝ }
+        ensures { λ r. ⌜ AdmitOf self (now (sheets .entry)) (now (lengths .entry)) (now (codes .entry)) (now (words .entry)) (now (words .exit)) (answerIn r) × WholeLists dispatcherIn Holds emptied ⌝ }
     {
         let queue = self.queue;
         let mut boards = self.boards;
@@ -88,7 +89,7 @@ impl Dispatcher {
     // A turn takes the head of the queue. It reads no sheet and no code. The parts that it may change are taken out and put back, since a value is
     // copied whole wherever it goes.
     pub fn turn(self, words: &mut [u64], trace: &mut [u8]) -> DispatcherAnswer
-        ensures { λ r. ⌜ TurnOf self (now (words .entry)) (now (trace .entry)) (now (words .exit)) (now (trace .exit)) (answerIn r) × WholeLists deskIn Holds emptied ⌝ }
+        ensures { λ r. ⌜ TurnOf self (now (words .entry)) (now (trace .entry)) (now (words .exit)) (now (trace .exit)) (answerIn r) × WholeLists dispatcherIn Holds emptied ⌝ }
     {
         let queue = self.queue;
         let boards = self.boards;
@@ -117,7 +118,7 @@ impl Dispatcher {
 
     // The job with the number leaves. No sheet and no code is read.
     pub fn cancel(self, number: u32, words: &mut [u64]) -> DispatcherAnswer
-        ensures { λ r. ⌜ CancelOf self number (now (words .entry)) (now (words .exit)) (answerIn r) × WholeLists deskIn Holds emptied ⌝ }
+        ensures { λ r. ⌜ CancelOf self number (now (words .entry)) (now (words .exit)) (answerIn r) × WholeLists dispatcherIn Holds emptied ⌝ }
     {
         let queue = self.queue;
         let races = self.races;

@@ -1,6 +1,6 @@
 -- What the columns and the table lent hold, the rows being those of some text: each row stands where the walk comes to it, each
 -- sheet called starts where the table says, and the rows are few. Assumes nothing.
-use Prim.Native.Nat.{ℕ, zero, suc, _+_, _-_, _<_, _≤_}
+use Prim.Native.Nat.{ℕ, zero, suc, _+_, _<_, _≤_}
 use native.Mathlib.Decide.{ℕ-discrete}
 use native.Mathlib.Omega.{arith}
 use mathlib.Core.Path.{_≡_, refl, _∙_, ap, subst}
@@ -16,7 +16,7 @@ use Rattle.model.specs.Bounded.{among}
 use Rattle.model.specs.Refusal.{ok, refusal, absentRefusal}
 use Rattle.model.specs.Text.{Line, Columns}
 use Rattle.model.specs.Rows.{Row, sheet, message, order, block, call, choice}
-use Rattle.model.specs.Place.{Place, outside, withMessage, moved, lineOf, judged, opens, strayCall, complete}
+use Rattle.model.specs.Place.{Place, outside, withMessage, moved, lineOf, judged, opens, absentCall, complete}
 use Rattle.model.specs.Place.{rowsFrom as rowsRead}
 use Rattle.model.specs.Expansion.{startOf, taken}
 use Rattle.model.proofs.Refusal.{not-refused, passed, cond-ok}
@@ -84,8 +84,8 @@ abbrev AllPresent : List ℕ → List Row → Type 0
 AllPresent opened [] = Unit {0}
 AllPresent opened (r ∷ rs) = Present opened r × AllPresent opened rs
 
-all-present : (opened : List ℕ) (i : ℕ) (rs : List Row) → AllKnown rs → strayCall opened i rs ≡ none → AllPresent opened rs
-unfolding strayCall
+all-present : (opened : List ℕ) (i : ℕ) (rs : List Row) → AllKnown rs → absentCall opened i rs ≡ none → AllPresent opened rs
+unfolding absentCall
 all-present opened i [] k e = tt
 all-present opened i (sheet n ∷ rs) k e = (tt, all-present opened (suc i) rs (k .1) e)
 all-present opened i (message a b ∷ rs) k e = (tt, all-present opened (suc i) rs (k .1) e)
@@ -93,15 +93,15 @@ all-present opened i (order x y ∷ rs) k e = (tt, all-present opened (suc i) rs
 all-present opened i (block ∷ rs) k e = (tt, all-present opened (suc i) rs (k .1) e)
 all-present opened i (call n ∷ rs) k e = go (among n opened) refl e (all-present opened (suc i) rs (k .1))
   where
-    go : (b : Bool) → among n opened ≡ b → cond b (strayCall opened (suc i) rs) (some (lineOf i)) ≡ none
-        → (strayCall opened (suc i) rs ≡ none → AllPresent opened rs)
+    go : (b : Bool) → among n opened ≡ b → cond b (absentCall opened (suc i) rs) (some (lineOf i)) ≡ none
+        → (absentCall opened (suc i) rs ≡ none → AllPresent opened rs)
         → Present opened (call n) × AllPresent opened rs
     go true t e on = ((k .0, t), on e)
     go false t e on = let z : _≡_ {A = ℕ} 0 1 = cc in absurd (omega arith)
 all-present opened i (choice m n ∷ rs) k e = go (among m opened && among n opened) refl e (all-present opened (suc i) rs (k .1))
   where
-    go : (b : Bool) → (among m opened && among n opened) ≡ b → cond b (strayCall opened (suc i) rs) (some (lineOf i)) ≡ none
-        → (strayCall opened (suc i) rs ≡ none → AllPresent opened rs)
+    go : (b : Bool) → (among m opened && among n opened) ≡ b → cond b (absentCall opened (suc i) rs) (some (lineOf i)) ≡ none
+        → (absentCall opened (suc i) rs ≡ none → AllPresent opened rs)
         → Present opened (choice m n) × AllPresent opened rs
     go true t e on =
         (((k .0 .0, and-left (among m opened) (among n opened) t), (k .0 .1, and-right (among m opened) (among n opened) t)), on e)
@@ -157,9 +157,9 @@ record Whole (rs : List Row) : Type 0 where
 complete-whole : (choices : Bool) (c : Columns) (ls : List Line) (rs : List Row) → rowsRead choices c 0 outside ls ≡ ok rs → complete rs ≡ ok rs → Whole rs
 unfolding complete
 complete-whole choices c ls rs e f =
-    let t = cond-ok (among 0 (opens rs)) _ _ _ rs f in go (strayCall (opens rs) 0 rs) refl (t .0) (t .1)
+    let t = cond-ok (among 0 (opens rs)) _ _ _ rs f in go (absentCall (opens rs) 0 rs) refl (t .0) (t .1)
   where
-    go : (o : Option ℕ) → strayCall (opens rs) 0 rs ≡ o → among 0 (opens rs) ≡ true
+    go : (o : Option ℕ) → absentCall (opens rs) 0 rs ≡ o → among 0 (opens rs) ≡ true
         → elim o [ none ↦ ok rs | some line ↦ refusal absentRefusal line ] ≡ ok rs
         → Whole rs
     go none s b h =

@@ -5,7 +5,7 @@ use next_block::Reached;
 use walk::Walk;
 use walk::Walked;
 ghost use mathlib.Core.Path.{_≡_};
-ghost use Prim.Native.Nat.{_*_, _≤_};
+ghost use Prim.Native.Nat.{_*_};
 ghost use lib.ListN.{length};
 ghost use Rattle.model.specs.Limits.{messagesMost};
 ghost use Rattle.model.specs.Answer.{expandedOf};

@@ -13,7 +13,7 @@ use lib.Dec.{eqb}
 use lib.ListN.{getD}
 use lib.Pow.{pow-lt}
 use borrow.Author.Tests.{eqb-true, eq-eqb}
-use Rattle.model.specs.Bounded.{every, lowest}
+use Rattle.model.specs.Bounded.{every}
 use Rattle.model.proofs.Bounded.{and-left, and-both, which, not-both, not-is-true, every-at, every-from, lowest-hit, lowest-nowhere}
 use Rattle.relation.specs.Width.{width, wordBits}
 use Rattle.relation.specs.Rows.{has, holds}

@@ -1,17 +1,17 @@
 -- What each return of a turn is to show, from what led there. Assumes nothing.
-use mathlib.Core.Path.{_≡_, refl, sym, _∙_, ap, subst, subst⁻¹}
+use mathlib.Core.Path.{_≡_, refl, sym, _∙_, ap, subst⁻¹}
 use mathlib.Core.Bool.{Bool, true, false}
 use mathlib.Core.List.{List, [], _∷_}
 use mathlib.Core.Option.{none, some}
 use Prim.Native.Nat.{ℕ, _-_, _%_, _<_, _≤_}
 use native.Mathlib.Omega.{arith}
 use borrow.Rule.Slice.PartMut.{midOf}
-use lib.ListN.{length, getD, set}
+use lib.ListN.{length, set}
 use lib.Seq.{set-getD}
 use Rattle.model.specs.Limits.{traceLeast, jobsMost, jobWordsLeast}
 use Rattle.model.specs.Refusal.{benchRefusal}
 use Rattle.model.specs.Dispatcher as model
-use Rattle.model.specs.Dispatcher.{isLast, turned, turn, idle, idleWord, takenWord, answeredWord, refusedWord, touchesNothing, leavesAll, Served, Serves}
+use Rattle.model.specs.Dispatcher.{isLast, turned, idle, idleWord, takenWord, answeredWord, refusedWord, touchesNothing, leavesAll, Served}
 use Rattle.queue.specs.declared.Job.{Job}
 use Rattle.queue.specs.declared.Queue.{Queue}
 use Rattle.queue.specs.declared.Taken.{Taken}
@@ -27,7 +27,7 @@ use Rattle.share.specs.Search.{Looks}
 use Rattle.last_turn.specs.declared.Numbers.{Numbers}
 use Rattle.last_turn.specs.Answer as last
 use Rattle.last_turn.specs.Answer.{zeros, Concludes}
-use Rattle.held_jobs.specs.Held.{Held, deskOf, boardsAt, raceAt, HoldsJob, lent, toldWith}
+use Rattle.held_jobs.specs.Held.{Held, dispatcherOf, boardsAt, lent, toldWith}
 use Rattle.held_jobs.proofs.Cases.{turn-words, turn-trace, turn-idle}
 use Rattle.held_jobs.proofs.Serving.{untouched, cleared}
 use Rattle.head_turn.specs.declared.Turn.{Turn}
@@ -37,16 +37,16 @@ use Rattle.head_turn.proofs.Turning.{taken-serves, answered-serves}
 -- ---- of one dispatcher, whatever sheets and codes it is lent
 module _ (d : Held) (words trace : List ℕ) (r : Served Held) where
   pub turn-short-words : length words < jobWordsLeast → r ≡ toldWith refusedWord benchRefusal 0 d → Turns d words trace words trace r
-  turn-short-words h e sheets lengths codes = untouched d _ benchRefusal 0 r (turn-words (deskOf d) (lent sheets lengths codes words) trace h) (omega arith) e
+  turn-short-words h e sheets lengths codes = untouched d _ benchRefusal 0 r (turn-words (dispatcherOf d) (lent sheets lengths codes words) trace h) (omega arith) e
 
   pub turn-short-trace : length trace < traceLeast → r ≡ toldWith refusedWord benchRefusal 0 d → Turns d words trace words trace r
-  turn-short-trace h e sheets lengths codes = untouched d _ benchRefusal 0 r (turn-trace (deskOf d) (lent sheets lengths codes words) trace h) (omega arith) e
+  turn-short-trace h e sheets lengths codes = untouched d _ benchRefusal 0 r (turn-trace (dispatcherOf d) (lent sheets lengths codes words) trace h) (omega arith) e
 
   pub turn-idles : (exit : List ℕ) (h : Head) → headIn h ≡ headOf (queueIn (d .queue)) → h ≡ head.Nothing → jobWordsLeast ≤ length words → traceLeast ≤ length trace
       → FreeCleared (queueIn (d .queue)) words exit → r ≡ toldWith idleWord 0 0 d → Turns d words trace exit trace r
   unfolding touchesNothing leavesAll
   turn-idles exit h found i w t F e sheets lengths codes =
-      cleared d _ idle exit r (turn-idle (deskOf d) (lent sheets lengths codes words) trace w t (no-head (queueIn (d .queue)) (sym found ∙ ap headIn i))) refl refl e F
+      cleared d _ idle exit r (turn-idle (dispatcherOf d) (lent sheets lengths codes words) trace w t (no-head (queueIn (d .queue)) (sym found ∙ ap headIn i))) refl refl e F
     where
       no-head : (js : List model.Job) → headOf js ≡ none → js ≡ []
       no-head [] e = refl

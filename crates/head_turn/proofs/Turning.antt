@@ -1,27 +1,24 @@
 -- A turn of the head: unanswered it goes behind the last, answered it leaves. Assumes nothing.
 use mathlib.Core.Path.{_≡_, refl, sym, _∙_, ap, subst, subst⁻¹}
-use mathlib.Core.Logic.{_⊎_, inl, inr, ⊎-elim}
-use mathlib.Core.Bool.{Bool, true, false, not}
+use mathlib.Core.Logic.{inl, inr, ⊎-elim}
+use mathlib.Core.Bool.{true, false}
 use mathlib.Core.List.{List, [], _∷_, _++_}
-use mathlib.Core.Option.{Option, none, some}
-use Prim.Native.Nat.{ℕ, zero, suc, _-_, _*_, _%_, _<_, _≤_}
-use native.Mathlib.Nat.{not-suc-le-zero, le-of-suc-le-suc}
+use mathlib.Core.Option.{some}
+use Prim.Native.Nat.{ℕ, _-_, _*_, _%_, _≤_}
 use native.Mathlib.Omega.{arith}
 use borrow.Author.Tests.{leb-true, leb-false}
-use lib.ListN.{length, getD, set, drop}
+use lib.ListN.{length, set, drop}
 use lib.Seq.{getD-set-same, getD-set-other}
 use borrow.Rule.Slice.PartMut.{midOf}
-use Rattle.model.specs.Limits.{messagesMost, traceLeast, jobsMost, jobWordsLeast}
+use Rattle.model.specs.Limits.{traceLeast, jobsMost, jobWordsLeast}
 use Rattle.model.specs.Order.{Scenario}
 use Rattle.model.specs.Race.{raceRuleOf, lowestRace}
-use Rattle.model.specs.Answer.{Numbers, lockedWord}
+use Rattle.model.specs.Answer.{Numbers}
 use Rattle.model.specs.Dispatcher as model
-use Rattle.model.specs.Dispatcher.{Lent, placeWords, Desk, isFree, isLast, turned, Call, admit, turn, lentTo, taken, answered, outcomeOf, behind, noAnswer, toldAs, takenWord, answeredWord, touchesNothing, leavesAll, WordsLeft, Served, Member, Orderly, AsTheCheck, Serves}
+use Rattle.model.specs.Dispatcher.{Lent, placeWords, DispatcherState, isLast, turned, Call, turn, taken, answered, outcomeOf, behind, noAnswer, toldAs, takenWord, answeredWord, touchesNothing, leavesAll, WordsLeft, Served, Member, Orderly, AsTheCheck, Serves}
 use Rattle.model.proofs.Bounded.{not-both}
 use Rattle.model.proofs.CallCases.{again}
-use Rattle.relation.specs.Width.{wordBits, width}
 use Rattle.relation.specs.Scenario.{scenarioIn}
-use Rattle.scenario.specs.Contract.{Fit}
 use Rattle.queue.specs.declared.Job.{Job}
 use Rattle.queue.specs.declared.Queue.{Queue}
 use Rattle.queue.specs.Bridge.{jobIn, queueIn, headOf}
@@ -31,7 +28,7 @@ use Rattle.share.proofs.Turns.{searched-all}
 use Rattle.places.specs.Words.{FreeCleared}
 use Rattle.places.proofs.Parts.{from, to, part-is}
 use Rattle.last_turn.specs.Answer.{Concludes}
-use Rattle.held_jobs.specs.Held.{Held, deskOf, boardsAt, raceAt, HoldsIn, HoldsJob}
+use Rattle.held_jobs.specs.Held.{Held, dispatcherOf, boardsAt, raceAt, HoldsIn, HoldsJob}
 use Rattle.held_jobs.proofs.Members.{member-last, one-job, place-below, place-apart, place-held}
 use Rattle.held_jobs.proofs.Cases.{Case, turn-taken, turn-answered}
 use Rattle.held_jobs.proofs.Serving.{words-cleared, holds-same, words-same}
@@ -60,9 +57,9 @@ module _ (d : Held) (job : Job) (words : List ℕ) (head : headOf (queueIn (d .q
   in-queue : (k : model.Job) → Member k js → Member k (queueIn (d .queue))
   in-queue k m = subst⁻¹ (Member k) queue-is (inr m)
 
-  module _ (o : Orderly (deskOf d)) where
+  module _ (o : Orderly (dispatcherOf d)) where
     place-is : place ≡ job .place
-    place-is = omega (arith, place-below (deskOf d) o J head-in)
+    place-is = omega (arith, place-below (dispatcherOf d) o J head-in)
 
   -- the words, the boards and the race of the head's place, as the code reads them
   abbrev pub part : List ℕ
@@ -74,7 +71,7 @@ module _ (d : Held) (job : Job) (words : List ℕ) (head : headOf (queueIn (d .q
   abbrev pub on : List ℕ
   on = boardsAt d place
 
-  module _ (o : Orderly (deskOf d)) where
+  module _ (o : Orderly (dispatcherOf d)) where
     part-of : part ≡ placeWords (job .place) words
     part-of = part-is words place ∙ ap (λ p. placeWords p words) (place-is o)
 
@@ -97,7 +94,7 @@ module _ (d : Held) (job : Job) (words : List ℕ) (head : headOf (queueIn (d .q
     next = record { queue = left; given = d .given; races = set (d .races) place found; boards = d .boards }
 
     -- the head's search goes one turn on
-    holds-on : (o : Orderly (deskOf d)) (S : Scenario) → HoldsJob d (placeWords (job .place) words) J S → placeWords (job .place) exit ≡ placeWords (job .place) words
+    holds-on : (o : Orderly (dispatcherOf d)) (S : Scenario) → HoldsJob d (placeWords (job .place) words) J S → placeWords (job .place) exit ≡ placeWords (job .place) words
         → HoldsJob next (placeWords (job .place) exit) (again J) S
     unfolding isLast
     holds-on o S H w =
@@ -121,53 +118,54 @@ module _ (d : Held) (job : Job) (words : List ℕ) (head : headOf (queueIn (d .q
       abbrev c : Call
       c = turn l trace
 
-      C : Case (deskOf d) c (taken (job .number)) (record { queue = js ++ (again J ∷ []); given = d .given })
-      C = turn-taken (deskOf d) l trace (rw same long) t J js queue-is early
+      C : Case (dispatcherOf d) c (taken (job .number)) (record { queue = js ++ (again J ∷ []); given = d .given })
+      C = turn-taken (dispatcherOf d) l trace (rw same long) t J js queue-is early
 
-      behind-is : deskOf next ≡ behind (deskOf d) c
+      behind-is : dispatcherOf next ≡ behind (dispatcherOf d) c
       unfolding turned
       behind-is = ap (λ (q : List model.Job). record { queue = q; given = d .given }) (isLeft ∙ ap turned queue-is ∙ rw early) ∙ sym (C .leaves)
 
-      W : WordsLeft (deskOf d) c exit
+      W : WordsLeft (dispatcherOf d) c exit
       unfolding touchesNothing
       W =
-          words-cleared (deskOf d) c words exit (ap touchesNothing (C .outcome))
-          (subst (λ (q : Desk). FreeCleared (q .queue) words exit) behind-is F) (ap length (sym same)) (ap (drop jobWordsLeast) (sym same)) (λ p h f. ap (placeWords p) (sym same))
+          words-cleared (dispatcherOf d) c words exit (ap touchesNothing (C .outcome))
+          (subst (λ (q : DispatcherState). FreeCleared (q .queue) words exit) behind-is F) (ap length (sym same)) (ap (drop jobWordsLeast) (sym same)) (λ p h f. ap (placeWords p) (sym same))
 
-      keeps : Orderly (deskOf d) → (j k : model.Job) (S : Scenario) → Member j (deskOf d .queue) → Member k (behind (deskOf d) c .queue)
+      keeps : Orderly (dispatcherOf d) → (j k : model.Job) (S : Scenario) → Member j (dispatcherOf d .queue) → Member k (behind (dispatcherOf d) c .queue)
           → j .number ≡ k .number → HoldsJob d (placeWords (j .place) (l .words)) j S → HoldsJob next (placeWords (k .place) exit) k S
       keeps o j k S a b m H =
           ⊎-elim
           (λ u.
-          let i : j ≡ k = one-job (deskOf d) o j k a (in-queue k u) m in
-          let apart : (k .place ≡ place → ⊥) = λ e. place-apart (deskOf d) o J k js queue-is u (e ∙ place-is o) in
+          let i : j ≡ k = one-job (dispatcherOf d) o j k a (in-queue k u) m in
+          let apart : (k .place ≡ place → ⊥) = λ e. place-apart (dispatcherOf d) o J k js queue-is u (e ∙ place-is o) in
           holds-same d next (placeWords (k .place) (l .words)) (placeWords (k .place) exit) k S refl
           (getD-set-other (d .races) place (k .place) found _ apart)
-          (words-same (deskOf d) c exit k W o (in-queue k u) b)
+          (words-same (dispatcherOf d) c exit k W o (in-queue k u) b)
           (subst (λ (h : model.Job). HoldsJob d (placeWords (h .place) (l .words)) h S) i H))
           (λ u.
           let number : j .number ≡ J .number = m ∙ ap (λ (h : model.Job). h .number) u in
-          let i : j ≡ J = one-job (deskOf d) o j J a head-in number in
-          let held : Member (again J) (behind (deskOf d) c .queue) = subst (λ (h : model.Job). Member h (behind (deskOf d) c .queue)) u b in
+          let i : j ≡ J = one-job (dispatcherOf d) o j J a head-in number in
+          let held : Member (again J) (behind (dispatcherOf d) c .queue) = subst (λ (h : model.Job). Member h (behind (dispatcherOf d) c .queue)) u b in
           let kept : placeWords (job .place) exit ≡ placeWords (job .place) (l .words) =
-          W .heldKept (job .place) (place-below (deskOf d) o J head-in) (place-held (deskOf d) J head-in) (place-held (behind (deskOf d) c) (again J) held) in
+          W .heldKept (job .place) (place-below (dispatcherOf d) o J head-in) (place-held (dispatcherOf d) J head-in) (place-held (behind (dispatcherOf d) c) (again J) held) in
           subst⁻¹ (λ (h : model.Job). HoldsJob next (placeWords (h .place) exit) h S) u
           (holds-on o S (subst (λ (w : List ℕ). HoldsJob d (placeWords (job .place) w) J S) same (subst (λ (h : model.Job). HoldsJob d (placeWords (h .place) (l .words)) h S) i H))
           (kept ∙ ap (placeWords (job .place)) same)))
-          (member-last k (again J) js (subst (λ (q : Desk). Member k (q .queue)) (C .leaves) b))
+          (member-last k (again J) js (subst (λ (q : DispatcherState). Member k (q .queue)) (C .leaves) b))
 
       pub taken-serves : (r : Served Held) → r ≡ record { told = record { word = takenWord; one = job .number; two = 0; answer = noAnswer }; next = next }
-          → Serves deskOf HoldsJob d c exit trace r
+          → Serves dispatcherOf HoldsJob d c exit trace r
       unfolding leavesAll
       taken-serves r e =
-          subst⁻¹ (λ (s : Served Held). Serves deskOf HoldsJob d c exit trace s) e
+          subst⁻¹ (λ (s : Served Held). Serves dispatcherOf HoldsJob d c exit trace s) e
           (record {
             told = ap (λ u. toldAs u noAnswer) (sym (C .outcome));
             next = behind-is;
-            leftAlone = λ u. not-both (leavesAll (outcomeOf (deskOf d) c)) u (ap leavesAll (C .outcome));
+            leftAlone = λ u. not-both (leavesAll (outcomeOf (dispatcherOf d) c)) u (ap leavesAll (C .outcome));
             wordsLeft = W;
+            freeOrLocked = inl refl;
             traceKept = λ n. refl;
-            traceLocked = λ u. (refl, refl);
+            traceLocked = λ u. absurd (omega (arith, u));
             admits = λ m p S i f a. let z : _≡_ {A = ℕ} 0 1 = cc in absurd (omega arith);
             keeps = keeps;
             answers = λ o j ks S q i H.
@@ -183,7 +181,7 @@ module _ (d : Held) (job : Job) (words : List ℕ) (head : headOf (queueIn (d .q
     rest = record { queue = left; given = d .given; races = d .races; boards = d .boards }
 
     -- a job at its last turn has looked everywhere
-    as-check : Orderly (deskOf d) → (S : Scenario) → HoldsJob d (placeWords (job .place) words) J S → AsTheCheck S (job .code) trace traceExit answer
+    as-check : Orderly (dispatcherOf d) → (S : Scenario) → HoldsJob d (placeWords (job .place) words) J S → AsTheCheck S (job .code) trace traceExit answer
     unfolding isLast
     as-check o S H =
         let I = holds-read o S H in
@@ -199,37 +197,38 @@ module _ (d : Held) (job : Job) (words : List ℕ) (head : headOf (queueIn (d .q
       abbrev last : Call
       last = turn l trace
 
-      D : Case (deskOf d) last (answered (job .number)) (record { queue = js; given = d .given })
-      D = turn-answered (deskOf d) l trace (rw same long) t J js queue-is late
+      D : Case (dispatcherOf d) last (answered (job .number)) (record { queue = js; given = d .given })
+      D = turn-answered (dispatcherOf d) l trace (rw same long) t J js queue-is late
 
-      rest-is : deskOf rest ≡ behind (deskOf d) last
+      rest-is : dispatcherOf rest ≡ behind (dispatcherOf d) last
       unfolding turned
       rest-is = ap (λ (q : List model.Job). record { queue = q; given = d .given }) (isLeft ∙ ap turned queue-is ∙ rw late) ∙ sym (D .leaves)
 
-      lasting : WordsLeft (deskOf d) last exit
+      lasting : WordsLeft (dispatcherOf d) last exit
       unfolding touchesNothing
       lasting =
-          words-cleared (deskOf d) last words exit (ap touchesNothing (D .outcome))
-          (subst (λ (q : Desk). FreeCleared (q .queue) words exit) rest-is F) (ap length (sym same)) (ap (drop jobWordsLeast) (sym same)) (λ p h f. ap (placeWords p) (sym same))
+          words-cleared (dispatcherOf d) last words exit (ap touchesNothing (D .outcome))
+          (subst (λ (q : DispatcherState). FreeCleared (q .queue) words exit) rest-is F) (ap length (sym same)) (ap (drop jobWordsLeast) (sym same)) (λ p h f. ap (placeWords p) (sym same))
 
       pub answered-serves : (r : Served Held) → r ≡ record { told = record { word = answeredWord; one = job .number; two = 0; answer = answer }; next = rest }
-          → Serves deskOf HoldsJob d last exit traceExit r
+          → Serves dispatcherOf HoldsJob d last exit traceExit r
       unfolding leavesAll
       answered-serves r e =
-          subst⁻¹ (λ (s : Served Held). Serves deskOf HoldsJob d last exit traceExit s) e
+          subst⁻¹ (λ (s : Served Held). Serves dispatcherOf HoldsJob d last exit traceExit s) e
           (record {
             told = ap (λ u. toldAs u answer) (sym (D .outcome));
             next = rest-is;
-            leftAlone = λ u. not-both (leavesAll (outcomeOf (deskOf d) last)) u (ap leavesAll (D .outcome));
+            leftAlone = λ u. not-both (leavesAll (outcomeOf (dispatcherOf d) last)) u (ap leavesAll (D .outcome));
             wordsLeft = lasting;
+            freeOrLocked = K .freeOrLocked;
             traceKept = K .kept;
             traceLocked = K .locked;
             admits = λ m p S i f a. let z : _≡_ {A = ℕ} 0 1 = cc in absurd (omega arith);
             keeps = λ o j k S a b m H.
-                let u : Member k js = subst (λ (q : Desk). Member k (q .queue)) (D .leaves) b in
-                let i : j ≡ k = one-job (deskOf d) o j k a (in-queue k u) m in
+                let u : Member k js = subst (λ (q : DispatcherState). Member k (q .queue)) (D .leaves) b in
+                let i : j ≡ k = one-job (dispatcherOf d) o j k a (in-queue k u) m in
                 holds-same d rest (placeWords (k .place) (l .words)) (placeWords (k .place) exit) k S refl refl
-                (words-same (deskOf d) last exit k lasting o (in-queue k u) b)
+                (words-same (dispatcherOf d) last exit k lasting o (in-queue k u) b)
                 (subst (λ (h : model.Job). HoldsJob d (placeWords (h .place) (l .words)) h S) i H);
             answers = λ o j ks S q i H.
                 let two : J ∷ js ≡ j ∷ ks = sym queue-is ∙ q in

@@ -8,7 +8,7 @@ use Rattle.model.specs.Dispatcher.{turn, Served, Serves}
 use Rattle.queue.specs.declared.Queue.{Queue}
 use Rattle.share.specs.declared.Race.{Race}
 use Rattle.last_turn.specs.Answer.{numbersIn}
-use Rattle.held_jobs.specs.Held.{Held, deskOf, boardsAt, raceAt, HoldsJob, lent}
+use Rattle.held_jobs.specs.Held.{Held, dispatcherOf, boardsAt, raceAt, HoldsJob, lent}
 use Rattle.head_turn.specs.declared.Turn.{Turn}
 
 -- a dispatcher with this queue, and with this race and these boards in the place
@@ -28,7 +28,7 @@ turnedBy d place r =
 
 -- a turn of one dispatcher, whatever sheets and codes it is lent, and as it is of every one with these parts
 abbrev pub Turns : Held → List ℕ → List ℕ → List ℕ → List ℕ → Served Held → Type 0
-Turns d words trace exit traceExit r = (sheets lengths codes : List ℕ) → Serves deskOf HoldsJob d (turn (lent sheets lengths codes words) trace) exit traceExit r
+Turns d words trace exit traceExit r = (sheets lengths codes : List ℕ) → Serves dispatcherOf HoldsJob d (turn (lent sheets lengths codes words) trace) exit traceExit r
 
 pub record TurnIn (queue : Queue) (place : ℕ) (race : Race) (on words trace exit traceExit : List ℕ) (r : Turn) : Type 0 where
   pub serves : (d : Held) → Parts d queue place race on → Turns d words trace exit traceExit (turnedBy d place r)

@@ -1,27 +1,26 @@
 -- What each call comes to, from the facts that lead there. Assumes nothing.
-use mathlib.Core.Path.{_≡_, refl, sym, _∙_, ap}
-use mathlib.Core.Bool.{Bool, true, false, cond, _||_, or-true}
+use mathlib.Core.Path.{_≡_, sym, _∙_, ap}
+use mathlib.Core.Bool.{true, false, or-true}
 use mathlib.Core.List.{List, [], _∷_, _++_}
-use mathlib.Core.Option.{Option, none, some}
+use mathlib.Core.Option.{none, some}
 use Prim.Native.Nat.{ℕ, _<_, _≤_}
 use borrow.Author.Tests.{lt-ltb, le-ltb}
-use lib.Dec.{ltb}
 use lib.ListN.{length}
 use Rattle.model.specs.Limits.{channels, textMost, traceLeast, jobNumbers, jobWordsLeast}
 use Rattle.model.specs.Bounded.{among}
-use Rattle.model.specs.Refusal.{Out, ok, refusal, channelRefusal, benchRefusal, lengthRefusal, jobsRefusal, heldRefusal}
+use Rattle.model.specs.Refusal.{ok, refusal, channelRefusal, benchRefusal, lengthRefusal, jobsRefusal, heldRefusal}
 use Rattle.model.specs.Order.{Scenario}
 use Rattle.model.specs.Answer.{sheetOf}
-use Rattle.model.specs.Dispatcher.{Lent, lengthAt, codeAt, sheetAt, Job, Desk, numbersIn, freePlace, admissible, admitting, isLast, turned, without, Call, admit, turn, cancel, Outcome, admitted, idle, taken, answered, cancelled, refused, wordsShort, turnShort, headOutcome, admission, outcomeOf, admittedTo, behind}
+use Rattle.model.specs.Dispatcher.{Lent, lengthAt, codeAt, sheetAt, Job, DispatcherState, numbersIn, freePlace, admissible, admitting, isLast, turned, without, Call, admit, turn, cancel, Outcome, admitted, idle, taken, answered, cancelled, refused, wordsShort, turnShort, headOutcome, admission, outcomeOf, admittedTo, behind}
 use Rattle.model.proofs.CallCases.{again}
 
 -- the outcome of a call, and the dispatcher behind it
-pub record Case (d : Desk) (c : Call) (o : Outcome) (next : Desk) : Type 0 where
+pub record Case (d : DispatcherState) (c : Call) (o : Outcome) (next : DispatcherState) : Type 0 where
   pub outcome : outcomeOf d c ≡ o
   pub leaves : behind d c ≡ next
 
 -- ---- a turn
-module _ (d : Desk) (l : Lent) (trace : List ℕ) where
+module _ (d : DispatcherState) (l : Lent) (trace : List ℕ) where
   short : turnShort l trace ≡ true → Case d (turn l trace) (refused benchRefusal 0) d
   unfolding outcomeOf behind
   short e = record { outcome = rw e; leaves = rw e }
@@ -57,7 +56,7 @@ module _ (d : Desk) (l : Lent) (trace : List ℕ) where
       turn-answered f = record { outcome = rw (long, outcomeOf, e, headOutcome, f); leaves = rw (long, behind, e, turned, f) }
 
 -- ---- cancelling
-module _ (d : Desk) (n : ℕ) (l : Lent) where
+module _ (d : DispatcherState) (n : ℕ) (l : Lent) where
   pub cancel-words : length (l .words) < jobWordsLeast → Case d (cancel n l) (refused benchRefusal 0) d
   unfolding outcomeOf behind wordsShort
   cancel-words h = record { outcome = rw (lt-ltb (length (l .words)) jobWordsLeast h); leaves = rw (lt-ltb (length (l .words)) jobWordsLeast h) }
@@ -75,7 +74,7 @@ module _ (d : Desk) (n : ℕ) (l : Lent) where
         record { outcome = rw (le-ltb (length (l .words)) jobWordsLeast w, t); leaves = rw (le-ltb (length (l .words)) jobWordsLeast w, t) }
 
 -- ---- an admission
-module _ (d : Desk) (l : Lent) where
+module _ (d : DispatcherState) (l : Lent) where
   pub admit-refused : (number line : ℕ) → admissible d l ≡ refusal number line → Case d (admit l) (refused number line) d
   unfolding outcomeOf behind admission admittedTo
   admit-refused number line e = record { outcome = rw (e, admission); leaves = rw (e, admittedTo) }
@@ -87,35 +86,35 @@ module _ (d : Desk) (l : Lent) where
 
   -- with no place free there is no new sheet and no code to judge
   pub full-short : freePlace d ≡ none → length (l .words) < jobWordsLeast → admissible d l ≡ refusal benchRefusal 0
-  unfolding admissible
+  unfolding admissible wordsShort
   full-short f h = rw (f, admissible, lt-ltb (length (l .words)) jobWordsLeast h)
 
   pub full-held : freePlace d ≡ none → jobWordsLeast ≤ length (l .words) → admissible d l ≡ refusal jobsRefusal 0
-  unfolding admissible
+  unfolding admissible wordsShort
   full-held f h = rw (f, admissible, le-ltb (length (l .words)) jobWordsLeast h)
 
   module _ (p : ℕ) (f : freePlace d ≡ some p) where
     pub code-unknown : channels ≤ codeAt l p → admissible d l ≡ refusal channelRefusal 0
-    unfolding admissible
+    unfolding admissible wordsShort
     code-unknown h = rw (f, admissible, le-ltb (codeAt l p) channels h)
 
     module _ (k : codeAt l p < channels) where
       pub words-short : length (l .words) < jobWordsLeast → admissible d l ≡ refusal benchRefusal 0
-      unfolding admissible
+      unfolding admissible wordsShort
       words-short h = rw (f, admissible, lt-ltb (codeAt l p) channels k, lt-ltb (length (l .words)) jobWordsLeast h)
 
       module _ (w : jobWordsLeast ≤ length (l .words)) where
         pub numbers-out : jobNumbers ≤ d .given → admissible d l ≡ refusal jobsRefusal 0
-        unfolding admissible
+        unfolding admissible wordsShort
         numbers-out h = rw (f, admissible, lt-ltb (codeAt l p) channels k, le-ltb (length (l .words)) jobWordsLeast w, le-ltb (d .given) jobNumbers h)
 
         module _ (g : d .given < jobNumbers) where
           pub sheet-long : textMost < lengthAt l p → admissible d l ≡ refusal lengthRefusal 0
-          unfolding admissible
+          unfolding admissible wordsShort
           sheet-long h =
               rw (f, admissible, lt-ltb (codeAt l p) channels k, le-ltb (length (l .words)) jobWordsLeast w, lt-ltb (d .given) jobNumbers g, lt-ltb textMost (lengthAt l p) h)
 
           pub sheet-judged : lengthAt l p ≤ textMost → admissible d l ≡ sheetOf (sheetAt l p)
-          unfolding admissible
+          unfolding admissible wordsShort
           sheet-judged h =
               rw (f, admissible, lt-ltb (codeAt l p) channels k, le-ltb (length (l .words)) jobWordsLeast w, lt-ltb (d .given) jobNumbers g, le-ltb textMost (lengthAt l p) h)

@@ -1,5 +1,5 @@
 -- The jobs of an orderly dispatcher: each has a place and a number of its own. Assumes nothing.
-use mathlib.Core.Path.{_≡_, refl, sym, _∙_, ap, subst, subst⁻¹}
+use mathlib.Core.Path.{_≡_, sym, _∙_, ap, subst⁻¹}
 use mathlib.Core.Logic.{_⊎_, inl, inr, ⊎-elim}
 use mathlib.Core.Bool.{Bool, true, false, not, cond}
 use mathlib.Core.List.{List, [], _∷_, _++_, map}
@@ -7,7 +7,7 @@ use Prim.Native.Nat.{ℕ, _<_}
 use lib.Dec.{eqb}
 use Rattle.model.specs.Limits.{jobsMost}
 use Rattle.model.specs.Bounded.{among, eachOnce}
-use Rattle.model.specs.Dispatcher.{Job, placesOf, numbersIn, without, Desk, isFree, Member, Orderly}
+use Rattle.model.specs.Dispatcher.{Job, without, DispatcherState, isFree, Member, Orderly}
 use Rattle.model.proofs.Bounded.{not-both}
 use Rattle.model.proofs.Ahead.{among-here, among-there, once-parts, once-below}
 use Rattle.model.proofs.Queue.{placeOf, numberOf, places-map, numbers-map}
@@ -61,7 +61,7 @@ member-without k n (j ∷ js) m = go (eqb (j .number) n) (λ u. member-without k
     go false later u = ⊎-elim inl (λ i. inr (later i)) u
 
 -- ---- orderly dispatchers
-module _ (d : Desk) (o : Orderly d) where
+module _ (d : DispatcherState) (o : Orderly d) where
   once-numbers : eachOnce (d .given) (map numberOf (d .queue)) ≡ true
   once-numbers = ap (eachOnce (d .given)) (sym (numbers-map (d .queue))) ∙ o .numbers
 
@@ -82,6 +82,6 @@ module _ (d : Desk) (o : Orderly d) where
   place-apart j k js e m i = head-apart placeOf jobsMost j k js (ap (λ q. eachOnce jobsMost (map placeOf q)) (sym e) ∙ once-places) m i
 
 -- the place of a job is not free
-pub place-held : (d : Desk) (j : Job) → Member j (d .queue) → isFree d (j .place) ≡ false
+pub place-held : (d : DispatcherState) (j : Job) → Member j (d .queue) → isFree d (j .place) ≡ false
 unfolding isFree
 place-held d j m = ap not (ap (among (j .place)) (places-map (d .queue)) ∙ member-among placeOf j (d .queue) m)

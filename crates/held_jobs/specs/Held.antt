@@ -7,7 +7,7 @@ use Rattle.model.specs.Limits.{channels, jobsMost}
 use Rattle.model.specs.Order.{Scenario}
 use Rattle.model.specs.Race.{raceRuleOf}
 use Rattle.model.specs.Dispatcher as model
-use Rattle.model.specs.Dispatcher.{Lent, Desk, Served, noAnswer}
+use Rattle.model.specs.Dispatcher.{Lent, DispatcherState, Served, noAnswer}
 use Rattle.relation.specs.Scenario.{scenarioIn}
 use Rattle.scenario.specs.Contract.{Fit}
 use Rattle.queue.specs.declared.Queue.{Queue}
@@ -23,8 +23,8 @@ pub record Held : Type 0 where
   pub races : List Race
   pub boards : List Boards
 
-abbrev pub deskOf : Held → Desk
-deskOf d = record { queue = queueIn (d .queue); given = d .given }
+abbrev pub dispatcherOf : Held → DispatcherState
+dispatcherOf d = record { queue = queueIn (d .queue); given = d .given }
 
 -- what stands in a place: the boards of the job's events, and what its search has found
 abbrev pub boardsAt : Held → ℕ → List ℕ

@@ -1,8 +1,8 @@
 -- What each return of the last turn is to show. Assumes nothing.
 use mathlib.Core.Path.{_≡_, refl, sym, _∙_, ap}
+use mathlib.Core.Logic.{inl, inr}
 use mathlib.Core.Bool.{Bool, true, false, not}
 use mathlib.Core.List.{List, _++_}
-use mathlib.Core.Option.{Option, none, some}
 use Prim.Native.Nat.{ℕ, _+_, _*_, _<_, _≤_}
 use native.Mathlib.Numerals.{add-one}
 use native.Mathlib.Omega.{arith}
@@ -17,9 +17,6 @@ use Rattle.model.specs.Channel.{Channel, channelOf}
 use Rattle.model.specs.Run.{start}
 use Rattle.model.specs.Race.{raceRuleOf, lowestRace}
 use Rattle.model.specs.Schedule.{schedule, bytesOf}
-use Rattle.model.specs.Answer as model
-use Rattle.model.specs.Answer.{lockedWord}
-use Rattle.model.specs.Dispatcher.{AsTheCheck}
 use Rattle.model.proofs.Bounded.{not-both, and-both, every-at, every-from, every-fails}
 use Rattle.model.proofs.PointThree.{race-lowest, schedule-most}
 use Rattle.model.proofs.Trace.{bytes-length}
@@ -29,7 +26,6 @@ use Rattle.scenario.specs.Contract.{Fit}
 use Rattle.schedule.specs.Schedule.{Scheduled}
 use Rattle.share.specs.declared.Race.{Race}
 use Rattle.share.specs.Search.{raceIn}
-use Rattle.verdict.specs.Parts.{Decides}
 use Rattle.verdict.proofs.Parts.{locks, frees}
 use Rattle.last_turn.specs.declared.Numbers.{Numbers}
 use Rattle.last_turn.specs.Answer.{allOnBoards, numbersIn, zeros, Concludes}
@@ -89,6 +85,7 @@ module _ (count : ℕ) (on words : List ℕ) (code : ℕ) (race : Race) (trace :
   nothing-found r z i =
       rw z
       (record {
+        freeOrLocked = inl refl;
         kept = λ n. refl;
         locked = λ e. absurd (omega arith);
         answers = λ f c e.
@@ -99,7 +96,7 @@ module _ (count : ℕ) (on words : List ℕ) (code : ℕ) (race : Race) (trace :
   -- what no job can hold
   module _ (r : Numbers) (z : r ≡ zeros) where
     cannot : (Fit count on words → code < channels → raceIn race ≡ lowestRace S (raceRuleOf code) → ⊥) → Concludes count on words code race trace trace (numbersIn r)
-    cannot n = rw z (record { kept = λ n. refl; locked = λ e. absurd (omega arith); answers = λ f c e. absurd (n f c e) })
+    cannot n = rw z (record { freeOrLocked = inl refl; kept = λ n. refl; locked = λ e. absurd (omega arith); answers = λ f c e. absurd (n f c e) })
 
     pub too-many : messagesMost < count → Concludes count on words code race trace trace (numbersIn r)
     too-many h = cannot (λ f c e. omega (arith, f .few))
@@ -123,8 +120,10 @@ module _ (count : ℕ) (on words : List ℕ) (code : ℕ) (race : Race) (trace :
         let bytes : length (bytesOf ts) ≡ 2 * steps = bytes-length ts ∙ ap (λ k. 2 * k) (sym (s .count)) in
         let left : exit ≡ bytesOf ts ++ drop (2 * steps) trace = s .trace ∙ ap (λ k. bytesOf ts ++ drop (2 * k) trace) (sym (s .count)) in
         record {
+          freeOrLocked = inr refl;
           kept = λ k. absurd (k refl);
           locked = λ k. (
+            omega (arith, steps-few S (channelOf code) (race .message) steps trace exit s),
             rw (left, length-append, length-drop, bytes) (omega (arith, steps-few S (channelOf code) (race .message) steps trace exit s)),
             ap (drop (2 * steps)) left ∙ drop-at (bytesOf ts) (drop (2 * steps) trace) (2 * steps) bytes,
           );

@@ -9,10 +9,8 @@ use lib.ListN.{length, getD, take, drop, length-drop, drop-of-length-le, List·g
 use lib.Seq.{take-all, take-nil, take-take}
 use borrow.Rule.Slice.PartMut.{midOf, putMid, mid-len}
 use Rattle.model.specs.Limits.{textMost, scratchLeast, jobsMost, jobWordsLeast}
-use Rattle.model.specs.Dispatcher.{placeWords}
 use Rattle.expansion.specs.declared.Expanded.{Expanded}
 use Rattle.scenario.specs.Contract.{SheetIn}
-use Rattle.places.specs.Words.{Put}
 use Rattle.places.proofs.Parts.{from, to, span, part-put}
 use Rattle.lent_sheet.specs.Sheet.{sheetIn, ReadsSheet}
 

@@ -46,7 +46,6 @@ begun-at text b at f h = rw (begun-cases text b at h .1, eq-eqb b b refl)
 pub begun-inside : (text : List ℕ) (b at : ℕ) (r : Bool) → r ≡ beginsWith b (drop at text) → not r ≡ false → at + 1 ≤ length text
 begun-inside text b at r e h = let l : at < length text = begun-cases text b at (sym e ∙ not-false r h) .0 in omega arith
 
--- the way of a cut: behind the first field, behind the second, and at the line's end
 module _ (text : List ℕ) (at a : ℕ) (f : FieldEnd text at a) where
   stop : (b : ℕ) (k : List ℕ → Parts) → beginsWith b (drop a text) ≡ false → behindByte b (behindField (drop at text)) k ≡ other
   stop b k h = ap (λ (s : List ℕ). behindByte b s k) (sym (f .behind)) ∙ not-begun b (drop a text) k h

@@ -1,4 +1,4 @@
--- The twins of specs/Scan are the model's lines and fields. Assumes nothing.
+-- The lines and fields of specs/Scan are the model's. Assumes nothing.
 use Prim.Native.Nat.{ℕ, suc, _+_, _≤_, _<_}
 use native.Mathlib.Omega.{arith}
 use mathlib.Core.Path.{_≡_, refl, sym, _∙_, ap, subst}

@@ -1,4 +1,4 @@
--- Laws of the scan: one step of each twin at a position of the text. Assumes nothing.
+-- Laws of the scan: one step of each at a position of the text. Assumes nothing.
 use Prim.Native.Nat.{ℕ, suc, _+_, _≤_, _<_}
 use native.Mathlib.Numerals.{add-one}
 use native.Mathlib.Omega.{arith}

@@ -1,4 +1,4 @@
--- Code-shaped twins of the model's lines and fields, structural on the bytes from a position on: what the scan of a text meets.
+-- The model's lines and fields as the code scans them, structural on the bytes from a position on.
 -- Assumes nothing.
 use Prim.Native.Nat.{ℕ}
 use mathlib.Core.Bool.{Bool, true, false, cond, _||_}

@@ -4,22 +4,22 @@ use mathlib.Core.Logic.{⊎-elim}
 use mathlib.Core.Bool.{Bool, true, false, _&&_}
 use mathlib.Core.List.{List}
 use mathlib.Core.Option.{Option, none, some}
-use Prim.Native.Nat.{ℕ, _+_, _*_, _-_, _<_, _≤_}
+use Prim.Native.Nat.{ℕ, _+_, _*_, _<_, _≤_}
 use native.Mathlib.Omega.{arith}
 use native.Mathlib.Numerals.{add-one}
 use lib.Dec.{eqb}
 use lib.ListN.{getD}
 use Rattle.model.specs.Order.{Event, receiveOf, event, board}
-use Rattle.model.specs.Race.{RaceRule, never, escapes, isRace, races, lowestEvent, lowestMessage, lowestRace}
+use Rattle.model.specs.Race.{RaceRule, never, notAtOrBefore, isRace, races, lowestEvent, lowestMessage, lowestRace}
 use Rattle.model.specs.Bounded.{lowest}
 use Rattle.model.proofs.Bounded.{which, not-both, any-from, any-some, lowest-none, lowest-some, lowest-hit, lowest-miss, lowest-nowhere}
 use Rattle.relation.specs.Scenario.{scenarioIn}
 use Rattle.race.specs.declared.Rule.{Rule}
 use Rattle.race.specs.declared.Rule.the-variants.{Never}
-use Rattle.lowest_race.specs.declared.Found.{Found}
-use Rattle.lowest_race.specs.declared.Found.the-variants as found
+use Rattle.relation.specs.declared.Found.{Found}
+use Rattle.relation.specs.declared.Found.the-variants as found
 use Rattle.race.specs.Bridge.{ruleIn}
-use Rattle.lowest_race.specs.Named.{foundIn}
+use Rattle.relation.specs.Own.{foundIn}
 
 module _ (count : ℕ) (boards words : List ℕ) where
   -- a message races where its search finds an event
@@ -74,9 +74,9 @@ module _ (count : ℕ) (boards words : List ℕ) where
       sym (rw (m, lowestRace, lowestMessage))
 
   -- on the lazy channels no message races
-  escapes-never : (e : ℕ) (x : Event) → isRace (scenarioIn count boards words) never e x ≡ false
-  unfolding isRace escapes
-  escapes-never e x = falls (eqb (board (scenarioIn count boards words) x) (getD boards (2 * e + 1) 0)) ((scenarioIn count boards words) .before x (receiveOf e))
+  outside-never : (e : ℕ) (x : Event) → isRace (scenarioIn count boards words) never e x ≡ false
+  unfolding isRace notAtOrBefore
+  outside-never e x = falls (eqb (board (scenarioIn count boards words) x) (getD boards (2 * e + 1) 0)) ((scenarioIn count boards words) .before x (receiveOf e))
     where
       falls : (a b : Bool) → (a && b && false) ≡ false
       falls true true = refl
@@ -92,6 +92,6 @@ module _ (count : ℕ) (boards words : List ℕ) where
         within = omega arith;
         passed =
             lowest-nowhere count (races (scenarioIn count boards words) never)
-            (λ e h. races-none never e (lowest-nowhere (2 * count) (λ j. isRace (scenarioIn count boards words) never e (event j)) (λ k l. escapes-never e (event k))));
+            (λ e h. races-none never e (lowest-nowhere (2 * count) (λ j. isRace (scenarioIn count boards words) never e (event j)) (λ k l. outside-never e (event k))));
       })
       (omega arith))

@@ -1,14 +1,8 @@
--- From what the searches found to the model. Assumes nothing.
+-- From what the search found to the model. Assumes nothing.
 use Prim.Native.Nat.{ℕ}
 use mathlib.Core.Option.{Option, none, some}
-use Rattle.lowest_race.specs.declared.Found.{Found}
-use Rattle.lowest_race.specs.declared.Found.the-variants as found
 use Rattle.lowest_race.specs.declared.Lowest.{Lowest}
 use Rattle.lowest_race.specs.declared.Lowest.the-variants as lowest
-
-abbrev pub foundIn : Found → Option ℕ
-foundIn (found.Event x) = some x
-foundIn found.Nothing = none
 
 abbrev pub raceIn : Lowest → Option (ℕ × ℕ)
 raceIn (lowest.Race e x) = some (e, x)

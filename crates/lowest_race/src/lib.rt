@@ -6,18 +6,15 @@ ghost use Rattle.relation.specs.Scenario.{scenarioIn};
 ghost use Rattle.board.specs.Masks.{Standing};
 ghost use Rattle.at_or_before.specs.Lent.{Lent};
 ghost use Rattle.race.specs.Bridge.{ruleIn};
-ghost use Rattle.lowest_race.specs.Named.{foundIn, raceIn};
+ghost use Rattle.relation.specs.Own.{foundIn};
+ghost use Rattle.lowest_race.specs.Named.{raceIn};
 use race::Rule;
 use race::race_word;
+use relation::Found;
 use relation::WIDTH;
 use relation::WORD_BITS;
 
 // The lowest event that races with a message, if one does.
-enum Found {
-    Event(usize),
-    Nothing,
-}
-
 fn lowest_event(
     words: &[u64],
     masks: &[u64],
@@ -39,7 +36,7 @@ fn lowest_event(
     Found::Nothing
 }
 
-// The race named: the lowest message that races, and the lowest event that it races with.
+// A message and the event that it races with, or no race.
 pub enum Lowest {
     Race(usize, usize),
     Nothing,
@@ -59,6 +56,7 @@ fn lowest_message(words: &[u64], masks: &[u64], boards: &[u8], count: usize, rul
     Lowest::Nothing
 }
 
+// On a channel without races no masks are made.
 pub fn lowest_race(words: &[u64], boards: &[u8], count: usize, rule: Rule) -> Lowest
     requires { ⌜ Lent count (now boards) (now words) ⌝ }
     ensures { λ r. ⌜ raceIn r ≡ lowestRace (scenarioIn count (now (boards .entry)) (now (words .entry))) (ruleIn rule) ⌝ }

@@ -9,7 +9,6 @@ ghost use Rattle.sheet.specs.Bridge.{rowsOf};
 ghost use Rattle.expansion.specs.Lent.{RowsRead};
 ghost use Rattle.message_line.specs.Lines.{linesIn};
 use sheet::Verdict;
-use walk::FIRST_LINE;
 
 // The walk of the rows, up to message m. No limit of a walk is met on the way, since the rows are those of an accepted sheet. Calls are
 // counted as what brings the walk nearer to its end.
@@ -39,7 +38,7 @@ fn walk_to(kind: &[u8], one: &[u16], two: &[u16], rows: usize, start: &[u16], m:
         }
         if letter == b'M' {
             if met == m {
-                return at + FIRST_LINE;
+                return at + model::FIRST_LINE;
             }
             met += 1;
             at += 1;

@@ -2,7 +2,7 @@
 -- Assumes nothing.
 use Prim.Native.Nat.{ℕ, zero, suc, _<_}
 use native.Mathlib.Nat.{not-suc-le-zero, le-of-suc-le-suc}
-use mathlib.Core.Path.{_≡_, refl, sym, _∙_, subst}
+use mathlib.Core.Path.{_≡_, refl, sym, _∙_, ap, subst}
 use mathlib.Core.Logic.{_⊎_, inl, inr, ⊎-elim}
 use mathlib.Core.Bool.{Bool, true, false, not, _&&_, _||_, or-false}
 use mathlib.Core.List.{List, [], _∷_, _++_}
@@ -11,7 +11,7 @@ use lib.ListN.{length, getD, take}
 use borrow.Author.Tests.{eqb-true, eq-eqb, ne-eqb, ltb-true, lt-ltb, not-true}
 use Rattle.model.specs.Bounded.{among, eachOnce}
 use Rattle.model.specs.Taps.{ahead}
-use Rattle.model.proofs.Bounded.{and-left, and-right, and-both, or-cases, or-left, or-right, which, not-both}
+use Rattle.model.proofs.Bounded.{and-left, and-right, and-both, or-cases, or-left, or-right, not-both}
 
 -- the members of a list with one more at its end
 pub among-snoc : (x : ℕ) (l : List ℕ) (k : ℕ) → among x (l ++ (k ∷ [])) ≡ (among x l || eqb x k)
@@ -66,6 +66,11 @@ ahead-here k l x y e h =
 pub ahead-there : (k : ℕ) (l : List ℕ) (x y : ℕ) → ahead l x y ≡ true → ahead (k ∷ l) x y ≡ true
 unfolding ahead
 ahead-there k l x y h = or-right (eqb x k && among y l) (ahead l x y) h
+
+-- in an empty list nothing is ahead of anything
+pub ahead-empty : (l : List ℕ) → l ≡ [] → (x y : ℕ) → ahead l x y ≡ false
+unfolding ahead
+ahead-empty l e x y = ap (λ (k : List ℕ). ahead k x y) e
 
 -- both are members
 pub ahead-left : (l : List ℕ) (x y : ℕ) → ahead l x y ≡ true → among x l ≡ true

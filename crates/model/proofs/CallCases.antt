@@ -13,20 +13,20 @@ use Rattle.model.specs.Bounded.{among}
 use Rattle.model.specs.Refusal.{Out, ok, refusal}
 use Rattle.model.specs.Order.{Scenario}
 use Rattle.model.specs.Answer.{sheetOf}
-use Rattle.model.specs.Dispatcher.{Lent, lengthAt, codeAt, sheetAt, Job, Desk, numbersIn, freePlace, admissible, admitting, isLast, turned, without, Call, admit, turn, cancel, Outcome, admitted, idle, taken, answered, cancelled, refused, wordsShort, turnShort, headOutcome, admission, outcomeOf, admittedTo, behind}
+use Rattle.model.specs.Dispatcher.{Lent, lengthAt, codeAt, sheetAt, Job, DispatcherState, numbersIn, freePlace, admissible, admitting, isLast, turned, without, Call, admit, turn, cancel, Outcome, admitted, idle, taken, answered, cancelled, refused, wordsShort, turnShort, headOutcome, admission, outcomeOf, admittedTo, behind}
 use Rattle.model.proofs.Bounded.{or-neither}
 use Rattle.model.proofs.Refusal.{cond-ok, cond-refused}
 
 -- an admission that is not refused: the lowest free place, its code and its sheet, and a number left
-pub record Admissible (d : Desk) (l : Lent) (p : ℕ) (S : Scenario) : Type 0 where
+pub record Admissible (d : DispatcherState) (l : Lent) (p : ℕ) (S : Scenario) : Type 0 where
   pub place : freePlace d ≡ some p
   pub isOk : admissible d l ≡ ok S
   pub codeKnown : codeAt l p < channels
   pub numberLeft : d .given < jobNumbers
   pub sheet : sheetOf (sheetAt l p) ≡ ok S
 
-admissible-parts : (d : Desk) (l : Lent) (p : ℕ) (S : Scenario) → freePlace d ≡ some p → admissible d l ≡ ok S → Admissible d l p S
-unfolding admissible
+admissible-parts : (d : DispatcherState) (l : Lent) (p : ℕ) (S : Scenario) → freePlace d ≡ some p → admissible d l ≡ ok S → Admissible d l p S
+unfolding admissible wordsShort
 admissible-parts d l p S place e =
     let a = cond-ok (ltb (codeAt l p) channels) _ _ _ S (rw (place, admissible) at e) in
     let b = cond-refused (ltb (length (l .words)) jobWordsLeast) _ _ _ S (a .1) in
@@ -39,7 +39,7 @@ abbrev pub again : Job → Job
 again j = record { number = j .number; place = j .place; code = j .code; count = j .count; turns = suc (j .turns) }
 
 -- What a call does: the dispatcher behind it, and its outcome.
-pub data Does (d : Desk) : Call → Desk → Outcome → Type 0 where
+pub data Does (d : DispatcherState) : Call → DispatcherState → Outcome → Type 0 where
   refuses : {c : Call} {number line : ℕ} → Does d c d (refused number line)
   idles : {l : Lent} {trace : List ℕ} → d .queue ≡ [] → Does d (turn l trace) d idle
   admits : {l : Lent} {p : ℕ} {S : Scenario} → Admissible d l p S
@@ -78,7 +78,7 @@ taken-named : (j : Job) (js : List Job) → isLast j ≡ false → headOutcome (
 unfolding headOutcome
 taken-named j js e = rw e
 
-turn-does : (d : Desk) (l : Lent) (trace : List ℕ) (js : List Job) → d .queue ≡ js → traceLeast ≤ length trace
+turn-does : (d : DispatcherState) (l : Lent) (trace : List ℕ) (js : List Job) → d .queue ≡ js → traceLeast ≤ length trace
     → Does d (turn l trace) (record { queue = turned js; given = d .given }) (headOutcome js)
 unfolding turned headOutcome
 turn-does d l trace [] e long = subst (λ (q : List Job). Does d (turn l trace) (record { queue = q; given = d .given }) idle) e (idles e)
@@ -88,7 +88,7 @@ turn-does d l trace (j ∷ js) e long = go (isLast j) refl
     go true i = rw (answered-leaves j js i, answered-named j js i) (answers e (last-due j i) long)
     go false i = rw (taken-goes-behind j js i, taken-named j js i) (takes e (not-yet-due j i))
 
-pub call-does : (d : Desk) (c : Call) → Does d c (behind d c) (outcomeOf d c)
+pub call-does : (d : DispatcherState) (c : Call) → Does d c (behind d c) (outcomeOf d c)
 unfolding behind outcomeOf admission admittedTo turnShort
 call-does d (admit l) = go (freePlace d) (admissible d l) refl refl
   where

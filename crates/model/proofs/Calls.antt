@@ -11,7 +11,7 @@ use Rattle.model.specs.Limits.{traceLeast, jobNumbers}
 use Rattle.model.specs.Order.{Scenario}
 use Rattle.model.specs.Closure.{cells}
 use Rattle.model.specs.Answer.{Numbers}
-use Rattle.model.specs.Dispatcher.{codeAt, Job, Desk, admitting, Call, admit, lentTo, traceTo, Outcome, admitted, idle, taken, answered, cancelled, refused, outcomeOf, behind, admittedWord, idleWord, takenWord, answeredWord, cancelledWord, refusedWord, Told, noAnswer, toldAs, Served, Serves, Entry, Session, opened, served, callsOf, deskFrom, ToldFrom, givenOut}
+use Rattle.model.specs.Dispatcher.{codeAt, Job, DispatcherState, admitting, Call, admit, lentTo, traceTo, Outcome, admitted, idle, taken, answered, cancelled, refused, outcomeOf, behind, admittedWord, idleWord, takenWord, answeredWord, cancelledWord, refusedWord, Told, noAnswer, toldAs, Served, Serves, Entry, Session, opened, served, callsOf, dispatcherFrom, ToldFrom, givenOut}
 use Rattle.model.proofs.Closure.{cells-same}
 use Rattle.model.proofs.CallCases.{Admissible, Does, refuses, idles, admits, takes, answers, cancels, call-does}
 use Rattle.model.proofs.Queue.{OneEach, one-each-behind}
@@ -19,7 +19,7 @@ use Rattle.model.proofs.Queue.{OneEach, one-each-behind}
 -- ---- what the outcome of a call says of the call
 
 -- a call that admits, into place p and with number n
-pub record Admission (d : Desk) (c : Call) (n p : ℕ) : Type 0 where
+pub record Admission (d : DispatcherState) (c : Call) (n p : ℕ) : Type 0 where
   pub scenario : Scenario
   pub isAdmit : c ≡ admit (lentTo c)
   pub isNext : n ≡ d .given
@@ -27,10 +27,10 @@ pub record Admission (d : Desk) (c : Call) (n p : ℕ) : Type 0 where
   -- the new job stands behind the last
   pub next : behind d c ≡ admitting d p (codeAt (lentTo c) p) (scenario .count)
 
-pub admission-of : (d : Desk) (c : Call) (n p : ℕ) → outcomeOf d c ≡ admitted n p → Admission d c n p
+pub admission-of : (d : DispatcherState) (c : Call) (n p : ℕ) → outcomeOf d c ≡ admitted n p → Admission d c n p
 admission-of d c n p e = go c (behind d c) (outcomeOf d c) (call-does d c) refl e
   where
-    go : (b : Call) (next : Desk) (o : Outcome) → Does d b next o → behind d b ≡ next → o ≡ admitted n p → Admission d b n p
+    go : (b : Call) (next : DispatcherState) (o : Outcome) → Does d b next o → behind d b ≡ next → o ≡ admitted n p → Admission d b n p
     go b next o refuses f i = let z : _≡_ {A = ℕ} 0 1 = cc in absurd (omega arith)
     go b next o (idles h) f i = let z : _≡_ {A = ℕ} 0 1 = cc in absurd (omega arith)
     go b next o (admits {l = l} {p = q} {S = S} a) f i =
@@ -42,10 +42,10 @@ admission-of d c n p e = go c (behind d c) (outcomeOf d c) (call-does d c) refl 
     go b next o (cancels h) f i = let z : _≡_ {A = ℕ} 0 1 = cc in absurd (omega arith)
 
 -- a job is answered only where the trace lent is long enough
-pub trace-enough : (d : Desk) (c : Call) (n : ℕ) → outcomeOf d c ≡ answered n → traceLeast ≤ length (traceTo c)
+pub trace-enough : (d : DispatcherState) (c : Call) (n : ℕ) → outcomeOf d c ≡ answered n → traceLeast ≤ length (traceTo c)
 trace-enough d c n e = go c (behind d c) (outcomeOf d c) (call-does d c) e
   where
-    go : (b : Call) (next : Desk) (o : Outcome) → Does d b next o → o ≡ answered n → traceLeast ≤ length (traceTo b)
+    go : (b : Call) (next : DispatcherState) (o : Outcome) → Does d b next o → o ≡ answered n → traceLeast ≤ length (traceTo b)
     go b next o refuses i = let z : _≡_ {A = ℕ} 0 1 = cc in absurd (omega arith)
     go b next o (idles h) i = let z : _≡_ {A = ℕ} 0 1 = cc in absurd (omega arith)
     go b next o (admits a) i = let z : _≡_ {A = ℕ} 0 1 = cc in absurd (omega arith)
@@ -68,11 +68,11 @@ told-admitted (refused number line) a n p e = let w : refusedWord ≡ admittedWo
 -- ---- the numbers given out
 
 -- a call that admits gives out the next number, and no other call gives one
-data Gives (d next : Desk) (o : Outcome) : Type 0 where
+data Gives (d next : DispatcherState) (o : Outcome) : Type 0 where
   gives : {p : ℕ} → o ≡ admitted (d .given) p → next .given ≡ suc (d .given) → d .given < jobNumbers → Gives d next o
   givesNone : ((a : Numbers) → eqb (toldAs o a .word) admittedWord ≡ false) → next .given ≡ d .given → Gives d next o
 
-call-gives : (d : Desk) (c : Call) (next : Desk) (o : Outcome) → Does d c next o → Gives d next o
+call-gives : (d : DispatcherState) (c : Call) (next : DispatcherState) (o : Outcome) → Does d c next o → Gives d next o
 unfolding admitting
 call-gives d c next o refuses = givesNone (λ a. refl) refl
 call-gives d c next o (idles e) = givesNone (λ a. refl) refl
@@ -99,18 +99,18 @@ one-more first last numbers h =
       most = h .most;
     }
 
-pub numbered : (d : Desk) (es : List Entry) → d .given ≤ jobNumbers → ToldFrom d es
-    → Numbered (d .given) (deskFrom d (callsOf es) .given) (givenOut es)
-unfolding givenOut cells deskFrom callsOf
+pub numbered : (d : DispatcherState) (es : List Entry) → d .given ≤ jobNumbers → ToldFrom d es
+    → Numbered (d .given) (dispatcherFrom d (callsOf es) .given) (givenOut es)
+unfolding givenOut cells dispatcherFrom callsOf
 numbered d [] le told = record { inOrder = refl; total = omega arith; most = le }
 numbered d (e ∷ es) le told =
     go (call-gives d (e .call) next (outcomeOf d (e .call)) (call-does d (e .call))) (λ h. numbered next es h (told .1))
   where
-    next : Desk
+    next : DispatcherState
     next = behind d (e .call)
 
     last : ℕ
-    last = deskFrom next (callsOf es) .given
+    last = dispatcherFrom next (callsOf es) .given
 
     go : Gives d next (outcomeOf d (e .call)) → (next .given ≤ jobNumbers → Numbered (next .given) last (givenOut es))
         → Numbered (d .given) last (givenOut (e ∷ es))
@@ -128,11 +128,11 @@ numbered d (e ∷ es) le told =
 
 -- ---- calls one after the other
 
-module _ {M : Type 0} (desk : M → Desk) (Holds : M → List ℕ → Job → Scenario → Type 0) where
+module _ {M : Type 0} (stateIn : M → DispatcherState) (Holds : M → List ℕ → Job → Scenario → Type 0) where
   -- one call, from a dispatcher
   pub record Called (d : M) (e : Entry) : Type 0 where
     pub result : Served M
-    pub serves : Serves desk Holds d (e .call) (e .words) (e .trace) result
+    pub serves : Serves stateIn Holds d (e .call) (e .words) (e .trace) result
     pub told : e .told ≡ result .told
 
   -- calls from a dispatcher to the one that they leave, each from what the last one left
@@ -149,29 +149,29 @@ module _ {M : Type 0} (desk : M → Desk) (Holds : M → List ℕ → Job → Sc
   ran-split [] fs d last r = (d, refl, r)
   ran-split (e ∷ es) fs d last r = let q = ran-split es fs (r .0 .result .next) last (r .1) in (q .0, (r .0, q .1), q .2)
 
-  pub session-ran : (empty : M) {es : List Entry} {d : M} → Session desk Holds empty es d → Ran empty es d
+  pub session-ran : (empty : M) {es : List Entry} {d : M} → Session stateIn Holds empty es d → Ran empty es d
   session-ran empty opened = refl
   session-ran empty (served {es} {d} {e} {r} s p t) = ran-more es empty d e (record { result = r; serves = p; told = t }) (session-ran empty s)
 
   -- a call answers as the dispatcher that it was handed says
-  pub told-as : (d : M) (e : Entry) (c : Called d e) → e .told ≡ toldAs (outcomeOf (desk d) (e .call)) (e .told .answer)
-  told-as d e c = c .told ∙ c .serves .told ∙ ap (λ (t : Told). toldAs (outcomeOf (desk d) (e .call)) (t .answer)) (sym (c .told))
+  pub told-as : (d : M) (e : Entry) (c : Called d e) → e .told ≡ toldAs (outcomeOf (stateIn d) (e .call)) (e .told .answer)
+  told-as d e c = c .told ∙ c .serves .told ∙ ap (λ (t : Told). toldAs (outcomeOf (stateIn d) (e .call)) (t .answer)) (sym (c .told))
 
-  pub ran-state : (es : List Entry) (d last : M) → Ran d es last → desk last ≡ deskFrom (desk d) (callsOf es)
-  unfolding deskFrom callsOf
-  ran-state [] d last r = ap desk (sym r)
+  pub ran-state : (es : List Entry) (d last : M) → Ran d es last → stateIn last ≡ dispatcherFrom (stateIn d) (callsOf es)
+  unfolding dispatcherFrom callsOf
+  ran-state [] d last r = ap stateIn (sym r)
   ran-state (e ∷ es) d last r =
-      ran-state es (r .0 .result .next) last (r .1) ∙ ap (λ k. deskFrom k (callsOf es)) (r .0 .serves .next)
+      ran-state es (r .0 .result .next) last (r .1) ∙ ap (λ k. dispatcherFrom k (callsOf es)) (r .0 .serves .next)
 
-  pub ran-told : (es : List Entry) (d last : M) → Ran d es last → ToldFrom (desk d) es
+  pub ran-told : (es : List Entry) (d last : M) → Ran d es last → ToldFrom (stateIn d) es
   ran-told [] d last r = tt
   ran-told (e ∷ es) d last r =
-      (told-as d e (r .0), subst (λ (k : Desk). ToldFrom k es) (r .0 .serves .next) (ran-told es (r .0 .result .next) last (r .1)))
+      (told-as d e (r .0), subst (λ (k : DispatcherState). ToldFrom k es) (r .0 .serves .next) (ran-told es (r .0 .result .next) last (r .1)))
 
   -- each job has a place and a number of its own, behind one call and behind all
-  pub called-one-each : (d : M) (e : Entry) (c : Called d e) → OneEach (desk d) → OneEach (desk (c .result .next))
-  called-one-each d e c o = subst⁻¹ OneEach (c .serves .next) (one-each-behind (desk d) (e .call) o)
+  pub called-one-each : (d : M) (e : Entry) (c : Called d e) → OneEach (stateIn d) → OneEach (stateIn (c .result .next))
+  called-one-each d e c o = subst⁻¹ OneEach (c .serves .next) (one-each-behind (stateIn d) (e .call) o)
 
-  pub ran-one-each : (es : List Entry) (d last : M) → Ran d es last → OneEach (desk d) → OneEach (desk last)
-  ran-one-each [] d last r o = subst (λ (m : M). OneEach (desk m)) r o
+  pub ran-one-each : (es : List Entry) (d last : M) → Ran d es last → OneEach (stateIn d) → OneEach (stateIn last)
+  ran-one-each [] d last r o = subst (λ (m : M). OneEach (stateIn m)) r o
   ran-one-each (e ∷ es) d last r o = ran-one-each es (r .0 .result .next) last (r .1) (called-one-each d e (r .0) o)

@@ -11,7 +11,7 @@ use Rattle.model.specs.Limits.{choicesMost}
 use Rattle.model.specs.Rows.{Row}
 use Rattle.model.specs.Choice.{asks, Beginning, nothing, more, ChoiceList, listsFrom, listsOf, Ahead, Among, InOrder, AllLists}
 use Rattle.model.proofs.Bounded.{which, not-both}
-use Rattle.model.proofs.Asking.{asked-short, beginning-most}
+use Rattle.model.proofs.Asking.{asked-short, beginning-most, list-count}
 
 -- "ahead" goes one way
 pub ahead-one-way : (l k : List Bool) → Ahead l k → Ahead k l → ⊥
@@ -164,4 +164,5 @@ module _ (file : List Row) where
         inOrder = lists-in-order choicesMost [];
         once = λ l a. ahead-one-way l l a a;
         few = lists-few choicesMost [];
+        eachMet = λ l c. list-count file (c .beginning);
       }

@@ -4,6 +4,7 @@ use native.Mathlib.Omega.{arith}
 use mathlib.Core.Path.{_≡_, refl, sym, subst}
 use mathlib.Core.Bool.{Bool, true, false, not, _&&_}
 use mathlib.Core.List.{List, [], _∷_}
+use mathlib.Core.Logic.{⊎-elim}
 use mathlib.Core.Option.{some}
 use lib.Dec.{eqb, ltb}
 use lib.ListN.{length, drop, length-append}
@@ -14,12 +15,13 @@ use Rattle.model.specs.Refusal.{ok, refusal}
 use Rattle.model.specs.Text.{Line, Columns}
 use Rattle.model.specs.Rows.{Row, sheet, message, order, block, call, choice}
 use Rattle.model.specs.Place.{Place, outside, messageFits, orderFits, moved, circleAt, judged, rowsFrom, readWith}
+use Rattle.model.specs.Circle.{Reached, atStart, behindRow, Circle, FirstCircle}
 use Rattle.model.specs.Expansion.{startOf}
-use Rattle.model.proofs.Bounded.{not-both}
+use Rattle.model.proofs.Bounded.{not-both, which}
 use Rattle.model.proofs.Refusal.{passed}
-use Rattle.model.proofs.Standing.{cond-some, judged-row, read-parts}
+use Rattle.model.proofs.Standing.{cond-some, placed-moved, judged-row, read-parts}
 use Rattle.model.proofs.Walked.{order-parts}
-use Rattle.model.proofs.Block.{Inside, inside-more, NoCircle, before-below, block-exact, circle-none, message-no-circle}
+use Rattle.model.proofs.Block.{Inside, inside-more, NoCircle, before-below, block-exact, circle-none, circle-some, message-no-circle}
 
 -- What holds of the open block, wherever the reader stands: two events a message, P rows between them, and no circle.
 pub record Ordered (n : ℕ) (orders : List (ℕ × ℕ)) : Type 0 where
@@ -82,6 +84,33 @@ judged-ordered p q (call n) e c h =
     subst (λ (z : Place). Ordered (length (z .events)) (z .orders)) (cond-some (ltb n sheets) _ q e .1) ordered-empty
 judged-ordered p q (choice m n) e c h =
     subst (λ (z : Place). Ordered (length (z .events)) (z .orders)) (cond-some (ltb m sheets && ltb n sheets) _ q e .1) ordered-empty
+
+-- so at every place that the reading comes to
+reached-ordered : (p : Place) → Reached p → Ordered (length (p .events)) (p .orders)
+reached-ordered p atStart = ordered-empty
+reached-ordered p (behindRow ahead q r h placed none) =
+    judged-ordered ahead q r (placed-moved ahead q r placed) none (reached-ordered ahead h)
+
+-- a row that closes a circle is a P row, and the circle is there
+closes : (r : Row) (q : Place) → circleAt r q ≡ true → Circle q
+unfolding circleAt
+closes (sheet n) q c = not-both false c refl
+closes (message a b) q c = not-both false c refl
+closes (order x y) q c = circle-some (length (q .events)) (q .orders) c
+closes block q c = not-both false c refl
+closes (call n) q c = not-both false c refl
+closes (choice m n) q c = not-both false c refl
+
+-- request (b)
+pub first-circle : FirstCircle
+first-circle p q r reached placed =
+    (λ c. ordered .noCircle (c .0) (c .1), (closes r q, λ c. ⊎-elim (λ t. t) (λ f. absurd (behind f .noCircle (c .0) (c .1))) (which (circleAt r q))))
+  where
+    ordered : Ordered (length (p .events)) (p .orders)
+    ordered = reached-ordered p reached
+
+    behind : circleAt r q ≡ false → Ordered (length (q .events)) (q .orders)
+    behind f = judged-ordered p q r (placed-moved p q r placed) f ordered
 
 -- The rows, behind so many events and P rows of the open block, leave every block without a circle.
 abbrev pub Clean : ℕ → List (ℕ × ℕ) → List Row → Type 0

@@ -3,7 +3,7 @@ use Prim.Native.Nat.{ℕ, _^_, _<_, _≤_}
 use native.Mathlib.Omega.{arith}
 use mathlib.Core.Path.{_≡_, refl, sym, _∙_, ap, subst, subst⁻¹}
 use mathlib.Core.Logic.{⊎-elim, _↔_}
-use mathlib.Core.Bool.{Bool, true, false, not, cond, _||_}
+use mathlib.Core.Bool.{Bool, true, false, cond, _||_}
 use mathlib.Core.List.{List, _++_}
 use lib.Dec.{ltb}
 use lib.ListN.{length, take, drop, replicate, length-replicate}
@@ -12,18 +12,18 @@ use borrow.Author.Tests.{eq-eqb, lt-ltb, le-ltb, ltb-true, ltb-false, not-true}
 use Rattle.model.specs.Limits.{rowsMost, channels, scratchLeast, traceLeast, sheetOutputLeast}
 use Rattle.model.specs.Refusal.{Out, ok, refusal, andThen, benchRefusal, curedRowsRefusal}
 use Rattle.model.specs.Order.{Event, sendOf, receiveOf, messageOf, boardOf, Scenario, scenarioOf, board, atOrBefore}
-use Rattle.model.specs.Race.{RaceRule, byEvent, byOrigin, never, raceRuleOf, origin, escapes, isRace}
+use Rattle.model.specs.Race.{RaceRule, byEvent, byOrigin, never, raceRuleOf, origin, notAtOrBefore, isRace}
 use Rattle.model.specs.Answer.{sheetOf, acceptedOf, answerOf, numbersOf, traceAfter, scratchBehind}
 use Rattle.model.specs.Verdict.{Verdict}
 use Rattle.model.specs.Cure.{curedBefore, curedRows, curedText, curedOf, cureOf, outputWith, CureNumbers, writtenWord, refusedWord, cureNumbers, FreeOn, CuredSheet, CureChecked}
 use Rattle.model.proofs.Bounded.{which, not-both}
-use Rattle.model.proofs.Events.{at-or-before-cases, at-or-before-same, at-or-before-before}
+use Rattle.model.proofs.Events.{own-both, at-or-before-cases, at-or-before-same, at-or-before-before}
 use Rattle.model.proofs.Causal.{Causal}
 use Rattle.model.proofs.Accepted.{sheet-causal, sheet-count, sheet-boards, sheet-meets}
 use Rattle.model.specs.Place.{lineOf}
 use Rattle.model.proofs.Lines.{Well, sheet-well}
 use Rattle.model.proofs.PointThree.{race-parts, point-three}
-use Rattle.model.proofs.Cured.{to-send, to-receive, from-receive, cured-old, cured-own, own-pair-from, cured-trans, cured-exact, cured-inside}
+use Rattle.model.proofs.Cured.{to-send, to-receive, from-receive, cured-old, cured-own, cured-trans, cured-exact, cured-inside}
 use Rattle.model.proofs.WrittenBack.{text-short}
 use Rattle.model.proofs.CureWalked.{met, cured-met, cured-sheet, cured-messages}
 
@@ -74,12 +74,12 @@ module _ (S : Scenario) (C : Causal S) where
     origin-at-send (sendOf m) e h = at-its-send (sendOf m) e h
     origin-at-send (receiveOf m) e h =
         let l = cured-inside S C (receiveOf m) (receiveOf e) (same (receiveOf m) (receiveOf e) .0 h) .0 in
-        let first = cured-own S C (sendOf m) (receiveOf m) (own-pair-from S m l) in
+        let first = cured-own S C (sendOf m) (receiveOf m) (own-both (S .count) m l) in
         at-its-send (sendOf m) e
         (same (sendOf m) (receiveOf e) .1 (cured-trans S C (sendOf m) (receiveOf m) (receiveOf e) first (same (receiveOf m) (receiveOf e) .0 h)))
 
     pub nothing-races : (r : RaceRule) (e : ℕ) (x : Event) → isRace T r e x ≡ true → ⊥
-    unfolding escapes
+    unfolding notAtOrBefore
     nothing-races byEvent e x h =
         let p = race-parts T byEvent e x h in
         not-both (atOrBefore T x (sendOf e)) (at-its-send x e (p .1)) (not-true (atOrBefore T x (sendOf e)) (p .2))
@@ -91,7 +91,7 @@ module _ (S : Scenario) (C : Causal S) where
   -- In a sheet T that does not race on code 0, every event before a receive is at or before its send.
   module _ (T : Scenario) (D : Causal T) (quiet : (e : ℕ) (x : Event) → e < T .count → isRace T byEvent e x ≡ true → ⊥) where
     not-ahead : (z : Event) (e : ℕ) → T .before z (receiveOf e) ≡ true → board T z ≡ board T (receiveOf e) → atOrBefore T z (sendOf e) ≡ true
-    unfolding isRace escapes messageOf boardOf
+    unfolding isRace notAtOrBefore messageOf boardOf
     not-ahead z e h b =
         ⊎-elim (λ t. t)
         (λ (f : atOrBefore T z (sendOf e) ≡ false).

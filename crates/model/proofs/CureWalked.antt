@@ -15,12 +15,12 @@ use Rattle.model.specs.Refusal.{Out, ok, refusal, andThen, messagesRefus
 use Rattle.model.specs.Expansion.{Progress, startOf, messageMet, orderMet, walkRows, expand}
 use Rattle.model.specs.Order.{Event, sendOf, receiveOf, number, messageOf, Exchange, isOwn, isEarlier, Scenario, scenarioOf, board, Met, nothingMet, metOps, exchangeOf}
 use Rattle.model.specs.Answer.{expandedWith, sheetOf}
-use Rattle.model.specs.Cure.{isOwnPair, curedBefore, isWritten, ordersBelow, curedRows, curedText, SameMessages}
+use Rattle.model.specs.Cure.{curedBefore, isWritten, ordersBelow, curedRows, curedText, SameMessages}
 use Rattle.model.proofs.Bounded.{or-cases, or-left, not-both}
-use Rattle.model.proofs.Events.{event-number, below-number}
+use Rattle.model.proofs.Events.{event-number, own-parts, own-both, below-number}
 use Rattle.model.proofs.Causal.{Causal}
-use Rattle.model.proofs.Order.{RowsInside, own-parts, earlier-parts, before-row, before-own, before-transitive, before-least}
-use Rattle.model.proofs.Cured.{cured-trans, cured-own, own-pair-from, own-pair-parts, chain}
+use Rattle.model.proofs.Order.{RowsInside, earlier-parts, before-row, before-own, before-transitive, before-least}
+use Rattle.model.proofs.Cured.{cured-trans, cured-own, chain}
 use Rattle.model.proofs.WrittenBack.{IsRow, listed-written, eventsTo, events-at, messagesFrom, ordersRead, rowsWritten, cured-read, written-cured, written-row}
 
 -- the P rows as the walk keeps them, the last first
@@ -121,12 +121,12 @@ module _ (S : Scenario) (C : Causal S) (few : S .count ≤ messagesMost) (low : 
   row-cured : (x y : Event) → met .ordered x y ≡ true → curedBefore S x y ≡ true
   row-cured x y h = rw (event-number x, event-number y) at (written-cured S C few low (number x) (number y) (ordered-row x y h))
 
-  own-cured : (x y : Event) → isOwn met x y ≡ true → curedBefore S x y ≡ true
+  own-cured : (x y : Event) → isOwn (met .count) x y ≡ true → curedBefore S x y ≡ true
   unfolding exchangeOf
-  own-cured x y h = let p = own-parts met x y h in go (p .0) (p .1) (p .2) (p .3)
+  own-cured x y h = let p = own-parts (met .count) x y h in go (p .0) (p .1) (p .2) (p .3)
     where
       go : (m : ℕ) → x ≡ sendOf m → y ≡ receiveOf m → m < S .count → curedBefore S x y ≡ true
-      go m a b l = rw (a, b) (cured-own S C (sendOf m) (receiveOf m) (own-pair-from S m l))
+      go m a b l = rw (a, b) (cured-own S C (sendOf m) (receiveOf m) (own-both (S .count) m l))
 
   -- all messages are of one block
   earlier-cured : (x y : Event) → isEarlier met x y ≡ true → curedBefore S x y ≡ true
@@ -138,9 +138,9 @@ module _ (S : Scenario) (C : Causal S) (few : S .count ≤ messagesMost) (low : 
   written-before : (x y : Event) → isWritten S x y ≡ true → scenarioOf met .before x y ≡ true
   written-before x y h = before-row met rows-inside x y (row-ordered x y (written-row S C x y h))
 
-  own-before : (x y : Event) → isOwnPair S x y ≡ true → scenarioOf met .before x y ≡ true
+  own-before : (x y : Event) → isOwn (S .count) x y ≡ true → scenarioOf met .before x y ≡ true
   unfolding exchangeOf isOwn
-  own-before x y h = let p = own-pair-parts S x y h in go (p .0) (p .1) (p .2) (p .3)
+  own-before x y h = let p = own-parts (S .count) x y h in go (p .0) (p .1) (p .2) (p .3)
     where
       go : (m : ℕ) → x ≡ sendOf m → y ≡ receiveOf m → m < S .count → scenarioOf met .before x y ≡ true
       go m a b l = rw (a, b) (before-own met (sendOf m) (receiveOf m) (rw (eq-eqb m m refl, lt-ltb m (S .count) l)))

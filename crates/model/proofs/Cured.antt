@@ -10,10 +10,10 @@ use mathlib.Core.Bool.{Bool, true, false, not, cond, _&&_}
 use lib.Dec.{eqb, ltb}
 use borrow.Author.Tests.{eqb-true, eq-eqb, ltb-true, lt-ltb, not-true}
 use Rattle.model.specs.Bounded.{any}
-use Rattle.model.specs.Order.{Event, sendOf, receiveOf, number, event, messageOf, Scenario, board, atOrBefore}
-use Rattle.model.specs.Cure.{isSend, isOwnPair, Cured, own, kept, link, curedBefore, isBetween, isWritten}
+use Rattle.model.specs.Order.{Event, sendOf, receiveOf, number, event, messageOf, isOwn, Scenario, board, atOrBefore}
+use Rattle.model.specs.Cure.{isSend, Cured, own, kept, link, curedBefore, isBetween, isWritten}
 use Rattle.model.proofs.Bounded.{and-left, and-right, and-both, which, not-both, not-is-true, any-from, any-some}
-use Rattle.model.proofs.Events.{event-number, below-number, at-or-before-cases, at-or-before-same, at-or-before-before}
+use Rattle.model.proofs.Events.{event-number, own-parts, own-both, no-own-send, below-number, at-or-before-cases, at-or-before-same, at-or-before-before}
 use Rattle.model.proofs.Least.{least-below}
 use Rattle.model.proofs.Causal.{Causal}
 
@@ -53,27 +53,6 @@ counted-less (suc n) p q f j l a b = go (ℕ-discrete j n) (λ h. counted-less n
     go : Dec (j ≡ n) → (j < n → counted n p < counted n q) → counted n p + cond (p n) 1 0 < counted n q + cond (q n) 1 0
     go (yes e) deep = here (p n) (q n) (ap p (sym e) ∙ a) (ap q (sym e) ∙ b) (counted-most n p q f)
     go (no d) deep = there (p n) (q n) (f n) (deep (omega arith))
-
-pub own-pair-parts : (S : Scenario) (x y : Event) → isOwnPair S x y ≡ true → (m : ℕ) × (x ≡ sendOf m) × (y ≡ receiveOf m) × (m < S .count)
-unfolding isOwnPair
-own-pair-parts S (sendOf m) (sendOf k) h = not-both false h refl
-own-pair-parts S (sendOf m) (receiveOf k) h = (
-  m,
-  refl,
-  ap receiveOf (sym (eqb-true m k (and-left (eqb m k) (ltb m (S .count)) h))),
-  ltb-true m (S .count) (and-right (eqb m k) (ltb m (S .count)) h),
-)
-own-pair-parts S (receiveOf m) (sendOf k) h = not-both false h refl
-own-pair-parts S (receiveOf m) (receiveOf k) h = not-both false h refl
-
-pub own-pair-from : (S : Scenario) (m : ℕ) → m < S .count → isOwnPair S (sendOf m) (receiveOf m) ≡ true
-unfolding isOwnPair
-own-pair-from S m l = and-both (eqb m m) (ltb m (S .count)) (eq-eqb m m refl) (lt-ltb m (S .count) l)
-
-pub no-own-send : (S : Scenario) (x : Event) (m : ℕ) → isOwnPair S x (sendOf m) ≡ false
-unfolding isOwnPair
-no-own-send S (sendOf k) m = refl
-no-own-send S (receiveOf k) m = refl
 
 module _ (S : Scenario) (C : Causal S) where
   -- The two cases of the test.
@@ -119,8 +98,8 @@ module _ (S : Scenario) (C : Causal S) where
   pub cured-irreflexive : (x : Event) → curedBefore S x x ≡ true → ⊥
   cured-irreflexive x h = C .irreflexive x (cured-old x x h)
 
-  pub cured-own : (x y : Event) → isOwnPair S x y ≡ true → curedBefore S x y ≡ true
-  cured-own x y h = let p = own-pair-parts S x y h in go (p .0) (p .1) (p .2) (p .3)
+  pub cured-own : (x y : Event) → isOwn (S .count) x y ≡ true → curedBefore S x y ≡ true
+  cured-own x y h = let p = own-parts (S .count) x y h in go (p .0) (p .1) (p .2) (p .3)
     where
       go : (m : ℕ) → x ≡ sendOf m → y ≡ receiveOf m → m < S .count → curedBefore S x y ≡ true
       go m a b l = rw (a, b) (to-receive (sendOf m) m l (at-or-before-same S (sendOf m) (sendOf m) refl))
@@ -131,7 +110,7 @@ module _ (S : Scenario) (C : Causal S) where
   cured-relation x (sendOf m) h = kept refl (from-send x m h)
   cured-relation x (receiveOf m) h =
       let p = from-receive x m h in
-      let last : Cured S (sendOf m) (receiveOf m) = own (own-pair-from S m (p .0)) in
+      let last : Cured S (sendOf m) (receiveOf m) = own (own-both (S .count) m (p .0)) in
       ⊎-elim
       (λ e. subst⁻¹ (λ (z : Event). Cured S z (receiveOf m)) e last)
       (λ b. link (kept refl b) last)
@@ -254,14 +233,14 @@ module _ (S : Scenario) (C : Causal S) where
 
   -- What stands directly before a receive is its own send.
   direct-receive : (x : Event) (m : ℕ) → curedBefore S x (receiveOf m) ≡ true → any (2 * S .count) (isBetween S x (receiveOf m)) ≡ false
-      → isOwnPair S x (receiveOf m) ≡ true
+      → isOwn (S .count) x (receiveOf m) ≡ true
   direct-receive x m h alone =
       let p = from-receive x m h in
       ⊎-elim
-      (λ e. rw e (own-pair-from S m (p .0)))
+      (λ e. rw e (own-both (S .count) m (p .0)))
       (λ b.
       not-both (any (2 * S .count) (isBetween S x (receiveOf m)))
-      (between-from x (receiveOf m) (sendOf m) (to-send x m b) (cured-own (sendOf m) (receiveOf m) (own-pair-from S m (p .0))))
+      (between-from x (receiveOf m) (sendOf m) (to-send x m b) (cured-own (sendOf m) (receiveOf m) (own-both (S .count) m (p .0))))
       alone)
       (at-or-before-cases S x (sendOf m) (p .1))
 
@@ -273,19 +252,19 @@ module _ (S : Scenario) (C : Causal S) where
       let a = eqb (board S x) (board S y) in
       let b = curedBefore S x y in
       let c = not (any (2 * S .count) (isBetween S x y)) in
-      let d = not (isOwnPair S x y) in
+      let d = not (isOwn (S .count) x y) in
       ⊎-elim
       (λ (t : (a && b && c && d) ≡ true).
       let abc = and-left (a && b && c) d t in
       let alone = not-true (any (2 * S .count) (isBetween S x y)) (and-right (a && b) c abc) in
       let own = direct-receive x m (and-right a b (and-left (a && b) c abc)) alone in
-      not-both (isOwnPair S x y) own (not-true (isOwnPair S x y) (and-right (a && b && c) d t)))
+      not-both (isOwn (S .count) x y) own (not-true (isOwn (S .count) x y) (and-right (a && b && c) d t)))
       (λ f. f)
       (which (a && b && c && d))
 
   -- What stands directly before an event is written as a row, or is its own send.
   pub direct-cases : (x y : Event) → curedBefore S x y ≡ true → any (2 * S .count) (isBetween S x y) ≡ false
-      → (isWritten S x y ≡ true) ⊎ (isOwnPair S x y ≡ true)
+      → (isWritten S x y ≡ true) ⊎ (isOwn (S .count) x y ≡ true)
   unfolding isWritten
   direct-cases x (sendOf m) h alone =
       inl
@@ -293,12 +272,12 @@ module _ (S : Scenario) (C : Causal S) where
       (and-both _ _
       (and-both (eqb (board S x) (board S (sendOf m))) (curedBefore S x (sendOf m)) (eq-eqb _ _ (on-its-board x m (from-send x m h) alone)) h)
       (not-is-true (any (2 * S .count) (isBetween S x (sendOf m))) alone))
-      (not-is-true (isOwnPair S x (sendOf m)) (no-own-send S x m)))
+      (not-is-true (isOwn (S .count) x (sendOf m)) (no-own-send (S .count) x m)))
   direct-cases x (receiveOf m) h alone = inr (direct-receive x m h alone)
 
   -- So whatever is transitive and holds the rows written and each send before its receive holds the cured order.
   module _ (Q : Event → Event → Type 0) (written : (x y : Event) → isWritten S x y ≡ true → Q x y)
-      (owned : (x y : Event) → isOwnPair S x y ≡ true → Q x y) (linked : (x y z : Event) → Q x y → Q y z → Q x z) where
+      (owned : (x y : Event) → isOwn (S .count) x y ≡ true → Q x y) (linked : (x y z : Event) → Q x y → Q y z → Q x z) where
     chained : (fuel : ℕ) (x y : Event) → curedBefore S x y ≡ true → counted (2 * S .count) (isBetween S x y) < fuel → Q x y
     chained zero x y h l = absurd (omega arith)
     chained (suc fuel) x y h l =

@@ -1,14 +1,14 @@
--- Events and their numbers, the events of the messages below a bound, and "at or before" taken apart.
+-- Events and their numbers, the events of the messages below a bound, a message's own pair, and "at or before" taken apart.
 -- Assumes nothing.
 use Prim.Native.Nat.{ℕ, _+_, _*_, _/_, _%_, _<_}
 use native.Mathlib.Omega.{arith}
 use mathlib.Core.Path.{_≡_, refl, sym, _∙_, ap}
 use mathlib.Core.Logic.{_⊎_, inl, inr, ⊎-elim, _↔_}
 use mathlib.Core.Bool.{Bool, true, false, cond}
-use lib.Dec.{eqb}
-use borrow.Author.Tests.{eqb-true, eqb-false, eq-eqb}
-use Rattle.model.specs.Order.{Event, sendOf, receiveOf, number, event, messageOf, Scenario, atOrBefore}
-use Rattle.model.proofs.Bounded.{or-cases, or-left, or-right}
+use lib.Dec.{eqb, ltb}
+use borrow.Author.Tests.{eqb-true, eqb-false, eq-eqb, ltb-true, lt-ltb}
+use Rattle.model.specs.Order.{Event, sendOf, receiveOf, number, event, messageOf, isOwn, Scenario, atOrBefore}
+use Rattle.model.proofs.Bounded.{and-left, and-right, and-both, or-cases, or-left, or-right, not-both}
 
 pub event-number : (x : Event) → event (number x) ≡ x
 unfolding event number
@@ -40,6 +40,28 @@ number-event k = go (eqb (k % 2) 0) refl
 
 pub number-injective : (x y : Event) → number x ≡ number y → x ≡ y
 number-injective x y e = sym (event-number x) ∙ ap event e ∙ event-number y
+
+-- a message's own send and receive
+pub own-parts : (n : ℕ) (x y : Event) → isOwn n x y ≡ true → (m : ℕ) × (x ≡ sendOf m) × (y ≡ receiveOf m) × (m < n)
+unfolding isOwn
+own-parts n (sendOf m) (sendOf k) h = not-both false h refl
+own-parts n (sendOf m) (receiveOf k) h = (
+  m,
+  refl,
+  ap receiveOf (sym (eqb-true m k (and-left (eqb m k) (ltb m n) h))),
+  ltb-true m n (and-right (eqb m k) (ltb m n) h),
+)
+own-parts n (receiveOf m) (sendOf k) h = not-both false h refl
+own-parts n (receiveOf m) (receiveOf k) h = not-both false h refl
+
+pub own-both : (n m : ℕ) → m < n → isOwn n (sendOf m) (receiveOf m) ≡ true
+unfolding isOwn
+own-both n m l = and-both (eqb m m) (ltb m n) (eq-eqb m m refl) (lt-ltb m n l)
+
+pub no-own-send : (n : ℕ) (x : Event) (m : ℕ) → isOwn n x (sendOf m) ≡ false
+unfolding isOwn
+no-own-send n (sendOf k) m = refl
+no-own-send n (receiveOf k) m = refl
 
 -- the events of the messages below n have the numbers below 2 n
 pub below-number : (x : Event) (n : ℕ) → messageOf x < n ↔ number x < 2 * n

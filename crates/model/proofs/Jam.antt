@@ -2,15 +2,14 @@
 use Prim.Native.Nat.{ℕ, _<_}
 use native.Mathlib.Omega.{arith}
 use mathlib.Core.Path.{_≡_, sym, _∙_, ap, subst}
-use mathlib.Core.Logic.{_⊎_, ⊎-elim}
+use mathlib.Core.Logic.{⊎-elim}
 use mathlib.Core.Bool.{true, false}
 use Rattle.model.specs.Order.{Event, sendOf, receiveOf, Scenario, board, boardOf}
 use Rattle.model.specs.Channel.{Channel}
-use Rattle.model.specs.Run.{finished}
 use Rattle.model.proofs.Bounded.{which, not-both}
 use Rattle.model.proofs.Causal.{Causal}
-use Rattle.model.proofs.Phases.{doneAt, bump, bump-other, view}
-use Rattle.model.proofs.Rules.{Waits, finished-use}
+use Rattle.model.proofs.Phases.{doneAt, bump, bump-other}
+use Rattle.model.proofs.Rules.{Waits}
 use Rattle.model.proofs.Invariants.{Inv, Moves, newly-is}
 
 module _ (S : Scenario) (C : Causal S) (c : Channel) where
@@ -22,10 +21,6 @@ module _ (S : Scenario) (C : Causal S) (c : Channel) where
   module _ (φ : ℕ → ℕ) (I : Inv S C c φ) (eager : c .eager ≡ true) (e : ℕ) (x : Event) (J : Jammed φ e x) where
     pub jam-inside : e < S .count
     jam-inside = I .inside e (omega (arith, J .held))
-
-    pub jam-unfinished : finished S (view S φ) ≡ false
-    jam-unfinished =
-        ⊎-elim (λ t. absurd (omega (arith, finished-use S φ t e jam-inside, J .held))) (λ f. f) (which (finished S (view S φ)))
 
     -- whatever moves, the jam stays
     pub jam-bump : (m : ℕ) → Moves S C c φ m → Jammed (bump φ m) e x

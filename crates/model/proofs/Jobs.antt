@@ -10,7 +10,7 @@ use lib.Dec.{eqb}
 use lib.ListN.{length}
 use borrow.Author.Tests.{eqb-true, eqb-false, ne-eqb}
 use Rattle.model.specs.Bounded.{among, eachOnce}
-use Rattle.model.specs.Dispatcher.{codeAt, Job, Desk, newJob, admitting, without, Call, Outcome, admitted, idle, taken, answered, cancelled, refused, outcomeOf, behind}
+use Rattle.model.specs.Dispatcher.{codeAt, Job, DispatcherState, newJob, admitting, without, Call, Outcome, admitted, idle, taken, answered, cancelled, refused, outcomeOf, behind}
 use Rattle.model.proofs.Bounded.{not-both, or-neither}
 use Rattle.model.proofs.Ahead.{once-parts, once-below}
 use Rattle.model.proofs.CallCases.{again, Does, refuses, idles, admits, takes, answers, cancels, call-does}
@@ -37,22 +37,22 @@ isUnrefused (refused number line) = false
 -- A job's number.
 module _ (n : ℕ) where
   -- it was given out, and is not held
-  pub record Gone (d : Desk) : Type 0 where
+  pub record Gone (d : DispatcherState) : Type 0 where
     pub absent : among n (map numberOf (d .queue)) ≡ false
     pub wasGiven : n < d .given
 
   -- What is so of a job that is gone, and stays so: no outcome names it again.
-  pub record StaysGone (d : Desk) (o : Outcome) : Type 0 where
+  pub record StaysGone (d : DispatcherState) (o : Outcome) : Type 0 where
     pub gone : Gone d
     pub unnamed : names n o ≡ false
 
   -- the head is another job, and it is not behind it either
-  head-apart : (d : Desk) (j : Job) (js : List Job) → d .queue ≡ j ∷ js → Gone d
+  head-apart : (d : DispatcherState) (j : Job) (js : List Job) → d .queue ≡ j ∷ js → Gone d
       → (eqb n (j .number) ≡ false) × (among n (map numberOf js) ≡ false)
   unfolding among
   head-apart d j js e g = or-neither _ _ (subst (λ (q : List Job). among n (map numberOf q) ≡ false) e (g .absent))
 
-  gone-next : (d : Desk) (c : Call) (next : Desk) (o : Outcome) → Does d c next o → Gone d → StaysGone next o
+  gone-next : (d : DispatcherState) (c : Call) (next : DispatcherState) (o : Outcome) → Does d c next o → Gone d → StaysGone next o
   unfolding admitting
   gone-next d c next o refuses g = record { gone = g; unnamed = refl }
   gone-next d c next o (idles e) g = record { gone = g; unnamed = refl }
@@ -84,7 +84,7 @@ module _ (n : ℕ) where
             (subst⁻¹ (λ (k : ℕ). among k (map numberOf (d .queue)) ≡ false) i (g .absent)));
       }
 
-  pub gone-call : (d : Desk) (c : Call) → Gone d → StaysGone (behind d c) (outcomeOf d c)
+  pub gone-call : (d : DispatcherState) (c : Call) → Gone d → StaysGone (behind d c) (outcomeOf d c)
   gone-call d c g = gone-next d c (behind d c) (outcomeOf d c) (call-does d c) g
 
 -- The job n, in place p, with its code and its count of messages.
@@ -94,14 +94,14 @@ module _ (n p code count : ℕ) where
   jobAt t = record { number = n; place = p; code = code; count = count; turns = t }
 
   -- it had t turns, and x jobs are ahead of it
-  pub record Stands (d : Desk) (t x : ℕ) : Type 0 where
+  pub record Stands (d : DispatcherState) (t x : ℕ) : Type 0 where
     pub ahead : List Job
     pub rest : List Job
     pub queue : d .queue ≡ ahead ++ (jobAt t ∷ rest)
     pub position : length ahead ≡ x
 
   -- What a call does to it, by the dispatcher behind the call and its outcome.
-  pub data Moved (t x : ℕ) (d : Desk) (o : Outcome) : Type 0 where
+  pub data Moved (t x : ℕ) (d : DispatcherState) (o : Outcome) : Type 0 where
     stays : {y : ℕ} → Stands d t y → y ≤ x → (isUnrefused o ≡ true → y < x) → names n o ≡ false → Moved t x d o
     goesOn : {y : ℕ} → Stands d (suc t) y → t < 2 * count → o ≡ taken n → Moved t x d o
     isAnswered : Gone n d → x ≡ 0 → 2 * count ≤ t → o ≡ answered n → Moved t x d o
@@ -112,7 +112,7 @@ module _ (n p code count : ℕ) where
     isThis : j ≡ jobAt t → x ≡ 0 → Head t x j js
     isOther : (ahead rest : List Job) → js ≡ ahead ++ (jobAt t ∷ rest) → x ≡ suc (length ahead) → eqb (j .number) n ≡ false → Head t x j js
 
-  head : (d : Desk) (t x : ℕ) (j : Job) (js : List Job) → d .queue ≡ j ∷ js → OneEach d → Stands d t x → Head t x j js
+  head : (d : DispatcherState) (t x : ℕ) (j : Job) (js : List Job) → d .queue ≡ j ∷ js → OneEach d → Stands d t x → Head t x j js
   head d t x j js e o s = go (s .ahead) (s .rest) (sym e ∙ s .queue) (sym (s .position))
     where
       fresh : among (j .number) (map numberOf js) ≡ false
@@ -141,7 +141,7 @@ module _ (n p code count : ℕ) where
       })
       (omega arith) (λ u. omega arith) unnamed
 
-  take-moves : (d : Desk) (t x : ℕ) (j : Job) (js : List Job) → j .turns < 2 * j .count → Head t x j js
+  take-moves : (d : DispatcherState) (t x : ℕ) (j : Job) (js : List Job) → j .turns < 2 * j .count → Head t x j js
       → Moved t x (record { queue = js ++ (again j ∷ []); given = d .given }) (taken (j .number))
   take-moves d t x j js early (isThis e first) =
       goesOn
@@ -149,7 +149,7 @@ module _ (n p code count : ℕ) where
       (subst (λ (k : Job). k .turns < 2 * k .count) e early) (ap (λ k. taken (k .number)) e)
   take-moves d t x j js early (isOther ahead rest e l other) = other-turn t x (d .given) ahead rest (again j ∷ []) js (taken (j .number)) e l other
 
-  answer-moves : (d : Desk) (t x : ℕ) (j : Job) (js : List Job) → 2 * j .count ≤ j .turns → OneEach (record { queue = j ∷ js; given = d .given })
+  answer-moves : (d : DispatcherState) (t x : ℕ) (j : Job) (js : List Job) → 2 * j .count ≤ j .turns → OneEach (record { queue = j ∷ js; given = d .given })
       → Head t x j js → Moved t x (record { queue = js; given = d .given }) (answered (j .number))
   answer-moves d t x j js due o (isThis e first) =
       let parts = once-parts (d .given) (j .number) (map numberOf js) (o .numbers) in
@@ -188,20 +188,20 @@ module _ (n p code count : ℕ) where
           (k .notMore) (λ u. not-both false u refl) (ne-eqb m n (λ i. eqb-false n m e (sym i)))
 
   -- what is so of the queue by its parts is so of the queue
-  as-standing : (d : Desk) (t x : ℕ) (s : Stands d t x) (P : ℕ → List Job → Type 0)
+  as-standing : (d : DispatcherState) (t x : ℕ) (s : Stands d t x) (P : ℕ → List Job → Type 0)
       → P (length (s .ahead)) (s .ahead ++ (jobAt t ∷ s .rest)) → P x (d .queue)
   as-standing d t x s P h =
       subst⁻¹ (λ (q : List Job). P x q) (s .queue) (subst (λ (y : ℕ). P y (s .ahead ++ (jobAt t ∷ s .rest))) (s .position) h)
 
   -- the queue is not empty
-  not-empty : {C : Type 0} (d : Desk) (t x : ℕ) → Stands d t x → d .queue ≡ [] → C
+  not-empty : {C : Type 0} (d : DispatcherState) (t x : ℕ) → Stands d t x → d .queue ≡ [] → C
   not-empty {C} d t x s e = go (s .ahead) (sym e ∙ s .queue)
     where
       go : (ahead : List Job) → [] ≡ ahead ++ (jobAt t ∷ s .rest) → C
       go [] i = let z : _≡_ {A = ℕ} 0 1 = cc in absurd (omega arith)
       go (k ∷ ahead) i = let z : _≡_ {A = ℕ} 0 1 = cc in absurd (omega arith)
 
-  moves : (d : Desk) (c : Call) (next : Desk) (o : Outcome) (t x : ℕ) → Does d c next o → OneEach d → Stands d t x → Moved t x next o
+  moves : (d : DispatcherState) (c : Call) (next : DispatcherState) (o : Outcome) (t x : ℕ) → Does d c next o → OneEach d → Stands d t x → Moved t x next o
   unfolding admitting
   moves d c next o t x refuses each s = stays s (omega arith) (λ u. not-both false u refl) refl
   moves d c next o t x (idles e) each s = not-empty d t x s e
@@ -223,5 +223,5 @@ module _ (n p code count : ℕ) where
       (subst (λ (q : List Job). eachOnce (d .given) (map numberOf q) ≡ true) (s .queue) (each .numbers)))
 
   -- every call
-  pub one-call : (d : Desk) (c : Call) (t x : ℕ) → OneEach d → Stands d t x → Moved t x (behind d c) (outcomeOf d c)
+  pub one-call : (d : DispatcherState) (c : Call) (t x : ℕ) → OneEach d → Stands d t x → Moved t x (behind d c) (outcomeOf d c)
   one-call d c t x o s = moves d c (behind d c) (outcomeOf d c) t x (call-does d c) o s

@@ -39,6 +39,7 @@ pub mod Monitor
 pub mod Wired
 pub mod WiredChoices
 pub mod FinishedRuns
+pub mod EverySheet
 pub mod Ahead
 pub mod Course
 pub mod Cured

@@ -1,5 +1,5 @@
 -- Refusals 3 to 11, and 13, come behind 1 and 2, and report a line of the file, at most that of row 513. Assumes nothing.
-use Prim.Native.Nat.{ℕ, zero, suc, _+_, _-_, _<_, _≤_}
+use Prim.Native.Nat.{ℕ, zero, suc, _+_, _<_, _≤_}
 use native.Mathlib.Omega.{arith}
 use mathlib.Core.Path.{_≡_, refl, subst}
 use mathlib.Core.Bool.{Bool, true, false, cond, _&&_}
@@ -13,7 +13,7 @@ use Rattle.model.specs.Bounded.{among}
 use Rattle.model.specs.Refusal.{Out, ok, refusal, andThen, benchRefusal, circleRefusal, rowRefusal, placeRefusal, absentRefusal, lengthRefusal, headingRefusal, callsRefusal, messagesRefusal, choicesRefusal}
 use Rattle.model.specs.Text.{Line, Columns, linesOf, headingOf}
 use Rattle.model.specs.Rows.{Row, sheet, message, order, block, call, choice, rowOf}
-use Rattle.model.specs.Place.{Place, outside, placed, circleAt, lineOf, judged, rowsFrom, opens, strayCall, complete, bodyOf, readWith, readOf}
+use Rattle.model.specs.Place.{Place, outside, placed, circleAt, lineOf, judged, rowsFrom, opens, absentCall, complete, bodyOf, readWith, readOf}
 use Rattle.model.specs.Expansion.{Ops, Progress, startOf, blockOpened, taken, callMade, messageMet, orderMet, walkRows, callAt, expand}
 use Rattle.model.specs.Order.{metOps, nothingMet, exchangeOf, scenarioOf}
 use Rattle.model.specs.Answer.{expandedWith, expandedOf, sheetOf}
@@ -99,42 +99,42 @@ module _ (choices : Bool) (c : Columns) where
       first (ok rp) w later = rest (rp .0) (rowsFrom choices c (suc i) (rp .1) ls) (later (rp .1) w)
 
 -- a call to an absent sheet is a row of the file
-Stray : ℕ → Option ℕ → Type 0
-Stray most none = Unit {0}
-Stray most (some line) = line ≤ most
+AbsentLine : ℕ → Option ℕ → Type 0
+AbsentLine most none = Unit {0}
+AbsentLine most (some line) = line ≤ most
 
-stray-well : (present : List ℕ) (i : ℕ) (rs : List Row) (most : ℕ) → lineOf (i + length rs) ≤ most → Stray most (strayCall present i rs)
-unfolding strayCall Stray
-stray-well present i [] most h = tt
-stray-well present i (sheet n ∷ rs) most h = stray-well present (suc i) rs most (omega arith)
-stray-well present i (message a b ∷ rs) most h = stray-well present (suc i) rs most (omega arith)
-stray-well present i (order x y ∷ rs) most h = stray-well present (suc i) rs most (omega arith)
-stray-well present i (block ∷ rs) most h = stray-well present (suc i) rs most (omega arith)
-stray-well present i (call n ∷ rs) most h = go (among n present) (stray-well present (suc i) rs most (omega arith))
+absent-well : (present : List ℕ) (i : ℕ) (rs : List Row) (most : ℕ) → lineOf (i + length rs) ≤ most → AbsentLine most (absentCall present i rs)
+unfolding absentCall AbsentLine
+absent-well present i [] most h = tt
+absent-well present i (sheet n ∷ rs) most h = absent-well present (suc i) rs most (omega arith)
+absent-well present i (message a b ∷ rs) most h = absent-well present (suc i) rs most (omega arith)
+absent-well present i (order x y ∷ rs) most h = absent-well present (suc i) rs most (omega arith)
+absent-well present i (block ∷ rs) most h = absent-well present (suc i) rs most (omega arith)
+absent-well present i (call n ∷ rs) most h = go (among n present) (absent-well present (suc i) rs most (omega arith))
   where
-    go : (b : Bool) → Stray most (strayCall present (suc i) rs) → Stray most (cond b (strayCall present (suc i) rs) (some (lineOf i)))
+    go : (b : Bool) → AbsentLine most (absentCall present (suc i) rs) → AbsentLine most (cond b (absentCall present (suc i) rs) (some (lineOf i)))
     go true w = w
     go false w = omega arith
-stray-well present i (choice m n ∷ rs) most h = go (among m present && among n present) (stray-well present (suc i) rs most (omega arith))
+absent-well present i (choice m n ∷ rs) most h = go (among m present && among n present) (absent-well present (suc i) rs most (omega arith))
   where
-    go : (b : Bool) → Stray most (strayCall present (suc i) rs) → Stray most (cond b (strayCall present (suc i) rs) (some (lineOf i)))
+    go : (b : Bool) → AbsentLine most (absentCall present (suc i) rs) → AbsentLine most (cond b (absentCall present (suc i) rs) (some (lineOf i)))
     go true w = w
     go false w = omega arith
 
 complete-well : (rs : List Row) → length rs ≤ rowsMost → Well (lineOf rowsMost) (complete rs)
-unfolding complete Stray
+unfolding complete AbsentLine
 complete-well rs h =
-    well-cond (lineOf rowsMost) (among 0 (opens rs)) (elim (strayCall (opens rs) 0 rs) [ none ↦ ok rs | some line ↦ refusal absentRefusal line ])
-    (refusal absentRefusal 0) (λ t. go (strayCall (opens rs) 0 rs) (stray-well (opens rs) 0 rs (lineOf rowsMost) (omega arith)))
+    well-cond (lineOf rowsMost) (among 0 (opens rs)) (elim (absentCall (opens rs) 0 rs) [ none ↦ ok rs | some line ↦ refusal absentRefusal line ])
+    (refusal absentRefusal 0) (λ t. go (absentCall (opens rs) 0 rs) (absent-well (opens rs) 0 rs (lineOf rowsMost) (omega arith)))
     (λ f. record { behind = omega arith; known = omega arith; within = omega arith })
   where
-    go : (o : Option ℕ) → Stray (lineOf rowsMost) o → Well {A = List Row} (lineOf rowsMost) (elim o [ none ↦ ok rs | some line ↦ refusal absentRefusal line ])
+    go : (o : Option ℕ) → AbsentLine (lineOf rowsMost) o → Well {A = List Row} (lineOf rowsMost) (elim o [ none ↦ ok rs | some line ↦ refusal absentRefusal line ])
     go none w = tt
     go (some line) w = record { behind = omega arith; known = omega arith; within = w }
 
 complete-same : (rs ks : List Row) → complete rs ≡ ok ks → rs ≡ ks
 unfolding complete
-complete-same rs ks e = go (among 0 (opens rs)) (strayCall (opens rs) 0 rs) e
+complete-same rs ks e = go (among 0 (opens rs)) (absentCall (opens rs) 0 rs) e
   where
     go : (b : Bool) (o : Option ℕ) → cond b (elim o [ none ↦ ok rs | some line ↦ refusal absentRefusal line ]) (refusal absentRefusal 0) ≡ ok ks → rs ≡ ks
     go true none h = cc

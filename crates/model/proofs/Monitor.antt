@@ -8,6 +8,7 @@ use mathlib.Core.Option.{Option, none, some}
 use lib.Dec.{eqb, ltb}
 use lib.ListN.{length}
 use borrow.Author.Tests.{ltb-true, ltb-false}
+use Rattle.model.proofs.Accepted.{sheet-meets}
 use Rattle.model.proofs.Bounded.{and-left}
 use Rattle.model.proofs.Refusal.{cond-ok, cond-refused}
 use Rattle.model.specs.Limits.{channels, scratchLeast}
@@ -137,6 +138,7 @@ whole-lists held zero text code cs words m s =
       S,
       record {
         isSheet = k .isSheet;
+        causalOrder = sheet-meets text S (k .isSheet);
         state = k .state;
         answers = k .answers;
         anOrder = λ only. let o = steps-ordered S cs only (fresh code) in (o .steps, o .isOrder, k .state ∙ o .reached);

@@ -21,7 +21,8 @@ use Rattle.model.proofs.Bounded.{not-both}
 use Rattle.model.proofs.Refusal.{and-then-ok}
 use Rattle.model.proofs.Block.{NoCircle, listed-more, listed-first, listed-later, own-pair-from}
 use Rattle.model.proofs.Clean.{Ordered, ordered-empty, Clean, read-clean, sheet-clean}
-use Rattle.model.proofs.Order.{own-parts, earlier-parts}
+use Rattle.model.proofs.Events.{own-parts}
+use Rattle.model.proofs.Order.{earlier-parts}
 use Rattle.model.proofs.Standing.{Fits, read-fits, sheet-fits}
 use Rattle.model.proofs.Walks.{Kept, walk-keeps}
 use Rattle.model.proofs.Walked.{Sound, Opened, sound-start, sound-kept}
@@ -304,9 +305,9 @@ module _ (s : Progress Met) (n : ℕ) (orders : List (ℕ × ℕ)) (h : Sound s)
         subst₂ (BlockBefore (B .events) (B .orders)) (omega (arith, r .firstIs)) (omega (arith, r .secondIs)) (given (r .isRow)),
       )
 
-  own-leads : (x y : Event) → isOwn (exchangeOf s) x y ≡ true → Leads x y
+  own-leads : (x y : Event) → isOwn (exchangeOf s .count) x y ≡ true → Leads x y
   unfolding exchangeOf number messageOf
-  own-leads x y o = let p = own-parts (exchangeOf s) x y o in subst₂ Leads (sym (p .1)) (sym (p .2)) (pair (p .0) (p .3))
+  own-leads x y o = let p = own-parts (exchangeOf s .count) x y o in subst₂ Leads (sym (p .1)) (sym (p .2)) (pair (p .0) (p .3))
     where
       pair : (m : ℕ) → m < s .walk .count → Leads (sendOf m) (receiveOf m)
       pair m l =

@@ -1,13 +1,13 @@
 -- The test "before" is exactly the relation "before" of specs/Order, and how a chain of it ends. Assumes nothing.
 use Prim.Native.Nat.{ℕ, _*_, _<_}
-use mathlib.Core.Path.{_≡_, refl, sym, ap, subst, subst₂}
+use mathlib.Core.Path.{_≡_, refl, subst, subst₂}
 use mathlib.Core.Logic.{_⊎_, inl, inr, ⊎-elim, _↔_}
-use mathlib.Core.Bool.{Bool, true, false, _&&_, _||_}
+use mathlib.Core.Bool.{Bool, true, _&&_, _||_}
 use lib.Dec.{eqb, ltb}
-use borrow.Author.Tests.{eqb-true, eq-eqb, ltb-true, lt-ltb}
+use borrow.Author.Tests.{eqb-true, ltb-true}
 use Rattle.model.specs.Order.{Event, sendOf, receiveOf, number, event, messageOf, Exchange, boardOf, isEvent, isOwn, isEarlier, Before, row, own, earlier, link, direct, beforeTable, scenarioOf, atOrBefore}
-use Rattle.model.proofs.Bounded.{and-left, and-right, and-both, or-cases, or-left, or-right, not-both}
-use Rattle.model.proofs.Events.{event-number, below-number, at-or-before-cases, at-or-before-same, at-or-before-before}
+use Rattle.model.proofs.Bounded.{and-left, and-right, or-cases, or-left, or-right}
+use Rattle.model.proofs.Events.{event-number, own-parts, own-both, below-number, at-or-before-cases, at-or-before-same, at-or-before-before}
 use Rattle.model.proofs.Closure.{linked-below, closure-holds, closure-transitive, closure-least}
 use Rattle.model.proofs.Causal.{LastLink, Causal}
 
@@ -24,29 +24,17 @@ module _ (E : Exchange) where
   RowsInside = (x y : Event) → E .ordered x y ≡ true → BothInside x y
 
   -- What the three sources say.
-  direct-cases : (x y : Event) → direct E x y ≡ true → (E .ordered x y ≡ true) ⊎ (isOwn E x y ≡ true) ⊎ (isEarlier E x y ≡ true)
+  direct-cases : (x y : Event) → direct E x y ≡ true → (E .ordered x y ≡ true) ⊎ (isOwn (E .count) x y ≡ true) ⊎ (isEarlier E x y ≡ true)
   unfolding direct
   direct-cases x y h =
       ⊎-elim
-      (λ p. ⊎-elim (λ o. inl o) (λ o. inr (inl o)) (or-cases (E .ordered x y) (isOwn E x y) p))
+      (λ p. ⊎-elim (λ o. inl o) (λ o. inr (inl o)) (or-cases (E .ordered x y) (isOwn (E .count) x y) p))
       (λ e. inr (inr e))
-      (or-cases (E .ordered x y || isOwn E x y) (isEarlier E x y) h)
+      (or-cases (E .ordered x y || isOwn (E .count) x y) (isEarlier E x y) h)
 
-  pub own-parts : (x y : Event) → isOwn E x y ≡ true → (m : ℕ) × (x ≡ sendOf m) × (y ≡ receiveOf m) × (m < E .count)
-  unfolding isOwn
-  own-parts (sendOf m) (sendOf k) h = not-both false h refl
-  own-parts (sendOf m) (receiveOf k) h = (
-    m,
-    refl,
-    ap receiveOf (sym (eqb-true m k (and-left (eqb m k) (ltb m (E .count)) h))),
-    ltb-true m (E .count) (and-right (eqb m k) (ltb m (E .count)) h),
-  )
-  own-parts (receiveOf m) (sendOf k) h = not-both false h refl
-  own-parts (receiveOf m) (receiveOf k) h = not-both false h refl
-
-  own-inside : (x y : Event) → isOwn E x y ≡ true → BothInside x y
+  own-inside : (x y : Event) → isOwn (E .count) x y ≡ true → BothInside x y
   unfolding messageOf
-  own-inside x y h = let p = own-parts x y h in (rw (p .1) (p .3), rw (p .2) (p .3))
+  own-inside x y h = let p = own-parts (E .count) x y h in (rw (p .1) (p .3), rw (p .2) (p .3))
 
   pub record EarlierBlock (x y : Event) : Type 0 where
     pub inside : BothInside x y
@@ -91,18 +79,18 @@ module _ (E : Exchange) where
   unfolding direct
   before-row inside x y h =
       before-direct x y (inside x y h)
-      (or-left (E .ordered x y || isOwn E x y) (isEarlier E x y) (or-left (E .ordered x y) (isOwn E x y) h))
+      (or-left (E .ordered x y || isOwn (E .count) x y) (isEarlier E x y) (or-left (E .ordered x y) (isOwn (E .count) x y) h))
 
-  pub before-own : (x y : Event) → isOwn E x y ≡ true → scenarioOf E .before x y ≡ true
+  pub before-own : (x y : Event) → isOwn (E .count) x y ≡ true → scenarioOf E .before x y ≡ true
   unfolding direct
   before-own x y h =
       before-direct x y (own-inside x y h)
-      (or-left (E .ordered x y || isOwn E x y) (isEarlier E x y) (or-right (E .ordered x y) (isOwn E x y) h))
+      (or-left (E .ordered x y || isOwn (E .count) x y) (isEarlier E x y) (or-right (E .ordered x y) (isOwn (E .count) x y) h))
 
   pub before-earlier : (x y : Event) → isEarlier E x y ≡ true → scenarioOf E .before x y ≡ true
   unfolding direct
   before-earlier x y h =
-      before-direct x y (earlier-parts x y h .inside) (or-right (E .ordered x y || isOwn E x y) (isEarlier E x y) h)
+      before-direct x y (earlier-parts x y h .inside) (or-right (E .ordered x y || isOwn (E .count) x y) (isEarlier E x y) h)
 
   pub before-transitive : (x y z : Event) → scenarioOf E .before x y ≡ true → scenarioOf E .before y z ≡ true → scenarioOf E .before x z ≡ true
   unfolding scenarioOf beforeTable
@@ -111,7 +99,7 @@ module _ (E : Exchange) where
   -- It lies inside every transitive relation that holds the three sources.
   pub before-least : (Q : Event → Event → Type 0)
       → ((x y : Event) → E .ordered x y ≡ true → Q x y)
-      → ((x y : Event) → isOwn E x y ≡ true → Q x y)
+      → ((x y : Event) → isOwn (E .count) x y ≡ true → Q x y)
       → ((x y : Event) → isEarlier E x y ≡ true → Q x y)
       → ((x y z : Event) → Q x y → Q y z → Q x z)
       → (x y : Event) → scenarioOf E .before x y ≡ true → Q x y
@@ -161,7 +149,7 @@ module _ (E : Exchange) where
   relation-last : RowsInside → RowsOnOneBoard → {x y : Event} → Before E x y → LastLink (scenarioOf E) x y
   relation-last inside oneBoard (row {x = x} {y = y} h) = on-one-board x y (before-row inside x y h) (oneBoard x y h)
   relation-last inside oneBoard (own {x = x} {y = y} h) =
-      let p = own-parts x y h in inr (p .0, p .2, at-or-before-same (scenarioOf E) x (sendOf (p .0)) (p .1))
+      let p = own-parts (E .count) x y h in inr (p .0, p .2, at-or-before-same (scenarioOf E) x (sendOf (p .0)) (p .1))
   relation-last inside oneBoard (earlier {x = x} {y = y} h) =
       on-one-board x y (before-earlier x y h) (earlier-parts x y h .oneBoard)
   relation-last inside oneBoard (link {x = x} {y = y} {z = z} p q) = carried (relation-before inside p) (relation-last inside oneBoard q)
@@ -172,17 +160,13 @@ module _ (E : Exchange) where
       carried b (inr l) =
           inr (l .0, l .1, at-or-before-before (scenarioOf E) x (sendOf (l .0)) (before-at-or-before x y (sendOf (l .0)) b (l .2)))
 
-  own-both : (m : ℕ) → m < E .count → isOwn E (sendOf m) (receiveOf m) ≡ true
-  unfolding isOwn
-  own-both m h = and-both (eqb m m) (ltb m (E .count)) (eq-eqb m m refl) (lt-ltb m (E .count) h)
-
   -- all that the theorem uses of "before", where no event is before itself
   pub causal : RowsInside → RowsOnOneBoard → ((x : Event) → Before E x x → ⊥) → Causal (scenarioOf E)
   unfolding scenarioOf
   causal inside oneBoard noCircle =
       record {
         inside = before-inside;
-        own = λ m h. before-own (sendOf m) (receiveOf m) (own-both m h);
+        own = λ m h. before-own (sendOf m) (receiveOf m) (own-both (E .count) m h);
         trans = before-transitive;
         irreflexive = λ x b. noCircle x (before-relation x x b);
         lastLink = λ x y h. relation-last inside oneBoard (before-relation x y h);

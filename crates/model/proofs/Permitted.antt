@@ -11,7 +11,6 @@ use Rattle.model.specs.Limits.{textMost, channels, scratchLeast, traceLe
 use Rattle.model.specs.Bounded.{lowest}
 use Rattle.model.specs.Refusal.{Out, ok, refusal, andThen, channelRefusal, benchRefusal, lengthRefusal, senderTableRefusal, forbiddenRefusal}
 use Rattle.model.specs.Text.{linesOf}
-use Rattle.model.specs.Rows.{message}
 use Rattle.model.specs.Place.{bodyOf, readWith}
 use Rattle.model.specs.Expansion.{Progress, expand}
 use Rattle.model.specs.Order.{Met, Scenario, exchangeOf, scenarioOf}

@@ -17,7 +17,7 @@ use Rattle.model.specs.Refusal.{Out, ok, refusal}
 use Rattle.model.specs.Order.{Event, receiveOf, number, event, Scenario, board}
 use Rattle.model.specs.Channel.{Channel, channelOf}
 use Rattle.model.specs.Run.{State, start, Step, next, allowed, isOrderFrom, after, finished, stuck, EndsStuck, CanFinish}
-use Rattle.model.specs.Race.{RaceRule, never, raceRuleOf, escapes, isRace, races, lowestEvent, lowestMessage, lowestRace}
+use Rattle.model.specs.Race.{RaceRule, never, raceRuleOf, notAtOrBefore, isRace, races, lowestEvent, lowestMessage, lowestRace}
 use Rattle.model.specs.Schedule.{classesFor, choose, schedule, scheduleFrom, bytesOf}
 use Rattle.model.specs.Answer.{Answer, free, locked, acceptedOf, verdictOf, answerFor, answerOf, scratchBehind, traceAfter, Numbers, numbersOf}
 use Rattle.model.specs.Verdict.{LowestRace, Verdict, PointThree, Checked}
@@ -36,17 +36,17 @@ use Rattle.model.proofs.Orders.{after-append, order-rest, reached-from-
 
 -- a race, taken apart
 pub race-parts : (S : Scenario) (r : RaceRule) (e : ℕ) (x : Event) → isRace S r e x ≡ true
-    → (board S x ≡ S .target e) × (S .before x (receiveOf e) ≡ true) × (escapes S r e x ≡ true)
+    → (board S x ≡ S .target e) × (S .before x (receiveOf e) ≡ true) × (notAtOrBefore S r e x ≡ true)
 unfolding isRace
 race-parts S r e x h =
     let t = eqb (board S x) (S .target e) in
     let b = S .before x (receiveOf e) in
-    let both : (t && b) ≡ true = and-left (t && b) (escapes S r e x) h in
-    (eqb-true (board S x) (S .target e) (and-left t b both), and-right t b both, and-right (t && b) (escapes S r e x) h)
+    let both : (t && b) ≡ true = and-left (t && b) (notAtOrBefore S r e x) h in
+    (eqb-true (board S x) (S .target e) (and-left t b both), and-right t b both, and-right (t && b) (notAtOrBefore S r e x) h)
 
-never-escapes : (S : Scenario) (e : ℕ) (x : Event) → escapes S never e x ≡ false
-unfolding escapes
-never-escapes S e x = refl
+never-outside : (S : Scenario) (e : ℕ) (x : Event) → notAtOrBefore S never e x ≡ false
+unfolding notAtOrBefore
+never-outside S e x = refl
 
 -- the lowest message that races, and in it the lowest event
 module _ (S : Scenario) (r : RaceRule) where
@@ -119,7 +119,7 @@ module _ (S : Scenario) (C : Causal S) (code : ℕ) (known : code < channels) wh
       let U = suited S C code known in
       let p = race-parts S r e x h in
       let eager : c .eager ≡ true =
-      ⊎-elim (λ t. t) (λ (f : c .eager ≡ false). not-both _ (subst (λ (q : RaceRule). escapes S q e x ≡ true) (U .lazy f) (p .2)) (never-escapes S e x)) (which (c .eager)) in
+      ⊎-elim (λ t. t) (λ (f : c .eager ≡ false). not-both _ (subst (λ (q : RaceRule). notAtOrBefore S q e x ≡ true) (U .lazy f) (p .2)) (never-outside S e x)) (which (c .eager)) in
       record {
         isOrder = schedule-order S c e (3 * S .count) start;
         isStuck =

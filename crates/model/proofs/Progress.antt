@@ -1,7 +1,7 @@
 -- Without a race, a state that the invariants hold of and that is not finished allows a step. Assumes nothing.
 use Prim.Native.Nat.{ℕ, _*_, _<_, _≤_}
 use native.Mathlib.Omega.{arith}
-use mathlib.Core.Path.{_≡_, refl, sym, ap, subst}
+use mathlib.Core.Path.{_≡_, refl, sym, subst}
 use mathlib.Core.Logic.{_⊎_, inl, inr, ⊎-elim}
 use mathlib.Core.Bool.{Bool, true, false, not}
 use borrow.Author.Tests.{eqb-true, eq-eqb, leb-true, leb-false, le-leb, lt-leb, not-true, not-false}
@@ -10,14 +10,14 @@ use Rattle.model.specs.Bounded.{every}
 use Rattle.model.specs.Order.{Event, sendOf, receiveOf, number, event, messageOf, Scenario, board, boardOf, atOrBefore}
 use Rattle.model.specs.Channel.{Channel, ToSend, ToDeliver, inOrder, alone}
 use Rattle.model.specs.Run.{Step, send, deliver, consume, ready, allowed, finished}
-use Rattle.model.specs.Race.{RaceRule, byEvent, byOrigin, never, origin, escapes, isRace}
+use Rattle.model.specs.Race.{RaceRule, byEvent, byOrigin, never, origin, notAtOrBefore, isRace}
 use Rattle.model.proofs.Bounded.{which, not-both, not-is-true, every-at, every-not}
 use Rattle.model.proofs.Events.{event-number, below-number, below-event, at-or-before-cases}
 use Rattle.model.proofs.Causal.{Causal}
 use Rattle.model.proofs.Least.{least-below}
 use Rattle.model.proofs.Phases.{equal-or-not, doneAt, view}
 use Rattle.model.proofs.Rules.{Ready, Waits, ready-use, ready-not, Quiet, DeliverRule, BoardFree, finished-not, send-on, deliver-on, consume-on}
-use Rattle.model.proofs.Invariants.{Single, SendInv, Inv}
+use Rattle.model.proofs.Invariants.{Single, SendInv, Inv, inv-start}
 use Rattle.model.proofs.Suited.{Suited}
 
 -- some message below n is in phase j, or none is
@@ -135,16 +135,16 @@ module _ (S : Scenario) (C : Causal S) where
           (which (atOrBefore S y x))
 
       -- what a held message waits for races with it
-      waits-escapes : (q : RaceRule) → (q ≡ never → ⊥) → (c .eager ≡ true)
+      waits-outside : (q : RaceRule) → (q ≡ never → ⊥) → (c .eager ≡ true)
           → (q ≡ byOrigin → (e g : ℕ) → φ e ≡ 2 → S .target g ≡ S .target e → S .before (sendOf g) (sendOf e) ≡ true → φ g ≡ 1 → ⊥)
-          → (e : ℕ) → φ e ≡ 2 → (y : Event) → Waits S C φ (receiveOf e) y → escapes S q e y ≡ true
-      unfolding escapes origin boardOf
-      waits-escapes never n v settled e p y W = absurd (n refl)
-      waits-escapes byEvent n v settled e p y W =
+          → (e : ℕ) → φ e ≡ 2 → (y : Event) → Waits S C φ (receiveOf e) y → notAtOrBefore S q e y ≡ true
+      unfolding notAtOrBefore origin boardOf
+      waits-outside never n v settled e p y W = absurd (n refl)
+      waits-outside byEvent n v settled e p y W =
           not-is-true (atOrBefore S y (sendOf e)) (undone-above y (sendOf e) (W .undone) (le-leb 1 (φ e) (omega arith)))
-      waits-escapes byOrigin n v settled e p (sendOf g) W =
+      waits-outside byOrigin n v settled e p (sendOf g) W =
           not-is-true (atOrBefore S (sendOf g) (sendOf e)) (undone-above (sendOf g) (sendOf e) (W .undone) (le-leb 1 (φ e) (omega arith)))
-      waits-escapes byOrigin n v settled e p (receiveOf g) W =
+      waits-outside byOrigin n v settled e p (receiveOf g) W =
           ⊎-elim
           (λ (t : atOrBefore S (sendOf g) (sendOf e) ≡ true).
           ⊎-elim
@@ -167,7 +167,7 @@ module _ (S : Scenario) (C : Causal S) where
           rw (
             eq-eqb (board S y) (S .target e) (W .onBoard),
             W .isBefore,
-            waits-escapes r (U .eager v) v (λ o. U .settled o φ I) e p y W,
+            waits-outside r (U .eager v) v (λ o. U .settled o φ I) e p y W,
           )
 
       -- what a held message does on an eager channel: it may be consumed, or it races
@@ -214,3 +214,15 @@ module _ (S : Scenario) (C : Causal S) where
           (in-phase (S .count) 2 φ))
           (λ (l : c .eager ≡ false). clear-moves (λ e. not-both (c .eager) e l) f)
           (which (c .eager))
+
+-- at the start of a scenario with messages the least event is a send, and it may go
+pub start-moves : (S : Scenario) (C : Causal S) (c : Channel) → 0 < S .count → (t : Step) × (allowed S c (view S (λ m. 0)) t ≡ true)
+unfolding messageOf
+start-moves S C c l =
+    let first = least-event S C (λ y. true) (sendOf 0) l refl in
+    ⊎-elim (λ s. (send (s .0), s .2)) (λ s. ⊎-elim (λ (e : 0 ≡ 1). absurd (omega (arith, e))) (λ a. (consume (s .0), a)) (s .3))
+    (least-moves S C c (λ m. 0) (inv-start S C c) (λ y. true) (first .0) (undone (first .0)) (first .1) (λ z b u. refl) (λ e k h p. omega (arith, p)) (inl (λ f h p. omega (arith, p))))
+  where
+    undone : (y : Event) → doneAt (λ m. 0) y ≡ false
+    undone (sendOf m) = refl
+    undone (receiveOf m) = refl

@@ -13,7 +13,7 @@ use lib.ListN.{length, length-map}
 use borrow.Author.Tests.{eqb-true, eqb-false, eq-eqb, ne-eqb, not-true, not-false}
 use Rattle.model.specs.Limits.{jobsMost}
 use Rattle.model.specs.Bounded.{howMany, among, eachOnce}
-use Rattle.model.specs.Dispatcher.{codeAt, Job, Desk, emptyDesk, placesOf, numbersIn, isFree, freePlace, newJob, admitting, without, Call, Outcome, outcomeOf, behind, Orderly}
+use Rattle.model.specs.Dispatcher.{codeAt, Job, DispatcherState, emptyDispatcher, placesOf, numbersIn, isFree, freePlace, newJob, admitting, without, Call, Outcome, outcomeOf, behind, Orderly}
 use Rattle.model.proofs.Bounded.{which, many-same, many-most, lowest-some, lowest-none, lowest-nowhere, or-neither}
 use Rattle.model.proofs.CallCases.{again, Does, refuses, idles, admits, takes, answers, cancels, call-does}
 use Rattle.model.proofs.Ahead.{among-snoc, among-here, among-there, among-not, once-parts, once-make, once-below, once-snoc}
@@ -194,20 +194,20 @@ without-kept n (h ∷ ahead) j rest e =
 -- ---- orderly dispatchers
 
 -- each job has a place and a number of its own
-pub record OneEach (d : Desk) : Type 0 where
+pub record OneEach (d : DispatcherState) : Type 0 where
   pub places : eachOnce jobsMost (map placeOf (d .queue)) ≡ true
   pub numbers : eachOnce (d .given) (map numberOf (d .queue)) ≡ true
 
-pub orderly-of : (d : Desk) → OneEach d → Orderly d
+pub orderly-of : (d : DispatcherState) → OneEach d → Orderly d
 orderly-of d o =
     record { places = rw (places-map (d .queue)) (o .places); numbers = rw (numbers-map (d .queue)) (o .numbers) }
 
-pub one-each-empty : OneEach emptyDesk
+pub one-each-empty : OneEach emptyDispatcher
 unfolding eachOnce
 one-each-empty = record { places = refl; numbers = refl }
 
 -- an admission takes a free place, and the next number
-one-each-admitting : (d : Desk) (p code count : ℕ) → OneEach d → freePlace d ≡ some p → OneEach (admitting d p code count)
+one-each-admitting : (d : DispatcherState) (p code count : ℕ) → OneEach d → freePlace d ≡ some p → OneEach (admitting d p code count)
 unfolding admitting freePlace isFree
 one-each-admitting d p code count o e =
     let L = lowest-some jobsMost (isFree d) p e in
@@ -221,11 +221,11 @@ one-each-admitting d p code count o e =
     }
 
 -- the same of the queue as it comes apart
-pub one-each-of : (d : Desk) (js : List Job) → d .queue ≡ js → OneEach d → OneEach (record { queue = js; given = d .given })
+pub one-each-of : (d : DispatcherState) (js : List Job) → d .queue ≡ js → OneEach d → OneEach (record { queue = js; given = d .given })
 one-each-of d js e o = subst (λ (q : List Job). OneEach (record { queue = q; given = d .given })) e o
 
 -- every call keeps it
-one-each-next : (d : Desk) (c : Call) (next : Desk) (u : Outcome) → Does d c next u → OneEach d → OneEach next
+one-each-next : (d : DispatcherState) (c : Call) (next : DispatcherState) (u : Outcome) → Does d c next u → OneEach d → OneEach next
 one-each-next d c next u refuses o = o
 one-each-next d c next u (idles e) o = o
 one-each-next d c next u (admits {l = l} {p = p} {S = S} a) o = one-each-admitting d p (codeAt l p) (S .count) o (a .place)
@@ -247,18 +247,18 @@ one-each-next d c next u (cancels {n = n} m) o =
       numbers = once-without numberOf (d .given) n (d .queue) (o .numbers);
     }
 
-pub one-each-behind : (d : Desk) (c : Call) → OneEach d → OneEach (behind d c)
+pub one-each-behind : (d : DispatcherState) (c : Call) → OneEach d → OneEach (behind d c)
 one-each-behind d c o = one-each-next d c (behind d c) (outcomeOf d c) (call-does d c) o
 
 -- at most so many jobs are held as there are places
-pub jobs-most : (d : Desk) → OneEach d → length (d .queue) ≤ jobsMost
+pub jobs-most : (d : DispatcherState) → OneEach d → length (d .queue) ≤ jobsMost
 jobs-most d o = subst (λ (n : ℕ). n ≤ jobsMost) (length-map (d .queue) placeOf) (once-most jobsMost _ (o .places))
 
 -- and no place is free exactly if so many are held
-places-taken : (d : Desk) → OneEach d → howMany jobsMost (λ k. among k (map placeOf (d .queue))) ≡ length (d .queue)
+places-taken : (d : DispatcherState) → OneEach d → howMany jobsMost (λ k. among k (map placeOf (d .queue))) ≡ length (d .queue)
 places-taken d o = once-many jobsMost (map placeOf (d .queue)) (o .places) ∙ length-map (d .queue) placeOf
 
-pub full-when : (d : Desk) → OneEach d → (freePlace d ≡ none) ↔ (length (d .queue) ≡ jobsMost)
+pub full-when : (d : DispatcherState) → OneEach d → (freePlace d ≡ none) ↔ (length (d .queue) ≡ jobsMost)
 unfolding freePlace isFree
 full-when d o = (full, filled)
   where

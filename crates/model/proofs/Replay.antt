@@ -4,28 +4,32 @@ use Prim.Native.Nat.{ℕ, zero, suc, _+_, _*_, _%_, _<_, _≤_}
 use native.Mathlib.Nat.{add-zero}
 use native.Mathlib.Omega.{arith}
 use mathlib.Core.Path.{_≡_, refl, sym, _∙_, ap, subst, subst₂, subst⁻¹}
-use mathlib.Core.Logic.{_⊎_, inl, inr, ⊎-elim, _↔_}
-use mathlib.Core.Bool.{Bool, true, false, not, cond, _&&_}
+use mathlib.Core.Logic.{_⊎_, inl, inr, ⊎-elim}
+use mathlib.Core.Bool.{Bool, true, false, cond}
 use mathlib.Core.List.{List, [], _∷_, _++_}
 use mathlib.Core.Option.{Option, none, some}
-use borrow.Author.Tests.{lt-ltb, ltb-true, le-ltb, le-leb, leb-true, eq-eqb, eqb-true}
+use borrow.Author.Tests.{lt-ltb, ltb-true, le-ltb, le-leb, leb-true, eq-eqb, ne-eqb, eqb-true}
 use lib.Dec.{eqb, leb, ltb}
 use lib.ListN.{length, take, drop, getD, length-append, length-take, take-append-drop}
 use lib.Seq.{take-at, getD-append-add}
 use Rattle.model.specs.Limits.{channels, messagesMost, rowsMost, scratchLeast, traceLeast}
 use Rattle.model.specs.Refusal.{Out, ok, refusal, channelRefusal, benchRefusal, traceRefusal}
+use Rattle.model.specs.Bounded.{every}
 use Rattle.model.specs.Place.{lineOf}
 use Rattle.model.specs.Order.{Scenario}
 use Rattle.model.specs.Channel.{Channel, channelOf}
-use Rattle.model.specs.Run.{State, start, Step, next, allowed, isOrderFrom, noStep, after, finished, stuck, EndsStuck, EndsFinished}
+use Rattle.model.specs.Run.{State, start, Step, next, everyEvent, allowed, isOrderFrom, after, finished, stuck, EndsStuck, EndsFinished}
 use Rattle.model.specs.Schedule.{kindOf, messageOfStep, bytesOf, stepTold}
-use Rattle.model.specs.Answer.{Answer, locked, sheetOf, acceptedOf, answerFor, answerOf, verdictOf}
+use Rattle.model.specs.Answer.{locked, sheetOf, answerOf}
 use Rattle.model.specs.Replay.{Replay, finishes, sticks, open′, notAllowed, refused, stepsIn, standing, replayFrom, replay, isTrace, replayable, replayFor, replayOf, ReplayNumbers, replayNumbers, finishedWord, stuckWord, openWord, notAllowedWord, FirstForbidden, EndsOpen, ByTheRules}
-use Rattle.model.proofs.Bounded.{and-left, and-right, and-both, which, not-both}
+use Rattle.model.proofs.Bounded.{and-left, and-right, and-both, which}
 use Rattle.model.proofs.Refusal.{not-refused, cond-ok, cond-refused}
 use Rattle.model.proofs.Lines.{Well, sheet-well}
-use Rattle.model.proofs.Accepted.{sheet-count}
-use Rattle.model.proofs.Rules.{stuck-unfinished}
+use Rattle.model.proofs.Causal.{Causal}
+use Rattle.model.proofs.Accepted.{sheet-causal, sheet-count}
+use Rattle.model.proofs.Phases.{view, view-start}
+use Rattle.model.proofs.Rules.{finished-use, stuck-unfinished, stuck-forbids}
+use Rattle.model.proofs.Progress.{start-moves}
 use Rattle.model.proofs.Trace.{bytes-length, told-back, told-is, two-more}
 use Rattle.model.proofs.PointThree.{locked-stuck}
 
@@ -232,6 +236,28 @@ module _ (S : Scenario) (c : Channel) where
     replay-unrefused : {C : Type 0} → length trace % 2 ≡ 0 → (number line : ℕ) → replay S c trace ≡ refused number line → C
     replay-unrefused even number line e = unrefused (from-parts (parted trace even start)) number line e
 
+-- the start is finished without messages, and otherwise a step is left
+start-stands : (S : Scenario) (c : Channel) → Causal S → word (standing S c start) ≡ cond (eqb (S .count) 0) finishedWord openWord
+unfolding finished everyEvent every
+start-stands S c C = go (S .count) refl
+  where
+    go : (n : ℕ) → S .count ≡ n → word (standing S c start) ≡ cond (eqb n 0) finishedWord openWord
+    go zero e = ap word (finished-stands S c start (rw e))
+    go (suc n) e = ap word (open-stands S c start unfinished unstuck) ∙ sym (ap (λ b. cond b finishedWord openWord) (ne-eqb (suc n) 0 (λ z. omega (arith, z))))
+      where
+        some-message : 0 < S .count
+        some-message = omega (arith, e)
+
+        unfinished : finished S start ≡ false
+        unfinished =
+            subst⁻¹ (λ (s : State). finished S s ≡ false) (view-start S)
+            (⊎-elim (λ f. absurd (omega (arith, finished-use S (λ m. 0) f 0 some-message))) (λ f. f) (which (finished S (view S (λ m. 0)))))
+
+        unstuck : stuck S c start ≡ false
+        unstuck =
+            subst⁻¹ (λ (s : State). stuck S c s ≡ false) (view-start S)
+            (⊎-elim (λ t. let m = start-moves S C c some-message in absurd (stuck-forbids S (λ m. 0) c C t (m .0) (m .1))) (λ f. f) (which (stuck S c (view S (λ m. 0)))))
+
 -- What the call promises of an accepted sheet, and of the check's own traces.
 module _ (text : List ℕ) (code scratchLength : ℕ) (trace : List ℕ) where
   pub replay-parts : (S : Scenario) → replayable text code scratchLength (length trace) ≡ ok S
@@ -250,6 +276,13 @@ module _ (text : List ℕ) (code scratchLength : ℕ) (trace : List ℕ) where
       let p = replay-parts S e in
       let even : length trace % 2 ≡ 0 = eqb-true (length trace % 2) 0 (and-left (eqb (length trace % 2) 0) (leb (length trace) traceLeast) (p .1)) in
       rw e (by-the-rules S (channelOf code) trace even)
+
+  pub empty-trace : (S : Scenario) → replayable text code scratchLength (length trace) ≡ ok S → trace ≡ []
+      → word (replayOf text code scratchLength trace) ≡ cond (eqb (S .count) 0) finishedWord openWord
+  unfolding replayOf replayFor replay replayFrom stepsIn
+  empty-trace S e t =
+      let stands = start-stands S (channelOf code) (sheet-causal text S (replay-parts S e .2)) in
+      rw e (subst⁻¹ (λ (l : List ℕ). word (replay S (channelOf code) l) ≡ cond (eqb (S .count) 0) finishedWord openWord) t stands)
 
   pub schedules-stick : (m n e x : ℕ) (ts : List Step) → answerOf text code m n ≡ locked e x ts → trace ≡ bytesOf ts → scratchLeast ≤ scratchLength
       → replayOf text code scratchLength trace ≡ sticks

@@ -5,10 +5,11 @@ use mathlib.Core.List.{List}
 use borrow.Author.Tests.{le-ltb}
 use lib.ListN.{length}
 use Rattle.model.specs.Limits.{scratchLeast}
-use Rattle.model.specs.Answer.{acceptedOf, answerOf, answerFor, traceAfter}
-use Rattle.model.specs.Replay.{replayable, replayOf, replayFor}
+use Rattle.model.specs.Answer.{acceptedOf, answerOf, traceAfter}
+use Rattle.model.specs.Replay.{replayable, replayOf}
+use Rattle.model.specs.Waits.{waitsOf}
 use Rattle.model.specs.Choice.{choosable, choiceAnswerOf, traceChosen}
-use Rattle.model.specs.Scratch.{SameOnScratch, SameOnAnyScratch}
+use Rattle.model.specs.Scratch.{SameOnAnyScratch}
 
 module _ (text : List ℕ) (code m n : ℕ) (a : scratchLeast ≤ m) (b : scratchLeast ≤ n) where
   same-accepted : (traceLength : ℕ) → acceptedOf text code m traceLength ≡ acceptedOf text code n traceLength
@@ -27,6 +28,10 @@ module _ (text : List ℕ) (code m n : ℕ) (a : scratchLeast ≤ m) (b : scratc
   unfolding replayOf
   same-replay trace = rw (same-replayable (length trace))
 
+  same-waits : (trace : List ℕ) → waitsOf text code m trace ≡ waitsOf text code n trace
+  unfolding waitsOf
+  same-waits trace = rw (same-replayable (length trace))
+
   same-choosable : (traceLength : ℕ) → choosable text code m traceLength ≡ choosable text code n traceLength
   unfolding choosable
   same-choosable traceLength = rw (le-ltb m scratchLeast a, le-ltb n scratchLeast b)
@@ -40,6 +45,7 @@ same-on-any-scratch text code m n a b = record {
   answer = same-answer text code m n a b;
   traceLeft = λ trace. ap (λ answer. traceAfter answer trace) (same-answer text code m n a b (length trace));
   replayed = same-replay text code m n a b;
+  waits = same-waits text code m n a b;
   chosen = same-chosen text code m n a b;
   chosenTraceLeft = λ trace. ap (λ answer. traceChosen answer trace) (same-chosen text code m n a b (length trace));
 }

@@ -14,7 +14,7 @@ use Rattle.model.specs.Bounded.{among}
 use Rattle.model.specs.Refusal.{ok, refusal, andThen, headingRefusal, rowRefusal, placeRefusal, absentRefusal, circleRefusal}
 use Rattle.model.specs.Text.{Line, Columns, linesOf, headingOf}
 use Rattle.model.specs.Rows.{Row, sheet, message, order, block, call, choice, rowOf}
-use Rattle.model.specs.Place.{Place, outside, withMessage, messageFits, orderFits, moved, isSheet, placed, circleAt, lineOf, judged, rowsFrom, opens, strayCall, complete, bodyOf, readWith}
+use Rattle.model.specs.Place.{Place, outside, withMessage, messageFits, orderFits, moved, isSheet, placed, circleAt, lineOf, judged, rowsFrom, opens, absentCall, complete, bodyOf, readWith}
 use Rattle.model.specs.Expansion.{startOf}
 use Rattle.model.proofs.Refusal.{not-refused, and-then-ok, passed, cond-ok, cond-refused}
 
@@ -103,7 +103,7 @@ rows-fit choices c i p (l ∷ ls) rs e =
 -- a file that is complete is the rows read
 complete-same : (rs rs′ : List Row) → complete rs ≡ ok rs′ → rs ≡ rs′
 unfolding complete
-complete-same rs rs′ e = go (strayCall (opens rs) 0 rs) (cond-ok (among 0 (opens rs)) _ _ _ rs′ e .1)
+complete-same rs rs′ e = go (absentCall (opens rs) 0 rs) (cond-ok (among 0 (opens rs)) _ _ _ rs′ e .1)
   where
     go : (o : Option ℕ) → elim o [ none ↦ ok rs | some line ↦ refusal absentRefusal line ] ≡ ok rs′ → rs ≡ rs′
     go none h = cc

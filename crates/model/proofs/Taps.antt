@@ -4,7 +4,7 @@ use native.Mathlib.Omega.{arith}
 use mathlib.Core.Path.{_≡_, refl, _∙_, ap, subst, subst⁻¹}
 use mathlib.Core.Logic.{_⊎_, inl, inr, ⊎-elim}
 use mathlib.Core.Bool.{Bool, true, false, cond, _||_}
-use mathlib.Core.List.{List, _++_}
+use mathlib.Core.List.{List, [], _++_}
 use mathlib.Core.Option.{Option, none, some}
 use lib.Dec.{ltb}
 use lib.ListN.{length, getD, take, drop, List·getD-append}
@@ -24,7 +24,7 @@ use Rattle.model.proofs.Causal.{Causal}
 use Rattle.model.proofs.Accepted.{sheet-causal, sheet-count}
 use Rattle.model.proofs.Lines.{Well, sheet-well}
 use Rattle.model.proofs.Closure.{Over, over, linked-below, closure-holds, closure-transitive, closure-least}
-use Rattle.model.proofs.Ahead.{ahead-inside, ahead-transitive, ahead-irreflexive}
+use Rattle.model.proofs.Ahead.{ahead-empty, ahead-inside, ahead-transitive, ahead-irreflexive}
 use Rattle.model.proofs.Course.{next-use, next-on, course-holds, course-all, course-take, course-place}
 
 -- what acceptance says: the buffers are long enough, the sheet has its scenario, and each list has events of it, each once
@@ -135,6 +135,16 @@ module _ (S : Scenario) (C : Causal S) (first second : List ℕ) (firstOnce : ea
   obeyed-no-circle : (order : List ℕ) → Obeys S first second order → (x : ℕ) → Precedes S first second x x → ⊥
   obeyed-no-circle order O x p = ahead-irreflexive events order x (O .once) (obeyed order O p)
 
+  -- with empty lists only "before" is left, so nothing has to precede itself
+  empty-before : first ≡ [] → second ≡ [] → {x y : ℕ} → Precedes S first second x y → S .before (event x) (event y) ≡ true
+  empty-before f s (bySheet h) = h
+  empty-before f s (byFirst {x = x} {y = y} h) = not-both (ahead first x y) h (ahead-empty first f x y)
+  empty-before f s (bySecond {x = x} {y = y} h) = not-both (ahead second x y) h (ahead-empty second s x y)
+  empty-before f s (link {x = x} {y = y} {z = z} p q) = C .trans (event x) (event y) (event z) (empty-before f s p) (empty-before f s q)
+
+  empty-no-circle : first ≡ [] → second ≡ [] → (x : ℕ) → Precedes S first second x x → ⊥
+  empty-no-circle f s x p = C .irreflexive (event x) (empty-before f s p)
+
   -- what the test for the next event says in the request's words, and back
   nothing-before : (taken : List ℕ) (k : ℕ) → k < events → isNext events sooner taken k ≡ true → NothingBefore S first second taken k
   nothing-before taken k l h =
@@ -241,6 +251,7 @@ module _ (S : Scenario) (C : Causal S) (first second : List ℕ) (firstOnce : ea
       record {
         fitOrClash = inl refl;
         fitWhenObeyed = (λ i. (course, course-obeys noCircle), λ o. refl);
+        emptyFit = λ f s. refl;
         fitCount = λ i. long;
         fitOrder = λ i. subst⁻¹ (Obeys S first second) (take-append-seam course rest) (course-obeys noCircle);
         fitLowest = λ i k l. course-lowest noCircle rest k (omega arith);
@@ -251,6 +262,7 @@ module _ (S : Scenario) (C : Causal S) (first second : List ℕ) (firstOnce : ea
       record {
         fitOrClash = inr refl;
         fitWhenObeyed = (λ i. absurd (omega arith), λ o. absurd (obeyed-no-circle (o .0) (o .1) x (L .circle)));
+        emptyFit = λ f s. absurd (empty-no-circle f s x (L .circle));
         fitCount = λ i. absurd (omega arith);
         fitOrder = λ i. absurd (omega arith);
         fitLowest = λ i. absurd (omega arith);

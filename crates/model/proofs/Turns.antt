@@ -11,7 +11,7 @@ use borrow.Author.Tests.{eq-eqb, ne-eqb}
 use Rattle.model.specs.Limits.{traceLeast, jobsMost}
 use Rattle.model.specs.Order.{Scenario}
 use Rattle.model.specs.Answer.{Numbers}
-use Rattle.model.specs.Dispatcher.{placeWords, Job, Desk, lentTo, traceTo, Outcome, admitted, idle, taken, answered, cancelled, refused, outcomeOf, behind, takenWord, answeredWord, cancelledWord, idleWord, Told, toldAs, Member, Entry, says, isTurnOf, counted, isUnrefusedTurn, KeptFrom, AsTheCheck}
+use Rattle.model.specs.Dispatcher.{placeWords, Job, DispatcherState, lentTo, traceTo, Outcome, admitted, idle, taken, answered, cancelled, refused, outcomeOf, behind, takenWord, answeredWord, cancelledWord, idleWord, Told, toldAs, Member, Entry, says, isTurnOf, counted, isUnrefusedTurn, KeptFrom, AsTheCheck}
 use Rattle.model.proofs.Bounded.{not-both}
 use Rattle.model.proofs.Queue.{OneEach, orderly-of, jobs-most}
 use Rattle.model.proofs.Jobs.{names, isUnrefused, jobAt, Stands, Gone, Moved, stays, goesOn, isAnswered, isCancelled, one-call, gone-call}
@@ -74,30 +74,30 @@ member-of : (ahead : List Job) (j : Job) (rest : List Job) → Member j (ahead +
 member-of [] j rest = inl refl
 member-of (k ∷ ahead) j rest = inr (member-of ahead j rest)
 
-module _ {M : Type 0} (desk : M → Desk) (Holds : M → List ℕ → Job → Scenario → Type 0) (n : ℕ) where
+module _ {M : Type 0} (stateIn : M → DispatcherState) (Holds : M → List ℕ → Job → Scenario → Type 0) (n : ℕ) where
   -- the entry says what the outcome says
-  call-says : (d : M) (e : Entry) (c : Called desk Holds d e) (turning answering cancelling : Bool)
-      → ((a : Numbers) → Says n (toldAs (outcomeOf (desk d) (e .call)) a) turning answering cancelling) → Says n (e .told) turning answering cancelling
+  call-says : (d : M) (e : Entry) (c : Called stateIn Holds d e) (turning answering cancelling : Bool)
+      → ((a : Numbers) → Says n (toldAs (outcomeOf (stateIn d) (e .call)) a) turning answering cancelling) → Says n (e .told) turning answering cancelling
   call-says d e c turning answering cancelling h =
-      subst⁻¹ (λ (t : Told). Says n t turning answering cancelling) (told-as desk Holds d e c) (h (e .told .answer))
+      subst⁻¹ (λ (t : Told). Says n t turning answering cancelling) (told-as stateIn Holds d e c) (h (e .told .answer))
 
   -- a job that is gone is named by no call, and stays gone
   record Silent (es : List Entry) (last : M) : Type 0 where
-    gone : Gone n (desk last)
+    gone : Gone n (stateIn last)
     turns : counted (isTurnOf n) es ≡ 0
     answers : counted (says answeredWord n) es ≡ 0
     cancels : counted (says cancelledWord n) es ≡ 0
 
-  silent-call : (d : M) (e : Entry) (c : Called desk Holds d e) → Gone n (desk d) → Says n (e .told) false false false × Gone n (desk (c .result .next))
+  silent-call : (d : M) (e : Entry) (c : Called stateIn Holds d e) → Gone n (stateIn d) → Says n (e .told) false false false × Gone n (stateIn (c .result .next))
   silent-call d e c g =
-      let q = gone-call n (desk d) (e .call) g in (
-        call-says d e c false false false (λ a. unnamed-says n (outcomeOf (desk d) (e .call)) a (q .unnamed)),
+      let q = gone-call n (stateIn d) (e .call) g in (
+        call-says d e c false false false (λ a. unnamed-says n (outcomeOf (stateIn d) (e .call)) a (q .unnamed)),
         subst⁻¹ (Gone n) (c .serves .next) (q .gone),
       )
 
-  silent : (es : List Entry) (d last : M) → Ran desk Holds d es last → Gone n (desk d) → Silent es last
+  silent : (es : List Entry) (d last : M) → Ran stateIn Holds d es last → Gone n (stateIn d) → Silent es last
   unfolding counted isTurnOf says
-  silent [] d last r g = record { gone = subst (λ (m : M). Gone n (desk m)) r g; turns = refl; answers = refl; cancels = refl }
+  silent [] d last r g = record { gone = subst (λ (m : M). Gone n (stateIn m)) r g; turns = refl; answers = refl; cancels = refl }
   silent (e ∷ es) d last r g =
       let q = silent-call d e (r .0) g in
       let more = silent es (r .0 .result .next) last (r .1) (q .1) in
@@ -109,62 +109,62 @@ module _ {M : Type 0} (desk : M → Desk) (Holds : M → List ℕ → Job → Sc
       }
 
 -- The job n, in place p, with its code and its count of messages.
-module _ {M : Type 0} (desk : M → Desk) (Holds : M → List ℕ → Job → Scenario → Type 0) (n p code count : ℕ) where
+module _ {M : Type 0} (stateIn : M → DispatcherState) (Holds : M → List ℕ → Job → Scenario → Type 0) (n p code count : ℕ) where
   abbrev pub job : ℕ → Job
   job t = jobAt n p code count t
 
   -- it stands in the queue
   abbrev pub Held : M → ℕ → ℕ → Type 0
-  Held d t x = Stands n p code count (desk d) t x
+  Held d t x = Stands n p code count (stateIn d) t x
 
   -- What a call does to the job, as its entry says.
   pub data Met (d : M) (t x : ℕ) (e : Entry) (next : M) : Type 0 where
     waits : {y : ℕ} → Held next t y → y ≤ x → (isUnrefusedTurn e ≡ true → y < x) → Says n (e .told) false false false → Met d t x e next
     hasTurn : {y : ℕ} → Held next (suc t) y → t < 2 * count → isUnrefusedTurn e ≡ true → Says n (e .told) true false false → Met d t x e next
-    hasAnswer : Gone n (desk next) → x ≡ 0 → 2 * count ≤ t → outcomeOf (desk d) (e .call) ≡ answered n → Says n (e .told) true true false
+    hasAnswer : Gone n (stateIn next) → x ≡ 0 → 2 * count ≤ t → outcomeOf (stateIn d) (e .call) ≡ answered n → Says n (e .told) true true false
         → Met d t x e next
-    calledOff : Gone n (desk next) → Says n (e .told) false false true → Met d t x e next
+    calledOff : Gone n (stateIn next) → Says n (e .told) false false true → Met d t x e next
 
-  met : (d : M) (t x : ℕ) (e : Entry) (c : Called desk Holds d e) → OneEach (desk d) → Held d t x → Met d t x e (c .result .next)
+  met : (d : M) (t x : ℕ) (e : Entry) (c : Called stateIn Holds d e) → OneEach (stateIn d) → Held d t x → Met d t x e (c .result .next)
   unfolding isUnrefusedTurn
-  met d t x e c o s = go (one-call n p code count (desk d) (e .call) t x o s)
+  met d t x e c o s = go (one-call n p code count (stateIn d) (e .call) t x o s)
     where
       next : M
       next = c .result .next
 
-      held : (u y : ℕ) → Stands n p code count (behind (desk d) (e .call)) u y → Held next u y
-      held u y h = subst⁻¹ (λ (k : Desk). Stands n p code count k u y) (c .serves .next) h
+      held : (u y : ℕ) → Stands n p code count (behind (stateIn d) (e .call)) u y → Held next u y
+      held u y h = subst⁻¹ (λ (k : DispatcherState). Stands n p code count k u y) (c .serves .next) h
 
-      left : Gone n (behind (desk d) (e .call)) → Gone n (desk next)
+      left : Gone n (behind (stateIn d) (e .call)) → Gone n (stateIn next)
       left h = subst⁻¹ (Gone n) (c .serves .next) h
 
-      unrefused : isUnrefusedTurn e ≡ isUnrefused (outcomeOf (desk d) (e .call))
+      unrefused : isUnrefusedTurn e ≡ isUnrefused (outcomeOf (stateIn d) (e .call))
       unrefused =
-          ap (λ (k : Told). eqb (k .word) idleWord || eqb (k .word) takenWord || eqb (k .word) answeredWord) (told-as desk Holds d e c)
-          ∙ unrefused-says (outcomeOf (desk d) (e .call)) (e .told .answer)
+          ap (λ (k : Told). eqb (k .word) idleWord || eqb (k .word) takenWord || eqb (k .word) answeredWord) (told-as stateIn Holds d e c)
+          ∙ unrefused-says (outcomeOf (stateIn d) (e .call)) (e .told .answer)
 
       o′ : Outcome
-      o′ = outcomeOf (desk d) (e .call)
+      o′ = outcomeOf (stateIn d) (e .call)
 
-      go : Moved n p code count t x (behind (desk d) (e .call)) o′ → Met d t x e next
+      go : Moved n p code count t x (behind (stateIn d) (e .call)) o′ → Met d t x e next
       go (stays {y = y} h most fewer other) =
-          waits (held t y h) most (λ u. fewer (sym unrefused ∙ u)) (call-says desk Holds n d e c _ _ _ (λ a. unnamed-says n o′ a other))
+          waits (held t y h) most (λ u. fewer (sym unrefused ∙ u)) (call-says stateIn Holds n d e c _ _ _ (λ a. unnamed-says n o′ a other))
       go (goesOn {y = y} h more i) =
-          hasTurn (held (suc t) y h) more (unrefused ∙ ap isUnrefused i) (call-says desk Holds n d e c _ _ _ (λ a. taken-says n o′ a i))
+          hasTurn (held (suc t) y h) more (unrefused ∙ ap isUnrefused i) (call-says stateIn Holds n d e c _ _ _ (λ a. taken-says n o′ a i))
       go (isAnswered g first last i) =
-          hasAnswer (left g) first last i (call-says desk Holds n d e c _ _ _ (λ a. answered-says n o′ a i))
-      go (isCancelled g i) = calledOff (left g) (call-says desk Holds n d e c _ _ _ (λ a. cancelled-says n o′ a i))
+          hasAnswer (left g) first last i (call-says stateIn Holds n d e c _ _ _ (λ a. answered-says n o′ a i))
+      go (isCancelled g i) = calledOff (left g) (call-says stateIn Holds n d e c _ _ _ (λ a. cancelled-says n o′ a i))
 
-  is-member : (d : M) (t x : ℕ) → Held d t x → Member (job t) (desk d .queue)
+  is-member : (d : M) (t x : ℕ) → Held d t x → Member (job t) (stateIn d .queue)
   is-member d t x s = subst⁻¹ (Member (job t)) (s .queue) (member-of (s .ahead) (job t) (s .rest))
 
   -- held before and behind a call that is lent its words as they were left: they still hold its scenario
-  call-keeps : (d : M) (t x u y : ℕ) (e : Entry) (c : Called desk Holds d e) → OneEach (desk d) → Held d t x → Held (c .result .next) u y
+  call-keeps : (d : M) (t x u y : ℕ) (e : Entry) (c : Called stateIn Holds d e) → OneEach (stateIn d) → Held d t x → Held (c .result .next) u y
       → (left : List ℕ) (S : Scenario) → Holds d (placeWords p left) (job t) S → placeWords p (lentTo (e .call) .words) ≡ placeWords p left
       → Holds (c .result .next) (placeWords p (e .words)) (job u) S
   call-keeps d t x u y e c o s s′ left S h same =
-      c .serves .keeps (orderly-of (desk d) o) (job t) (job u) S (is-member d t x s)
-      (subst (λ (k : Desk). Member (job u) (k .queue)) (c .serves .next) (is-member (c .result .next) u y s′))
+      c .serves .keeps (orderly-of (stateIn d) o) (job t) (job u) S (is-member d t x s)
+      (subst (λ (k : DispatcherState). Member (job u) (k .queue)) (c .serves .next) (is-member (c .result .next) u y s′))
       refl (subst⁻¹ (λ (w : List ℕ). Holds d w (job t) S) same h)
 
   -- The job still held behind some calls: its turns counted, at most those it needs, and its words.
@@ -177,9 +177,9 @@ module _ {M : Type 0} (desk : M → Desk) (Holds : M → List ℕ → Job → Sc
     holds : (S : Scenario) → Holds d (placeWords p left) (job t) S → KeptFrom p left mid → Holds last (placeWords p (leftBy left mid)) (job turns) S
 
   -- one call ahead of them
-  followed-more : (d : M) (left : List ℕ) (t x u y : ℕ) (e : Entry) (c : Called desk Holds d e) (mid : List Entry) (last : M)
-      → OneEach (desk d) → Held d t x → Held (c .result .next) u y → u ≡ t + cond (isTurnOf n e) 1 0
-      → Followed (c .result .next) (e .words) u mid last ⊎ Gone n (desk last) → Followed d left t (e ∷ mid) last ⊎ Gone n (desk last)
+  followed-more : (d : M) (left : List ℕ) (t x u y : ℕ) (e : Entry) (c : Called stateIn Holds d e) (mid : List Entry) (last : M)
+      → OneEach (stateIn d) → Held d t x → Held (c .result .next) u y → u ≡ t + cond (isTurnOf n e) 1 0
+      → Followed (c .result .next) (e .words) u mid last ⊎ Gone n (stateIn last) → Followed d left t (e ∷ mid) last ⊎ Gone n (stateIn last)
   unfolding counted
   followed-more d left t x u y e c mid last o s s′ turned (inr g) = inr g
   followed-more d left t x u y e c mid last o s s′ turned (inl f) =
@@ -194,40 +194,40 @@ module _ {M : Type 0} (desk : M → Desk) (Holds : M → List ℕ → Job → Sc
       })
 
   -- behind the calls it is held, or gone
-  follow : (mid : List Entry) (d last : M) (left : List ℕ) (t x : ℕ) → Ran desk Holds d mid last → OneEach (desk d) → Held d t x → t ≤ 2 * count
-      → Followed d left t mid last ⊎ Gone n (desk last)
+  follow : (mid : List Entry) (d last : M) (left : List ℕ) (t x : ℕ) → Ran stateIn Holds d mid last → OneEach (stateIn d) → Held d t x → t ≤ 2 * count
+      → Followed d left t mid last ⊎ Gone n (stateIn last)
   unfolding counted isTurnOf says
   follow [] d last left t x r o s le =
-      subst (λ (m : M). Followed d left t [] m ⊎ Gone n (desk m)) r
+      subst (λ (m : M). Followed d left t [] m ⊎ Gone n (stateIn m)) r
       (inl (record { turns = t; position = x; areCounted = omega arith; notPast = le; stands = s; holds = λ S h k. h }))
   follow (e ∷ mid) d last left t x r o s le =
-      go (met d t x e c o s) (λ u y s′ b. follow mid next last (e .words) u y (r .1) (called-one-each desk Holds d e c o) s′ b)
+      go (met d t x e c o s) (λ u y s′ b. follow mid next last (e .words) u y (r .1) (called-one-each stateIn Holds d e c o) s′ b)
     where
-      c : Called desk Holds d e
+      c : Called stateIn Holds d e
       c = r .0
 
       next : M
       next = c .result .next
 
-      go : Met d t x e next → ((u y : ℕ) → Held next u y → u ≤ 2 * count → Followed next (e .words) u mid last ⊎ Gone n (desk last))
-          → Followed d left t (e ∷ mid) last ⊎ Gone n (desk last)
+      go : Met d t x e next → ((u y : ℕ) → Held next u y → u ≤ 2 * count → Followed next (e .words) u mid last ⊎ Gone n (stateIn last))
+          → Followed d left t (e ∷ mid) last ⊎ Gone n (stateIn last)
       go (waits {y = y} s′ most fewer says′) more =
           followed-more d left t x t y e c mid last o s s′ (rw (says′ .turns) (omega arith)) (more t y s′ le)
       go (hasTurn {y = y} s′ b unrefused says′) more =
           followed-more d left t x (suc t) y e c mid last o s s′ (rw (says′ .turns) (omega arith)) (more (suc t) y s′ b)
-      go (hasAnswer g first b i says′) more = inr (silent desk Holds n mid next last (r .1) g .gone)
-      go (calledOff g says′) more = inr (silent desk Holds n mid next last (r .1) g .gone)
+      go (hasAnswer g first b i says′) more = inr (silent stateIn Holds n mid next last (r .1) g .gone)
+      go (calledOff g says′) more = inr (silent stateIn Holds n mid next last (r .1) g .gone)
 
   -- ---- within so many unrefused turns
 
   -- the job with x others ahead of it
-  pub position-below : (d : M) (t x : ℕ) → OneEach (desk d) → Held d t x → x < jobsMost
+  pub position-below : (d : M) (t x : ℕ) → OneEach (stateIn d) → Held d t x → x < jobsMost
   position-below d t x o s =
       let whole = ap length (s .queue) ∙ length-append (s .ahead) (job t ∷ s .rest) in
-      omega (arith, jobs-most (desk d) o, s .position, whole)
+      omega (arith, jobs-most (stateIn d) o, s .position, whole)
 
   -- with so many turns of its own left before the last: each round of the queue takes one
-  pub answered-within : (es : List Entry) (d last : M) (t x left : ℕ) → Ran desk Holds d es last → OneEach (desk d) → Held d t x
+  pub answered-within : (es : List Entry) (d last : M) (t x left : ℕ) → Ran stateIn Holds d es last → OneEach (stateIn d) → Held d t x
       → t + left ≡ 2 * count → counted (says cancelledWord n) es ≡ 0 → jobsMost * left + x < counted isUnrefusedTurn es
       → counted (says answeredWord n) es ≡ 1
   unfolding counted says
@@ -236,14 +236,14 @@ module _ {M : Type 0} (desk : M → Desk) (Holds : M → List ℕ → Job → Sc
       go (met d t x e c o s)
       (λ u y more s′ sum′ enough′. answered-within es next last u y more (r .1) o′ s′ sum′ (omega (arith, quiet)) enough′)
     where
-      c : Called desk Holds d e
+      c : Called stateIn Holds d e
       c = r .0
 
       next : M
       next = c .result .next
 
-      o′ : OneEach (desk next)
-      o′ = called-one-each desk Holds d e c o
+      o′ : OneEach (stateIn next)
+      o′ = called-one-each stateIn Holds d e c o
 
       -- one call nearer: a turn that is not refused, or not one
       nearer : (y : ℕ) (b : Bool) → isUnrefusedTurn e ≡ b → y ≤ x → (b ≡ true → y < x) → jobsMost * left + y < counted isUnrefusedTurn es
@@ -271,7 +271,7 @@ module _ {M : Type 0} (desk : M → Desk) (Holds : M → List ℕ → Job → Sc
       go (hasTurn {y = y} s′ b u says′) ih =
           let w = own left refl b u y s′ in
           rw (says′ .answers) (omega (arith, ih (suc t) y (w .0) s′ (w .1) (w .2)))
-      go (hasAnswer g first b i says′) ih = rw (says′ .answers) (omega (arith, silent desk Holds n es next last (r .1) g .answers))
+      go (hasAnswer g first b i says′) ih = rw (says′ .answers) (omega (arith, silent stateIn Holds n es next last (r .1) g .answers))
       go (calledOff g says′) ih =
           let one : 1 + counted (says cancelledWord n) es ≡ 0 = rw (says′ .cancels) at quiet in
           absurd (omega arith)
@@ -279,7 +279,7 @@ module _ {M : Type 0} (desk : M → Desk) (Holds : M → List ℕ → Job → Sc
   -- ---- one call of the list
 
   -- with none ahead of it the job is the head
-  head-of : (d : M) (t x : ℕ) (s : Held d t x) → x ≡ 0 → desk d .queue ≡ job t ∷ s .rest
+  head-of : (d : M) (t x : ℕ) (s : Held d t x) → x ≡ 0 → stateIn d .queue ≡ job t ∷ s .rest
   head-of d t x s first = s .queue ∙ go (s .ahead) (s .position ∙ first)
     where
       go : (ahead : List Job) → length ahead ≡ 0 → ahead ++ (job t ∷ s .rest) ≡ job t ∷ s .rest
@@ -293,18 +293,18 @@ module _ {M : Type 0} (desk : M → Desk) (Holds : M → List ℕ → Job → Sc
 
   pub record Reached (d : M) (left : List ℕ) (mid : List Entry) (e : Entry) (rest : List Entry) (last : M) : Type 0 where
     before : M
-    oneEach : OneEach (desk before)
-    call : Called desk Holds before e
-    ranOn : Ran desk Holds (call .result .next) rest last
+    oneEach : OneEach (stateIn before)
+    call : Called stateIn Holds before e
+    ranOn : Ran stateIn Holds (call .result .next) rest last
     fate : Fate d left mid before e (call .result .next)
 
   pub reached : (d : M) (left : List ℕ) (x : ℕ) (mid : List Entry) (e : Entry) (rest : List Entry) (last : M)
-      → Ran desk Holds d (mid ++ (e ∷ rest)) last → OneEach (desk d) → Held d 0 x → Reached d left mid e rest last
+      → Ran stateIn Holds d (mid ++ (e ∷ rest)) last → OneEach (stateIn d) → Held d 0 x → Reached d left mid e rest last
   reached d left x mid e rest last r o s =
-      let parts = ran-split desk Holds mid (e ∷ rest) d last r in
+      let parts = ran-split stateIn Holds mid (e ∷ rest) d last r in
       let m = parts .0 in
       let c = parts .2 .0 in
-      let o′ = ran-one-each desk Holds mid d m (parts .1) o in
+      let o′ = ran-one-each stateIn Holds mid d m (parts .1) o in
       record {
         before = m;
         oneEach = o′;
@@ -313,7 +313,7 @@ module _ {M : Type 0} (desk : M → Desk) (Holds : M → List ℕ → Job → Sc
         fate =
             ⊎-elim
             (λ (f : Followed d left 0 mid m). stillHeld f (met m (f .turns) (f .position) e c o′ (f .stands)))
-            (λ (g : Gone n (desk m)). longGone (silent-call desk Holds n m e c g .0))
+            (λ (g : Gone n (stateIn m)). longGone (silent-call stateIn Holds n m e c g .0))
             (follow mid d m left 0 x (parts .1) o s (omega arith));
       }
 
@@ -346,8 +346,8 @@ module _ {M : Type 0} (desk : M → Desk) (Holds : M → List ℕ → Job → Sc
         never : (turning : Bool) → Says n (e .told) turning false false → counted (isTurnOf n) rest + counted (says cancelledWord n) rest ≡ 0
         never turning s = not-both (says answeredWord n e || says cancelledWord n e) over (rw (s .answers, s .cancels))
 
-        gone : Gone n (desk next) → counted (isTurnOf n) rest + counted (says cancelledWord n) rest ≡ 0
-        gone g = let s = silent desk Holds n rest next last (r .ranOn) g in omega (arith, s .turns, s .cancels)
+        gone : Gone n (stateIn next) → counted (isTurnOf n) rest + counted (says cancelledWord n) rest ≡ 0
+        gone g = let s = silent stateIn Holds n rest next last (r .ranOn) g in omega (arith, s .turns, s .cancels)
 
         go : Fate d left mid (r .before) e next → counted (isTurnOf n) rest + counted (says cancelledWord n) rest ≡ 0
         go (stillHeld f (waits s most fewer s′)) = never false s′
@@ -373,10 +373,10 @@ module _ {M : Type 0} (desk : M → Desk) (Holds : M → List ℕ → Job → Sc
         go (stillHeld f (hasAnswer g first b i s′)) =
             let k = kept-split p mid left e kept in
             let held = subst⁻¹ (λ (w : List ℕ). Holds (r .before) w (job (f .turns)) S) (k .1) (f .holds S h (k .0)) in
-            let c = r .call .serves .answers (orderly-of (desk (r .before)) (r .oneEach)) (job (f .turns)) (f .stands .rest) S
+            let c = r .call .serves .answers (orderly-of (stateIn (r .before)) (r .oneEach)) (job (f .turns)) (f .stands .rest) S
             (head-of (r .before) (f .turns) (f .position) (f .stands) first) i held in (
               subst⁻¹ (λ (t : Told). AsTheCheck S code (traceTo (e .call)) (e .trace) (t .answer)) (r .call .told) c,
-              trace-enough (desk (r .before)) (e .call) n i,
+              trace-enough (stateIn (r .before)) (e .call) n i,
             )
         go (stillHeld f (calledOff g s′)) = never _ _ s′
         go (longGone s) = never _ _ s

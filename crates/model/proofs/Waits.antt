@@ -4,28 +4,27 @@ use Prim.Native.Nat.{ℕ, zero, suc, _+_, _*_, _<_, _≤_}
 use native.Mathlib.Omega.{arith}
 use native.Mathlib.Decide.{decLt}
 use mathlib.Core.Path.{_≡_, refl, sym, _∙_, ap, subst, subst⁻¹}
-use mathlib.Core.Logic.{_⊎_, inl, inr, ⊎-elim, _↔_}
+use mathlib.Core.Logic.{⊎-elim, _↔_}
 use mathlib.Core.Bool.{Bool, true, false, not, cond, _&&_, _||_}
 use mathlib.Core.List.{List, [], _∷_, _++_}
 use mathlib.Core.Option.{Option, none, some}
 use borrow.Author.Tests.{eqb-true, eq-eqb, lt-leb}
-use lib.Dec.{eqb, leb}
+use lib.Dec.{eqb}
 use lib.ListN.{length, getD, length-append, List·getD-append}
 use lib.Seq.{getD-append-seam}
 use Rattle.model.specs.Limits.{boards, messagesMost}
 use Rattle.model.specs.Bounded.{lowest}
 use Rattle.model.specs.Refusal.{Out, ok, refusal}
-use Rattle.model.specs.Order.{Event, sendOf, receiveOf, number, event, messageOf, boardOf, board, Scenario}
-use Rattle.model.specs.Channel.{Channel, channelOf}
+use Rattle.model.specs.Order.{Event, receiveOf, number, event, boardOf, board, Scenario}
+use Rattle.model.specs.Channel.{channelOf}
 use Rattle.model.specs.Run.{State, start, Step, next, everyEvent, isAhead, ready, after, EndsStuck}
-use Rattle.model.specs.Schedule.{kindOf, messageOfStep, bytesOf}
+use Rattle.model.specs.Schedule.{bytesOf}
 use Rattle.model.specs.Replay.{Replay, finishes, sticks, open′, notAllowed, refused, stepsIn, replay, replayable, replayFor, replayOf, ReplayNumbers, replayNumbers, stuckWord, Replayed}
 use Rattle.model.specs.Waits.{Readiness, isReady, isDone, waitsFor, noWait, waited, holdsUp, readiness, unreadyIn, waitOf, endFrom, eachBoard, waitBy, waitFor, waitsOf, WaitsFor, Says, TraceChecked}
 use Rattle.model.proofs.Bounded.{and-left, and-right, and-both, which, not-both, not-is-true, IsLowest, lowest-none, lowest-some}
 use Rattle.model.proofs.Events.{event-number, below-number, below-event}
 use Rattle.model.proofs.Rules.{everyEvent-at, everyEvent-from}
 use Rattle.model.proofs.Phases.{view}
-use Rattle.model.proofs.Causal.{Causal}
 use Rattle.model.proofs.Trace.{told-back}
 use Rattle.model.proofs.Accepted.{sheet-causal, sheet-count}
 use Rattle.model.proofs.Orders.{reached-from-start}

@@ -13,7 +13,7 @@ use Rattle.model.specs.Limits.{channels}
 use Rattle.model.specs.Refusal.{Out, ok, refusal}
 use Rattle.model.specs.Order.{Event, sendOf, receiveOf, event, messageOf, Scenario, board, atOrBefore}
 use Rattle.model.specs.Channel.{channelOf}
-use Rattle.model.specs.Race.{RaceRule, byEvent, byOrigin, never, raceRuleOf, origin, escapes, isRace, lowestRace}
+use Rattle.model.specs.Race.{RaceRule, byEvent, byOrigin, never, raceRuleOf, origin, notAtOrBefore, isRace, lowestRace}
 use Rattle.model.specs.Schedule.{schedule}
 use Rattle.model.specs.Answer.{Answer, free, locked, freeWord, lockedWord, acceptedOf, verdictOf, answerFor, answerOf, numbersOf}
 use Rattle.model.specs.Wired.{IsWired, SameVerdict, LockedNoHigher, OneVerdict}
@@ -66,25 +66,25 @@ module _ (S : Scenario) (C : Causal S) where
       (C .trans (sendOf m) (receiveOf m) (sendOf e) (C .own m (C .inside (receiveOf m) (sendOf e) b .0)) b))
       (at-or-before-cases S (receiveOf m) (sendOf e) h)
 
-  -- what escapes e's send by any rule escapes it itself
-  escapes-itself : (r : RaceRule) (e : ℕ) (x : Event) → escapes S r e x ≡ true → escapes S byEvent e x ≡ true
-  unfolding escapes
-  escapes-itself byEvent e x h = h
-  escapes-itself byOrigin e x h =
+  -- what is not at or before e's send by any rule is not so by itself
+  outside-itself : (r : RaceRule) (e : ℕ) (x : Event) → notAtOrBefore S r e x ≡ true → notAtOrBefore S byEvent e x ≡ true
+  unfolding notAtOrBefore
+  outside-itself byEvent e x h = h
+  outside-itself byOrigin e x h =
       ⊎-elim
       (λ (t : atOrBefore S x (sendOf e) ≡ true).
       not-both (atOrBefore S (origin x) (sendOf e)) (origin-below e x t) (not-true (atOrBefore S (origin x) (sendOf e)) h))
       (λ f. not-is-true (atOrBefore S x (sendOf e)) f)
       (which (atOrBefore S x (sendOf e)))
-  escapes-itself never e x h = not-both false h refl
+  outside-itself never e x h = not-both false h refl
 
   -- so a race by any rule is one by the event itself, with the same message and event
   race-by-event : (r : RaceRule) (e : ℕ) (x : Event) → isRace S r e x ≡ true → isRace S byEvent e x ≡ true
   unfolding isRace
   race-by-event r e x h =
       let there = eqb (board S x) (S .target e) && S .before x (receiveOf e) in
-      and-both there (escapes S byEvent e x) (and-left there (escapes S r e x) h)
-      (escapes-itself r e x (and-right there (escapes S r e x) h))
+      and-both there (notAtOrBefore S byEvent e x) (and-left there (notAtOrBefore S r e x) h)
+      (outside-itself r e x (and-right there (notAtOrBefore S r e x) h))
 
   module _ (code : ℕ) (known : code < channels) (zeroKnown : 0 < channels) where
     no-higher : (a b : Answer) → Decided S C code known a → Decided S C 0 zeroKnown b → numbersOf a .word ≡ lockedWord

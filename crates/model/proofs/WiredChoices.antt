@@ -164,7 +164,7 @@ module _ (text : List ℕ) (scratchLength traceLength : ℕ) where
   fileOn code = choosable text code scratchLength traceLength
 
   -- every list of a text that is read has no circle
-  list-causal : (code : ℕ) (file : List Row) → fileOn code ≡ ok file → (l : List Bool) (S : Scenario) → expandedWith l file ≡ ok S → Causal S
+  pub list-causal : (code : ℕ) (file : List Row) → fileOn code ≡ ok file → (l : List Bool) (S : Scenario) → expandedWith l file ≡ ok S → Causal S
   list-causal code file e l S w =
       let a = choosable-parts text code scratchLength traceLength file e in
       walk-causal l file (read-fits true text file (a .read)) S w (read-clean true text file (a .read))

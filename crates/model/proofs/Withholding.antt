@@ -8,12 +8,12 @@ use mathlib.Core.Bool.{Bool, true, false, not, _&&_, _||_}
 use mathlib.Core.List.{List, [], _∷_}
 use mathlib.Core.Option.{Option, none, some}
 use borrow.Author.Tests.{eq-eqb, eqb-true, leb-true, lt-leb, not-true}
-use lib.Dec.{eqb, leb}
+use lib.Dec.{eqb}
 use Rattle.model.specs.Bounded.{every, lowest}
 use Rattle.model.specs.Order.{Event, sendOf, receiveOf, messageOf, Scenario, board, boardOf, atOrBefore}
-use Rattle.model.specs.Channel.{Channel, ToSend, ToDeliver, alone}
+use Rattle.model.specs.Channel.{Channel, ToSend, ToDeliver}
 use Rattle.model.specs.Run.{State, Step, send, deliver, consume, next, allowed, isOrderFrom, after, finished, stuck}
-use Rattle.model.specs.Race.{RaceRule, byEvent, byOrigin, never, origin, escapes, isRace}
+use Rattle.model.specs.Race.{RaceRule, byEvent, byOrigin, never, origin, notAtOrBefore, isRace}
 use Rattle.model.specs.Schedule.{
   messageOfStep,
   Class,
@@ -81,7 +81,7 @@ module _ (S : Scenario) (c : Channel) where
 -- The race (e, x), on an eager channel, by the channel's rule.
 module _ (S : Scenario) (C : Causal S) (c : Channel) (r : RaceRule) (U : Suited S C c r) (eager : c .eager ≡ true)
     (e : ℕ) (x : Event) (inside : e < S .count) (onBoard : board S x ≡ S .target e)
-    (isBefore : S .before x (receiveOf e) ≡ true) (outside : escapes S r e x ≡ true) where
+    (isBefore : S .before x (receiveOf e) ≡ true) (outside : notAtOrBefore S r e x ≡ true) where
   -- the event is at or before e's send
   abbrev Needed : Event → Type 0
   Needed y = atOrBefore S y (sendOf e) ≡ true
@@ -107,8 +107,8 @@ module _ (S : Scenario) (C : Causal S) (c : Channel) (r : RaceRule) (U : Suited 
       ⊎-elim (λ i. (let z : _≡_ {A = ℕ} 0 1 = cc in absurd (omega arith))) (λ b. b) (at-or-before-cases S (receiveOf g) (sendOf e) n)
 
   -- x is not done while e's send is withheld from it
-  done-needed : (φ : ℕ → ℕ) → Withheld φ → (q : RaceRule) → q ≡ r → (y : Event) → doneAt φ y ≡ true → escapes S q e y ≡ true → ⊥
-  unfolding escapes origin
+  done-needed : (φ : ℕ → ℕ) → Withheld φ → (q : RaceRule) → q ≡ r → (y : Event) → doneAt φ y ≡ true → notAtOrBefore S q e y ≡ true → ⊥
+  unfolding notAtOrBefore origin
   done-needed φ W never i y d o = not-both false o refl
   done-needed φ W byEvent i (sendOf g) d o = not-both _ (W .sends g (leb-true 1 (φ g) d)) (not-true (atOrBefore S (sendOf g) (sendOf e)) o)
   done-needed φ W byOrigin i (sendOf g) d o = not-both _ (W .sends g (leb-true 1 (φ g) d)) (not-true (atOrBefore S (sendOf g) (sendOf e)) o)

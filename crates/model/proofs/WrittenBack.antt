@@ -20,15 +20,14 @@ use Rattle.model.specs.Closure.{listed}
 use Rattle.model.specs.Refusal.{Out, ok, refusal, andThen, rowRefusal, placeRefusal, circleRefusal}
 use Rattle.model.specs.Text.{ascii, Line, fieldsOf, aheadOfField, placeOf, columnsOf, areColumns, headingOf}
 use Rattle.model.specs.Rows.{Row, sheet, message, order, formed, rowOf}
-use Rattle.model.specs.Place.{Place, outside, withMessage, messageFits, orderFits, moved, isSheet, placed, BlockBefore, given, paired, through, blockCircle, circleAt, lineOf, judged, rowsFrom, opens, strayCall, complete, bodyOf, readOf, readWith}
-use Rattle.model.specs.Place as place
+use Rattle.model.specs.Place.{Place, outside, withMessage, messageFits, orderFits, moved, isSheet, placed, BlockBefore, given, paired, through, blockCircle, circleAt, lineOf, judged, rowsFrom, opens, absentCall, complete, bodyOf, readOf, readWith}
 use Rattle.model.specs.Order.{Event, sendOf, receiveOf, number, event, messageOf, boardOf, Scenario, board}
 use Rattle.model.specs.Cure.{curedBefore, isWritten, ordersAt, ordersBelow, Written, messageRows, orderRows, curedRows, rowsText, headingText, curedText}
 use Rattle.model.proofs.Bounded.{and-left, and-right, or-cases, or-left, or-right, which, not-both}
-use Rattle.model.proofs.Events.{event-number, number-event, below-number, below-event, send-event, receive-event}
+use Rattle.model.proofs.Events.{event-number, number-event, own-both, below-number, below-event, send-event, receive-event}
 use Rattle.model.proofs.Block.{own-pair-parts, listed-more, listed-first, listed-later, circle-some}
 use Rattle.model.proofs.Causal.{Causal}
-use Rattle.model.proofs.Cured.{cured-trans, cured-irreflexive, cured-own, own-pair-from, cured-inside}
+use Rattle.model.proofs.Cured.{cured-trans, cured-irreflexive, cured-own, cured-inside}
 use Rattle.model.proofs.Rendered.{Plain, AllPlain, plain-append, lineIn, linesIn, rows-lines, house, row-read, heading-line, rows-short}
 
 -- The P rows written, by number.
@@ -286,7 +285,7 @@ module _ (S : Scenario) (C : Causal S) (few : S .count ≤ messagesMost) (low : 
       let j : y ≡ 2 * (x / 2) + 1 = omega (arith, p .0, p .1) in
       let a : event x ≡ sendOf (x / 2) = ap event i ∙ send-event (x / 2) in
       let b : event y ≡ receiveOf (x / 2) = ap event j ∙ receive-event (x / 2) in
-      rw (a, b) (cured-own S C (sendOf (x / 2)) (receiveOf (x / 2)) (own-pair-from S (x / 2) (omega (arith, p .1, p .2))))
+      rw (a, b) (cured-own S C (sendOf (x / 2)) (receiveOf (x / 2)) (own-both (S .count) (x / 2) (omega (arith, p .1, p .2))))
   block-cured orders all (through {x = x} {y = y} {z = z} p q) =
       cured-trans S C (event x) (event y) (event z) (block-cured orders all p) (block-cured orders all q)
 
@@ -383,19 +382,19 @@ module _ (S : Scenario) (C : Causal S) (few : S .count ≤ messagesMost) (low : 
         (messages-taken (S .count) 0 pairs (zero-add (S .count)) (omega (arith, rows-count)) all-rows))
 
     -- no row calls, and sheet 0 is there
-    no-stray-order : (present : List ℕ) (i : ℕ) (ps : List (ℕ × ℕ)) → strayCall present i (ordersRead ps) ≡ none
-    unfolding strayCall ordersRead
-    no-stray-order present i [] = refl
-    no-stray-order present i (p ∷ ps) = no-stray-order present (suc i) ps
+    no-absent-order : (present : List ℕ) (i : ℕ) (ps : List (ℕ × ℕ)) → absentCall present i (ordersRead ps) ≡ none
+    unfolding absentCall ordersRead
+    no-absent-order present i [] = refl
+    no-absent-order present i (p ∷ ps) = no-absent-order present (suc i) ps
 
-    no-stray : (present : List ℕ) (i k n : ℕ) (ps : List (ℕ × ℕ)) → strayCall present i (messagesFrom S k n ++ ordersRead ps) ≡ none
-    unfolding strayCall messagesFrom
-    no-stray present i k zero ps = no-stray-order present i ps
-    no-stray present i k (suc n) ps = no-stray present (suc i) (suc k) n ps
+    no-absent : (present : List ℕ) (i k n : ℕ) (ps : List (ℕ × ℕ)) → absentCall present i (messagesFrom S k n ++ ordersRead ps) ≡ none
+    unfolding absentCall messagesFrom
+    no-absent present i k zero ps = no-absent-order present i ps
+    no-absent present i k (suc n) ps = no-absent present (suc i) (suc k) n ps
 
     all-there : complete rowsWritten ≡ ok rowsWritten
-    unfolding complete opens among strayCall
-    all-there = rw (no-stray (opens rowsWritten) 1 0 (S .count) pairs)
+    unfolding complete opens among absentCall
+    all-there = rw (no-absent (opens rowsWritten) 1 0 (S .count) pairs)
 
     orders-plain : (ps : List (ℕ × ℕ)) → AllRows ps → AllPlain (orderRows ps)
     unfolding orderRows

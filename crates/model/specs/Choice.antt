@@ -13,7 +13,8 @@ use Rattle.model.specs.Refusal.{Out, ok, refusal, channelRefusal, benchR
 use Rattle.model.specs.Text.{Line, Columns, linesOf, headingOf}
 use Rattle.model.specs.Rows.{Row, sheet, message, order, block, call, choice, rowOf}
 use Rattle.model.specs.Place.{readWith}
-use Rattle.model.specs.Order.{Scenario}
+use Rattle.model.specs.Expansion.{Progress, expand}
+use Rattle.model.specs.Order.{Met, nothingMet, metOps, Scenario}
 use Rattle.model.specs.Channel.{channelOf}
 use Rattle.model.specs.Run.{Step, IsOrder, EndsStuck, CanFinish}
 use Rattle.model.specs.Answer.{free, locked, refused, expandedWith, exchangeWith, answerFor, scratchBehind, traceAfter, Numbers, freeWord, lockedWord, refusedWord}
@@ -36,8 +37,7 @@ module _ (file : List Row) where
     nothing : Beginning []
     more : {l : List Bool} → Beginning l → asks l ≡ true → (option : Bool) → Beginning (l ++ (option ∷ []))
 
-  -- a choice list: a beginning with which the walk asks for nothing more. So it is as long as the A rows that its own walk meets; a walk
-  -- that is refused ends its list there
+  -- a choice list: a beginning with which the walk asks for nothing more; a walk that is refused ends its list there
   pub record ChoiceList (l : List Bool) : Type 0 where
     pub beginning : Beginning l
     pub whole : asks l ≡ false
@@ -81,6 +81,8 @@ pub record AllLists (file : List Row) (ls : List (List Bool)) : Type 0 where
   -- no list is ahead of itself, so none stands there twice
   pub once : (l : List Bool) → Ahead l l → ⊥
   pub few : length ls ≤ listsMost
+  -- a list fixes one option for each A row that its walk meets
+  pub eachMet : (l : List Bool) → ChoiceList file l → (s : Progress Met) → expand metOps l file nothingMet ≡ ok s → s .walk .choices ≡ length l
 
 -- Each list gives a free sheet; or the first locked list, its race and its steps; or a refusal's number and line.
 pub data ChoiceAnswer : Type 0 where

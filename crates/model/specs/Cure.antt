@@ -12,7 +12,7 @@ use Rattle.model.specs.Limits.{rowsMost, channels, scratchLeast, sheetOu
 use Rattle.model.specs.Bounded.{any}
 use Rattle.model.specs.Refusal.{Out, ok, refusal, andThen, benchRefusal, curedRowsRefusal}
 use Rattle.model.specs.Text.{ascii, lineEnd, space}
-use Rattle.model.specs.Order.{Event, sendOf, receiveOf, event, Scenario, board, atOrBefore}
+use Rattle.model.specs.Order.{Event, sendOf, receiveOf, event, isOwn, Scenario, board, atOrBefore}
 use Rattle.model.specs.Channel.{channelOf}
 use Rattle.model.specs.Run.{Step, IsOrder, CanFinish}
 use Rattle.model.specs.Answer.{sheetOf, scratchBehind}
@@ -23,15 +23,9 @@ isSend (sendOf m) = true
 isSend (receiveOf m) = false
 
 module _ (S : Scenario) where
-  -- a message's own send and receive
-  unfoldable pub isOwnPair : Event → Event → Bool
-  isOwnPair (sendOf m) (sendOf k) = false
-  isOwnPair (sendOf m) (receiveOf k) = eqb m k && ltb m (S .count)
-  isOwnPair (receiveOf m) y = false
-
   -- The cured order: keep sends before receives, and keep an order only where it ends in a send, closed transitively.
   pub data Cured : Event → Event → Type 0 where
-    own : {x y : Event} → isOwnPair x y ≡ true → Cured x y
+    own : {x y : Event} → isOwn (S .count) x y ≡ true → Cured x y
     kept : {x y : Event} → isSend y ≡ true → S .before x y ≡ true → Cured x y
     link : {x y z : Event} → Cured x y → Cured y z → Cured x z
 
@@ -47,7 +41,7 @@ module _ (S : Scenario) where
   -- `P x y` is written: x and y are on one board, x is before y with no event between them, and they are not a message's own two
   unfoldable pub isWritten : Event → Event → Bool
   isWritten x y =
-      eqb (board S x) (board S y) && curedBefore x y && not (any (2 * S .count) (isBetween x y)) && not (isOwnPair x y)
+      eqb (board S x) (board S y) && curedBefore x y && not (any (2 * S .count) (isBetween x y)) && not (isOwn (S .count) x y)
 
   -- the P rows of event x, with the events below y; and those of the events below x: by x and then y
   unfoldable pub ordersAt : ℕ → ℕ → List (ℕ × ℕ)

@@ -1,6 +1,6 @@
 -- Request (k), several makers at the counter: a dispatcher of up to eight accepted jobs, its calls, and what they promise, of one call and
 -- over whole lists of calls. Assumes nothing.
-use Prim.Native.Nat.{ℕ, zero, suc, _+_, _*_, _<_, _≤_}
+use Prim.Native.Nat.{ℕ, suc, _+_, _*_, _<_, _≤_}
 use mathlib.Core.Path.{_≡_}
 use mathlib.Core.Logic.{_↔_, _⊎_}
 use mathlib.Core.Bool.{Bool, true, false, not, cond, _&&_, _||_}
@@ -14,7 +14,7 @@ use Rattle.model.specs.Refusal.{Out, ok, refusal, channelRefusal, benchR
 use Rattle.model.specs.Order.{Scenario}
 use Rattle.model.specs.Closure.{cells}
 use Rattle.model.specs.Answer.{sheetOf, Numbers, lockedWord, answerFor, answerOf, numbersOf, traceAfter}
-use Rattle.model.specs.Verdict.{Verdict}
+use Rattle.model.specs.Verdict.{Meets, Verdict}
 
 -- What every call is lent: the sheets, 8,192 bytes a place, of which the first `lengths p` are the sheet of place p; a code a place; and
 -- the words, `scratchLeast` a place.
@@ -48,12 +48,12 @@ pub record Job : Type 0 where
   pub turns : ℕ
 
 -- The dispatcher: the jobs held, the head of the queue first, and how many numbers were given out.
-pub record Desk : Type 0 where
+pub record DispatcherState : Type 0 where
   pub queue : List Job
   pub given : ℕ
 
-abbrev pub emptyDesk : Desk
-emptyDesk = record { queue = []; given = 0 }
+abbrev pub emptyDispatcher : DispatcherState
+emptyDispatcher = record { queue = []; given = 0 }
 
 unfoldable pub placesOf : List Job → List ℕ
 placesOf [] = []
@@ -64,21 +64,25 @@ numbersIn [] = []
 numbersIn (j ∷ js) = j .number ∷ numbersIn js
 
 -- no job is in the place
-unfoldable pub isFree : Desk → ℕ → Bool
+unfoldable pub isFree : DispatcherState → ℕ → Bool
 isFree d p = not (among p (placesOf (d .queue)))
 
 -- the place that an admission takes: the lowest free one
-unfoldable pub freePlace : Desk → Option ℕ
+unfoldable pub freePlace : DispatcherState → Option ℕ
 freePlace d = lowest jobsMost (isFree d)
+
+-- the words lent are too few
+unfoldable pub wordsShort : Lent → Bool
+wordsShort l = ltb (length (l .words)) jobWordsLeast
 
 -- The sheet of an admission in the lowest free place, unless it is refused: 1, 2, 16, 3 and then as the check. With no place free there is no new
 -- sheet and no code to judge: 2, then 16.
-unfoldable pub admissible : Desk → Lent → Out Scenario
+unfoldable pub admissible : DispatcherState → Lent → Out Scenario
 admissible d l =
     elim (freePlace d) [
-      | none ↦ cond (ltb (length (l .words)) jobWordsLeast) (refusal benchRefusal 0) (refusal jobsRefusal 0)
+      | none ↦ cond (wordsShort l) (refusal benchRefusal 0) (refusal jobsRefusal 0)
       | some p ↦ cond (ltb (codeAt l p) channels)
-          (cond (ltb (length (l .words)) jobWordsLeast) (refusal benchRefusal 0)
+          (cond (wordsShort l) (refusal benchRefusal 0)
           (cond (ltb (d .given) jobNumbers)
           (cond (ltb textMost (lengthAt l p)) (refusal lengthRefusal 0) (sheetOf (sheetAt l p)))
           (refusal jobsRefusal 0)))
@@ -86,10 +90,10 @@ admissible d l =
     ]
 
 -- the new job has the next number, and goes behind the last
-abbrev pub newJob : Desk → ℕ → ℕ → ℕ → Job
+abbrev pub newJob : DispatcherState → ℕ → ℕ → ℕ → Job
 newJob d p code count = record { number = d .given; place = p; code = code; count = count; turns = 0 }
 
-unfoldable pub admitting : Desk → ℕ → ℕ → ℕ → Desk
+unfoldable pub admitting : DispatcherState → ℕ → ℕ → ℕ → DispatcherState
 admitting d p code count = record { queue = d .queue ++ (newJob d p code count ∷ []); given = suc (d .given) }
 
 -- a job of n messages is answered on its own turn number 2n + 1
@@ -134,10 +138,6 @@ pub data Outcome : Type 0 where
   cancelled : ℕ → Outcome
   refused : ℕ → ℕ → Outcome
 
--- the words lent are too few
-unfoldable pub wordsShort : Lent → Bool
-wordsShort l = ltb (length (l .words)) jobWordsLeast
-
 -- a turn's refusal 2 judges words and trace, also with no job held
 unfoldable pub turnShort : Lent → List ℕ → Bool
 turnShort l trace = wordsShort l || ltb (length trace) traceLeast
@@ -147,25 +147,25 @@ headOutcome [] = idle
 headOutcome (j ∷ js) = cond (isLast j) (answered (j .number)) (taken (j .number))
 
 -- an admission's answer, by the place that it takes and the sheet, or the refusal
-unfoldable pub admission : Desk → Option ℕ → Out Scenario → Outcome
+unfoldable pub admission : DispatcherState → Option ℕ → Out Scenario → Outcome
 admission d place (refusal number line) = refused number line
 admission d none (ok S) = refused jobsRefusal 0
 admission d (some p) (ok S) = admitted (d .given) p
 
-unfoldable pub outcomeOf : Desk → Call → Outcome
+unfoldable pub outcomeOf : DispatcherState → Call → Outcome
 outcomeOf d (admit l) = admission d (freePlace d) (admissible d l)
 outcomeOf d (turn l trace) = cond (turnShort l trace) (refused benchRefusal 0) (headOutcome (d .queue))
 outcomeOf d (cancel n l) =
     cond (wordsShort l) (refused benchRefusal 0) (cond (among n (numbersIn (d .queue))) (cancelled n) (refused heldRefusal 0))
 
 -- the dispatcher behind an admission, by the same
-unfoldable pub admittedTo : Desk → Lent → Option ℕ → Out Scenario → Desk
+unfoldable pub admittedTo : DispatcherState → Lent → Option ℕ → Out Scenario → DispatcherState
 admittedTo d l place (refusal number line) = d
 admittedTo d l none (ok S) = d
 admittedTo d l (some p) (ok S) = admitting d p (codeAt l p) (S .count)
 
 -- the dispatcher behind a call; idle turns and refusals leave it as it was
-unfoldable pub behind : Desk → Call → Desk
+unfoldable pub behind : DispatcherState → Call → DispatcherState
 behind d (admit l) = admittedTo d l (freePlace d) (admissible d l)
 behind d (turn l trace) = cond (turnShort l trace) d (record { queue = turned (d .queue); given = d .given })
 behind d (cancel n l) =
@@ -227,7 +227,7 @@ leavesAll (cancelled n) = false
 leavesAll (refused number line) = true
 
 -- The words behind a call, from those lent.
-pub record WordsLeft (d : Desk) (c : Call) (exit : List ℕ) : Type 0 where
+pub record WordsLeft (d : DispatcherState) (c : Call) (exit : List ℕ) : Type 0 where
   -- refusals 1 and 2 do not touch them, and no call those behind the last place
   pub untouched : touchesNothing (outcomeOf d c) ≡ true → exit ≡ lentTo c .words
   pub lengthKept : length exit ≡ length (lentTo c .words)
@@ -250,7 +250,7 @@ Member j [] = ⊥
 Member j (k ∷ ks) = (j ≡ k) ⊎ Member j ks
 
 -- what is so of every dispatcher that calls leave: each job has a place and a number of its own
-pub record Orderly (d : Desk) : Type 0 where
+pub record Orderly (d : DispatcherState) : Type 0 where
   pub places : eachOnce jobsMost (placesOf (d .queue)) ≡ true
   pub numbers : eachOnce (d .given) (numbersIn (d .queue)) ≡ true
 
@@ -259,27 +259,29 @@ pub record AsTheCheck (S : Scenario) (code : ℕ) (trace traceExit : List ℕ) (
   pub numbers : answer ≡ numbersOf (answerFor (ok S) code)
   pub traceLeft : traceExit ≡ traceAfter (answerFor (ok S) code) trace
 
--- What the calls give, for dispatchers M whose jobs `desk` reads. `Holds` says that a dispatcher and the words of a job's place hold its
+-- What the calls give, for dispatchers M whose state `stateIn` reads. `Holds` says that a dispatcher and the words of a job's place hold its
 -- scenario; what that means is the code's own affair, and no promise over whole lists speaks of it.
-module _ {M : Type 0} (desk : M → Desk) (Holds : M → List ℕ → Job → Scenario → Type 0) where
+module _ {M : Type 0} (stateIn : M → DispatcherState) (Holds : M → List ℕ → Job → Scenario → Type 0) where
   pub record Serves (d : M) (c : Call) (wordsExit traceExit : List ℕ) (r : Served M) : Type 0 where
     -- for every dispatcher and everything lent: the answer but for the check's numbers, and the dispatcher behind it
-    pub told : r .told ≡ toldAs (outcomeOf (desk d) c) (r .told .answer)
-    pub next : desk (r .next) ≡ behind (desk d) c
-    pub leftAlone : leavesAll (outcomeOf (desk d) c) ≡ true → r .next ≡ d
-    pub wordsLeft : WordsLeft (desk d) c wordsExit
+    pub told : r .told ≡ toldAs (outcomeOf (stateIn d) c) (r .told .answer)
+    pub next : stateIn (r .next) ≡ behind (stateIn d) c
+    pub leftAlone : leavesAll (outcomeOf (stateIn d) c) ≡ true → r .next ≡ d
+    pub wordsLeft : WordsLeft (stateIn d) c wordsExit
+    -- only admission refuses a sheet: whatever is lent, what a turn answers of one is free or locked
+    pub freeOrLocked : (r .told .answer ≡ noAnswer) ⊎ (r .told .answer .word ≡ lockedWord)
     -- the trace changes only where the check's word is "locked", in the bytes of the steps counted
     pub traceKept : (r .told .answer .word ≡ lockedWord → ⊥) → traceExit ≡ traceTo c
-    pub traceLocked : r .told .answer .word ≡ lockedWord → (length traceExit ≡ length (traceTo c))
+    pub traceLocked : r .told .answer .word ≡ lockedWord → (2 * r .told .answer .three ≤ length (traceTo c)) × (length traceExit ≡ length (traceTo c))
         × (drop (2 * r .told .answer .three) traceExit ≡ drop (2 * r .told .answer .three) (traceTo c))
     -- a job admitted is held; and one held stays so, where its words are lent as they were left
-    pub admits : (l : Lent) (p : ℕ) (S : Scenario) → c ≡ admit l → freePlace (desk d) ≡ some p → admissible (desk d) l ≡ ok S
-        → Holds (r .next) (placeWords p wordsExit) (newJob (desk d) p (codeAt l p) (S .count)) S
-    pub keeps : Orderly (desk d) → (j k : Job) (S : Scenario) → Member j (desk d .queue) → Member k (behind (desk d) c .queue)
+    pub admits : (l : Lent) (p : ℕ) (S : Scenario) → c ≡ admit l → freePlace (stateIn d) ≡ some p → admissible (stateIn d) l ≡ ok S
+        → Holds (r .next) (placeWords p wordsExit) (newJob (stateIn d) p (codeAt l p) (S .count)) S
+    pub keeps : Orderly (stateIn d) → (j k : Job) (S : Scenario) → Member j (stateIn d .queue) → Member k (behind (stateIn d) c .queue)
         → j .number ≡ k .number → Holds d (placeWords (j .place) (lentTo c .words)) j S → Holds (r .next) (placeWords (k .place) wordsExit) k S
     -- and it is answered as by the check
-    pub answers : Orderly (desk d) → (j : Job) (js : List Job) (S : Scenario) → desk d .queue ≡ j ∷ js
-        → outcomeOf (desk d) c ≡ answered (j .number) → Holds d (placeWords (j .place) (lentTo c .words)) j S
+    pub answers : Orderly (stateIn d) → (j : Job) (js : List Job) (S : Scenario) → stateIn d .queue ≡ j ∷ js
+        → outcomeOf (stateIn d) c ≡ answered (j .number) → Holds d (placeWords (j .place) (lentTo c .words)) j S
         → AsTheCheck S (j .code) (traceTo c) traceExit (r .told .answer)
 
 -- One call of a list: what it was lent, what it answered, and what it left in the words and the trace.
@@ -289,11 +291,11 @@ pub record Entry : Type 0 where
   pub words : List ℕ
   pub trace : List ℕ
 
-module _ {M : Type 0} (desk : M → Desk) (Holds : M → List ℕ → Job → Scenario → Type 0) (empty : M) where
+module _ {M : Type 0} (stateIn : M → DispatcherState) (Holds : M → List ℕ → Job → Scenario → Type 0) (empty : M) where
   -- Calls from the empty dispatcher, each taking the one that the last call left.
   pub data Session : List Entry → M → Type 0 where
     opened : Session [] empty
-    served : {es : List Entry} {d : M} {e : Entry} {r : Served M} → Session es d → Serves desk Holds d (e .call) (e .words) (e .trace) r
+    served : {es : List Entry} {d : M} {e : Entry} {r : Served M} → Session es d → Serves stateIn Holds d (e .call) (e .words) (e .trace) r
         → e .told ≡ r .told → Session (es ++ (e ∷ [])) (r .next)
 
 unfoldable pub callsOf : List Entry → List Call
@@ -301,12 +303,12 @@ callsOf [] = []
 callsOf (e ∷ es) = e .call ∷ callsOf es
 
 -- the dispatcher behind a list of calls
-unfoldable pub deskFrom : Desk → List Call → Desk
-deskFrom d [] = d
-deskFrom d (c ∷ cs) = deskFrom (behind d c) cs
+unfoldable pub dispatcherFrom : DispatcherState → List Call → DispatcherState
+dispatcherFrom d [] = d
+dispatcherFrom d (c ∷ cs) = dispatcherFrom (behind d c) cs
 
 -- each call answered, but for the check's numbers, as the dispatcher that it was handed says
-abbrev pub ToldFrom : Desk → List Entry → Type 0
+abbrev pub ToldFrom : DispatcherState → List Entry → Type 0
 ToldFrom d [] = Unit {0}
 ToldFrom d (e ∷ es) = (e .told ≡ toldAs (outcomeOf d (e .call)) (e .told .answer)) × ToldFrom (behind d (e .call)) es
 
@@ -342,8 +344,9 @@ pub record JobServed (a : Entry) (n p : ℕ) (after : List Entry) : Type 0 where
   -- its sheet, accepted, and its channel
   pub scenario : Scenario
   pub isSheet : sheetOf (sheetAt (lentTo (a .call)) p) ≡ ok scenario
+  pub causalOrder : Meets (sheetAt (lentTo (a .call)) p) scenario
   pub isChannel : codeAt (lentTo (a .call)) p < channels
-  -- it is answered on its own turn number 2n + 1, and on none before
+  -- it is answered on its own turn number 2m + 1, m being the messages of its scenario, and on none before
   pub lastTurn : (mid : List Entry) (e : Entry) (rest : List Entry) → after ≡ mid ++ (e ∷ rest) → isTurnOf n e ≡ true
       → says answeredWord n e ≡ eqb (counted (isTurnOf n) mid) (2 * scenario .count)
   -- answered or cancelled it leaves
@@ -360,22 +363,22 @@ pub record JobServed (a : Entry) (n p : ℕ) (after : List Entry) : Type 0 where
       × Verdict scenario (codeAt (lentTo (a .call)) p) (e .told .answer) (e .trace)
 
 -- What is so of a list of calls, and of the dispatcher that it leaves.
-pub record WholeList {M : Type 0} (desk : M → Desk) (es : List Entry) (d : M) : Type 0 where
+pub record WholeList {M : Type 0} (stateIn : M → DispatcherState) (es : List Entry) (d : M) : Type 0 where
   -- the queue, the places and the numbers are those of the calls, one after the other, and so are the answers
-  pub state : desk d ≡ deskFrom emptyDesk (callsOf es)
-  pub answers : ToldFrom emptyDesk es
+  pub state : stateIn d ≡ dispatcherFrom emptyDispatcher (callsOf es)
+  pub answers : ToldFrom emptyDispatcher es
   -- at most eight jobs, each in a place of its own; and no place is free exactly with eight held
-  pub orderly : Orderly (desk d)
-  pub heldMost : length (desk d .queue) ≤ jobsMost
-  pub allHeld : (freePlace (desk d) ≡ none) ↔ (length (desk d .queue) ≡ jobsMost)
+  pub orderly : Orderly (stateIn d)
+  pub heldMost : length (stateIn d .queue) ≤ jobsMost
+  pub allHeld : (freePlace (stateIn d) ≡ none) ↔ (length (stateIn d .queue) ≡ jobsMost)
   -- numbers: 0 first, then one more each time, and none twice; the dispatcher has how many there were
   pub numbers : givenOut es ≡ cells (length (givenOut es)) (λ k. k)
   pub numbersMost : length (givenOut es) ≤ jobNumbers
-  pub numbersGiven : desk d .given ≡ length (givenOut es)
+  pub numbersGiven : stateIn d .given ≡ length (givenOut es)
   -- every job admitted is served
   pub jobs : (before : List Entry) (a : Entry) (after : List Entry) (n p : ℕ) → es ≡ before ++ (a ∷ after)
       → a .told ≡ toldAs (admitted n p) noAnswer → JobServed a n p after
 
 -- One theorem, of every list of calls from the empty dispatcher.
-abbrev pub WholeLists : {M : Type 0} → (M → Desk) → (M → List ℕ → Job → Scenario → Type 0) → M → Type 0
-WholeLists {M} desk Holds empty = (es : List Entry) (d : M) → Session desk Holds empty es d → WholeList desk es d
+abbrev pub WholeLists : {M : Type 0} → (M → DispatcherState) → (M → List ℕ → Job → Scenario → Type 0) → M → Type 0
+WholeLists {M} stateIn Holds empty = (es : List Entry) (d : M) → Session stateIn Holds empty es d → WholeList stateIn es d

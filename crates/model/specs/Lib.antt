@@ -5,6 +5,7 @@ pub mod Refusal
 pub mod Text
 pub mod Rows
 pub mod Place
+pub mod Circle
 pub mod Expansion
 pub mod Order
 pub mod Channel
@@ -24,4 +25,5 @@ pub mod Taps
 pub mod Senders
 pub mod Choice
 pub mod Scratch
+pub mod EverySheet
 pub mod Marked

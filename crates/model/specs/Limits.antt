@@ -1,6 +1,6 @@
 -- The limits of the paper, each once ("The sheet file", "Expansion", "Refusal table").
 -- Assumes nothing.
-use Prim.Native.Nat.{ℕ, _+_, _*_}
+use Prim.Native.Nat.{ℕ, _+_, _*_, _^_}
 
 -- The sheet file: at most 8,192 bytes and 512 rows; numbers 0 to 511; sheets 0 to 31; boards 0 to 15.
 abbrev pub textMost : ℕ
@@ -34,7 +34,7 @@ abbrev pub choicesMost : ℕ
 choicesMost = 8
 
 abbrev pub listsMost : ℕ
-listsMost = 256
+listsMost = 2 ^ choicesMost
 
 -- The codes are 0 to 5.
 abbrev pub channels : ℕ

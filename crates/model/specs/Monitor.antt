@@ -126,6 +126,8 @@ module _ {M : Type 0} (held : M → Held) where
   pub record ByTheRules (S : Scenario) (m : M) (c : Call) (r : MonitorAnswer M) : Type 0 where
     pub word : r .word ≡ wordTo S (held m) c
     pub state : held (r .next) ≡ behind S (held m) c
+    -- a call that is taken names no number
+    pub taken : r .word ≡ takenWord → (r .one ≡ 0) × (r .two ≡ 0)
     -- a step that the rule forbids leaves the monitor as it was, bit for bit
     pub forbidden : r .word ≡ forbiddenWord → r ≡ record { word = forbiddenWord; one = 0; two = 0; next = m }
 
@@ -134,6 +136,7 @@ module _ {M : Type 0} (held : M → Held) where
   pub record Stepped (m : M) (kind message : ℕ) (text scratch scratchExit : List ℕ) (r : MonitorAnswer M) : Type 0 where
     pub refusedWhen : (number line : ℕ) → watchable text (held m .code) (length scratch) ≡ refusal number line
         → r ≡ record { word = refusedWord; one = number; two = line; next = m }
+    pub refusedOnly : (S : Scenario) → watchable text (held m .code) (length scratch) ≡ ok S → r .word ≡ refusedWord → ⊥
     pub scratchLeft : scratchExit ≡ scratchBehind (watchable text (held m .code) (length scratch)) scratch
     pub byTheRules : (S : Scenario) (code : ℕ) (cs : List Call) → sheetOf text ≡ ok S → code < channels
         → held m ≡ heldFrom S (fresh code) cs → ByTheRules S m (step kind message (length scratch)) r
@@ -141,6 +144,7 @@ module _ {M : Type 0} (held : M → Held) where
   pub record Switched (m : M) (code : ℕ) (text scratch scratchExit : List ℕ) (r : MonitorAnswer M) : Type 0 where
     pub refusedWhen : (number line : ℕ) → switchable text code (length scratch) (held m .state) ≡ refusal number line
         → r ≡ record { word = refusedWord; one = number; two = line; next = m }
+    pub refusedOnly : (S : Scenario) → switchable text code (length scratch) (held m .state) ≡ ok S → r .word ≡ refusedWord → ⊥
     pub scratchLeft : scratchExit ≡ scratchBehind (switchable text code (length scratch) (held m .state)) scratch
     pub byTheRules : (S : Scenario) (first : ℕ) (cs : List Call) → sheetOf text ≡ ok S → first < channels
         → held m ≡ heldFrom S (fresh first) cs → ByTheRules S m (switch code (length scratch)) r
@@ -160,6 +164,7 @@ module _ {M : Type 0} (held : M → Held) where
   -- What is so of whole lists of calls.
   pub record WholeList (text : List ℕ) (code : ℕ) (S : Scenario) (cs : List Call) (words : List ℕ) (m : M) : Type 0 where
     pub isSheet : sheetOf text ≡ ok S
+    pub causalOrder : Meets text S
     -- the state held is that of the step rules, each step under the code in force, and so are the answers
     pub state : held m ≡ heldFrom S (fresh code) cs
     pub answers : words ≡ wordsFrom S (fresh code) cs

@@ -38,16 +38,16 @@ unfoldable pub boardOf : (ℕ → ℕ) → (ℕ → ℕ) → Event → ℕ
 boardOf source target (sendOf m) = source m
 boardOf source target (receiveOf m) = target m
 
+-- a message's own send and receive, of the first n messages
+unfoldable pub isOwn : ℕ → Event → Event → Bool
+isOwn n (sendOf m) (sendOf k) = false
+isOwn n (sendOf m) (receiveOf k) = eqb m k && ltb m n
+isOwn n (receiveOf m) y = false
+
 module _ (E : Exchange) where
   -- the event is one of the exchange's
   unfoldable pub isEvent : Event → Bool
   isEvent x = ltb (messageOf x) (E .count)
-
-  -- a message's own send and receive
-  unfoldable pub isOwn : Event → Event → Bool
-  isOwn (sendOf m) (sendOf k) = false
-  isOwn (sendOf m) (receiveOf k) = eqb m k && ltb m (E .count)
-  isOwn (receiveOf m) y = false
 
   -- two events of one board, of an earlier and a later walked block
   unfoldable pub isEarlier : Event → Event → Bool
@@ -59,13 +59,13 @@ module _ (E : Exchange) where
   -- of an earlier walked block before every event of a later one
   pub data Before : Event → Event → Type 0 where
     row : {x y : Event} → E .ordered x y ≡ true → Before x y
-    own : {x y : Event} → isOwn x y ≡ true → Before x y
+    own : {x y : Event} → isOwn (E .count) x y ≡ true → Before x y
     earlier : {x y : Event} → isEarlier x y ≡ true → Before x y
     link : {x y z : Event} → Before x y → Before y z → Before x z
 
 -- the sources of "before"
 unfoldable pub direct : Exchange → Event → Event → Bool
-direct E x y = E .ordered x y || isOwn E x y || isEarlier E x y
+direct E x y = E .ordered x y || isOwn (E .count) x y || isEarlier E x y
 
 -- "before" as a computed table over the event numbers
 unfoldable pub beforeTable : Exchange → List (List Bool)

@@ -1,5 +1,4 @@
--- "The sheet file" and "Refusal table", 3 to 7 and 11: where a row may stand, the order of the open block, and the reading of a
--- whole text.
+-- "The sheet file" and "Refusal table", 3 to 7 and 11: where a row may stand, the order of the open block, the reading of a text.
 -- Assumes nothing.
 use Prim.Native.Nat.{ℕ, suc, _+_, _*_, _%_}
 use mathlib.Core.Path.{_≡_}
@@ -133,20 +132,20 @@ opens (call n ∷ rs) = opens rs
 opens (choice m n ∷ rs) = opens rs
 
 -- the line of the first call to a sheet that is not among those present; i is the number of the first row, and an A row names two calls
-unfoldable pub strayCall : List ℕ → ℕ → List Row → Option ℕ
-strayCall present i [] = none
-strayCall present i (sheet n ∷ rs) = strayCall present (suc i) rs
-strayCall present i (message a b ∷ rs) = strayCall present (suc i) rs
-strayCall present i (order x y ∷ rs) = strayCall present (suc i) rs
-strayCall present i (block ∷ rs) = strayCall present (suc i) rs
-strayCall present i (call n ∷ rs) = cond (among n present) (strayCall present (suc i) rs) (some (lineOf i))
-strayCall present i (choice m n ∷ rs) = cond (among m present && among n present) (strayCall present (suc i) rs) (some (lineOf i))
+unfoldable pub absentCall : List ℕ → ℕ → List Row → Option ℕ
+absentCall present i [] = none
+absentCall present i (sheet n ∷ rs) = absentCall present (suc i) rs
+absentCall present i (message a b ∷ rs) = absentCall present (suc i) rs
+absentCall present i (order x y ∷ rs) = absentCall present (suc i) rs
+absentCall present i (block ∷ rs) = absentCall present (suc i) rs
+absentCall present i (call n ∷ rs) = cond (among n present) (absentCall present (suc i) rs) (some (lineOf i))
+absentCall present i (choice m n ∷ rs) = cond (among m present && among n present) (absentCall present (suc i) rs) (some (lineOf i))
 
 -- sheet 0 is there (else 7, line 0), and so is every sheet that is called (else 7, the first such call's line)
 unfoldable pub complete : List Row → Out (List Row)
 complete rs =
     cond (among 0 (opens rs))
-    (elim (strayCall (opens rs) 0 rs) [ none ↦ ok rs | some line ↦ refusal absentRefusal line ])
+    (elim (absentCall (opens rs) 0 rs) [ none ↦ ok rs | some line ↦ refusal absentRefusal line ])
     (refusal absentRefusal 0)
 
 -- the rows behind a heading

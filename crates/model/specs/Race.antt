@@ -27,14 +27,15 @@ origin (sendOf m) = sendOf m
 origin (receiveOf m) = sendOf m
 
 module _ (S : Scenario) where
-  unfoldable pub escapes : RaceRule → ℕ → Event → Bool
-  escapes byEvent e x = not (atOrBefore S x (sendOf e))
-  escapes byOrigin e x = not (atOrBefore S (origin x) (sendOf e))
-  escapes never e x = false
+  -- what the rule looks at, x itself or its origin, is not at or before e's send
+  unfoldable pub notAtOrBefore : RaceRule → ℕ → Event → Bool
+  notAtOrBefore byEvent e x = not (atOrBefore S x (sendOf e))
+  notAtOrBefore byOrigin e x = not (atOrBefore S (origin x) (sendOf e))
+  notAtOrBefore never e x = false
 
-  -- a race: x is on e's receiving board and before e's receive, and escapes e's send
+  -- a race: x is on e's receiving board and before e's receive, and x, or its origin, is not at or before e's send
   unfoldable pub isRace : RaceRule → ℕ → Event → Bool
-  isRace r e x = eqb (board S x) (S .target e) && S .before x (receiveOf e) && escapes r e x
+  isRace r e x = eqb (board S x) (S .target e) && S .before x (receiveOf e) && notAtOrBefore r e x
 
   -- message e races with some event; the lowest such event, by number
   unfoldable pub races : RaceRule → ℕ → Bool

@@ -67,12 +67,13 @@ jobsRefusal = 16
 abbrev pub heldRefusal : ℕ
 heldRefusal = 17
 
--- an event that the sheet has not, or twice in one list of a tap
-abbrev pub tapRefusal : ℕ
-tapRefusal = 20
-
+-- request (l): a table that is malformed or unsound; a forbidden message
 abbrev pub senderTableRefusal : ℕ
 senderTableRefusal = 18
 
 abbrev pub forbiddenRefusal : ℕ
 forbiddenRefusal = 19
+
+-- request (m): an event that the sheet has not, or twice in one list of a tap
+abbrev pub tapRefusal : ℕ
+tapRefusal = 20

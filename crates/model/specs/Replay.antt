@@ -3,7 +3,7 @@
 use Prim.Native.Nat.{ℕ, suc, _+_, _*_, _%_, _<_, _≤_}
 use mathlib.Core.Path.{_≡_}
 use mathlib.Core.Logic.{_↔_}
-use mathlib.Core.Bool.{Bool, true, false, cond, _&&_}
+use mathlib.Core.Bool.{Bool, false, cond, _&&_}
 use mathlib.Core.List.{List, [], _∷_}
 use mathlib.Core.Option.{Option, none, some}
 use lib.Dec.{eqb, leb, ltb}
@@ -122,6 +122,9 @@ pub record Replayed (text : List ℕ) (code : ℕ) (scratch scratchExit trace : 
   -- where no refusal applies, the scenario is what the walk of the text meets, and the verdict is right for whole orders
   pub causalOrder : (S : Scenario) → replayable text code (length scratch) (length trace) ≡ ok S → Meets text S
   pub byTheRules : (S : Scenario) → replayable text code (length scratch) (length trace) ≡ ok S → ByTheRules S (channelOf code) trace r
+  -- an empty trace is finished on a sheet of no messages and otherwise open
+  pub emptyTrace : (S : Scenario) → replayable text code (length scratch) (length trace) ≡ ok S → trace ≡ []
+      → r .word ≡ cond (eqb (S .count) 0) finishedWord openWord
   -- the schedule's own traces come out stuck: where the check says locked, the steps that it handed back do
   pub schedulesStick : (scratchLength traceLength e x : ℕ) (ts : List Step) → answerOf text code scratchLength traceLength ≡ locked e x ts
       → trace ≡ bytesOf ts → scratchLeast ≤ length scratch → r .word ≡ stuckWord

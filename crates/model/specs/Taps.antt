@@ -1,4 +1,4 @@
--- Two taps on one machine: each gives a list of event numbers in the order seen. Whether both fit one course of events, and the course
+-- Request (m), two taps on one machine: each gives a list of event numbers in the order seen. Whether both fit one course of events, and the course
 -- that is built; else the event that would have to precede itself. Assumes nothing.
 use Prim.Native.Nat.{ℕ, zero, suc, _*_, _<_}
 use mathlib.Core.Path.{_≡_}
@@ -144,6 +144,8 @@ module _ (S : Scenario) (first second : List ℕ) where
     pub fitOrClash : (r .word ≡ fitWord) ⊎ (r .word ≡ clashWord)
     -- fit exactly if some order of all events obeys "before" and both lists
     pub fitWhenObeyed : (r .word ≡ fitWord) ↔ ((order : List ℕ) × Obeys order)
+    -- empty lists fit
+    pub emptyFit : first ≡ [] → second ≡ [] → r .word ≡ fitWord
     -- all events are written, in such an order
     pub fitCount : r .word ≡ fitWord → r .one ≡ 2 * S .count
     pub fitOrder : r .word ≡ fitWord → Obeys (take (r .one) output)

@@ -9,12 +9,13 @@ use lib.Dec.{eqb}
 use lib.ListN.{length}
 use Rattle.model.specs.Limits.{channels}
 use Rattle.model.specs.Refusal.{ok}
+use Rattle.model.specs.Rows.{Row}
 use Rattle.model.specs.Order.{Event, sendOf, receiveOf, number, messageOf, Scenario}
 use Rattle.model.specs.Channel.{channelOf}
 use Rattle.model.specs.Run.{Step, send, deliver, consume, EndsFinished}
-use Rattle.model.specs.Answer.{Numbers, freeWord, lockedWord, acceptedOf, answerOf, numbersOf}
+use Rattle.model.specs.Answer.{Numbers, freeWord, lockedWord, expandedWith, acceptedOf, answerOf, numbersOf}
 use Rattle.model.specs.Verdict.{Meets}
-use Rattle.model.specs.Choice.{Ahead, ChoiceAnswer, firstLocked, choiceAnswerOf, ChoiceNumbers, choiceNumbers, firstFour}
+use Rattle.model.specs.Choice.{Ahead, ChoiceAnswer, firstLocked, choosable, choiceAnswerOf, ChoiceNumbers, choiceNumbers, firstFour}
 
 -- the wired models: FIFO, synchronous and token ring
 abbrev pub IsWired : ℕ → Type 0
@@ -113,3 +114,6 @@ pub record FinishedRuns (text : List ℕ) (code scratchLength traceLength : ℕ)
   pub causalOrder : (S : Scenario) → acceptedOf text code scratchLength traceLength ≡ ok S → Meets text S
   pub finishedRun : (S : Scenario) → acceptedOf text code scratchLength traceLength ≡ ok S
       → (ts : List Step) → EndsFinished S (channelOf code) ts → Rearranged S ts
+  -- and so on any list of options of a file with A rows
+  pub finishedOnList : (file : List Row) (l : List Bool) (S : Scenario) → choosable text code scratchLength traceLength ≡ ok file
+      → expandedWith l file ≡ ok S → (ts : List Step) → EndsFinished S (channelOf code) ts → Rearranged S ts

@@ -1,5 +1,5 @@
 // The model is the definitions of specs/ and the theorems of proofs/. What stands here are its limits, for the code to use:
-// each is the number of the same name in specs/Limits, and a proof that uses one ties the two together.
+// each is a number of specs/Limits, Place, Refusal or Waits, and a proof that uses one ties the two together.
 
 // The sheet file: bytes, rows, the largest number of a field, sheets, boards.
 pub const TEXT_MOST: usize = 8192;
@@ -11,6 +11,9 @@ pub const NUMBER_MOST: usize = 511;
 pub const SHEETS: usize = 32;
 
 pub const BOARDS: usize = 16;
+
+// The line of row 0, behind the heading.
+pub const FIRST_LINE: usize = 2;
 
 // Messages of a block and of a walk, and their events.
 pub const MESSAGES_MOST: usize = 256;
@@ -93,8 +96,8 @@ pub const JOBS: u8 = 16;
 
 pub const HELD: u8 = 17;
 
-pub const TAP: u8 = 20;
-
 pub const SENDER_TABLE: u8 = 18;
 
 pub const FORBIDDEN: u8 = 19;
+
+pub const TAP: u8 = 20;

@@ -115,7 +115,7 @@ module _ (count : ℕ) (on words : List ℕ) (m : Monitor) (t : StepOrNone) (r :
         = ap (λ q. record { state = q; code = m .code }) (follows count words)
         ∙ ap (λ (u : StepOrNone). taking S (heldIn m) (stepOrNone u)) (sym i) in
         record {
-          taken = λ y. (ap (λ (a : Reply). a .word) e, ap (λ (a : Reply). heldIn (a .next)) e ∙ here);
+          taken = λ y. (ap (λ (a : Reply). a .word) e, ap (λ (a : Reply). a .one) e, ap (λ (a : Reply). a .two) e, ap (λ (a : Reply). heldIn (a .next)) e ∙ here);
           forbidden = λ f. let z : true ≡ false = sym (may ∙ n) ∙ f in let y : _≡_ {A = ℕ} 0 1 = cc in absurd (omega arith);
         }
 

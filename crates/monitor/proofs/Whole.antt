@@ -1,6 +1,6 @@
 -- The whole promises, from what the parts of the calls hand on. Assumes nothing.
 use mathlib.Core.Path.{_≡_, refl, sym, _∙_, ap, subst, subst⁻¹}
-use mathlib.Core.Bool.{Bool, true, false, not, cond}
+use mathlib.Core.Bool.{Bool, true, false, cond}
 use mathlib.Core.List.{List, _++_}
 use mathlib.Core.Option.{Option}
 use Prim.Native.Nat.{ℕ, _<_, _≤_}
@@ -110,6 +110,7 @@ module _ (m : Monitor) (kind message : ℕ) (text scratch : List ℕ) (r : Reply
   step-refuses number w e l word = (
     record {
       refusedWhen = λ n k i. same-refusal number 0 n k m r e (sym w ∙ i);
+      refusedOnly = λ S i u. not-refused (sym w ∙ i);
       scratchLeft = untouched number scratch (watchable text (m .code) (length scratch)) l w;
       byTheRules = λ S code cs isSheet known held.
           let inForce : m .code < channels = subst⁻¹ (λ (h : Held). h .code < channels) held (held-code S cs (fresh code) known) in
@@ -117,6 +118,7 @@ module _ (m : Monitor) (kind message : ℕ) (text scratch : List ℕ) (r : Reply
           record {
             word = ap (λ (a : Reply). a .word) e ∙ two;
             state = ap (λ (a : Reply). heldIn (a .next)) e ∙ sym (rw (← two));
+            taken = λ f. let one : refusedWord ≡ takenWord = sym (ap (λ (a : Reply). a .word) e) ∙ f in absurd (omega (arith, one));
             forbidden = λ f. let one : refusedWord ≡ forbiddenWord = sym (ap (λ (a : Reply). a .word) e) ∙ f in absurd (omega (arith, one));
           };
     },
@@ -156,7 +158,8 @@ module _ (m : Monitor) (kind message : ℕ) (text scratch : List ℕ) (r : Reply
           let q = h .taken e in
           record {
             word = q .0 ∙ sym w;
-            state = q .1 ∙ ap (taking S (heldIn m)) t ∙ sym (behind-taken S w);
+            state = q .3 ∙ ap (taking S (heldIn m)) t ∙ sym (behind-taken S w);
+            taken = λ f. (q .1, q .2);
             forbidden = λ f. let z : takenWord ≡ forbiddenWord = sym (q .0) ∙ f in absurd (omega (arith, z));
           }
       go false e =
@@ -165,8 +168,16 @@ module _ (m : Monitor) (kind message : ℕ) (text scratch : List ℕ) (r : Reply
           record {
             word = ap (λ (a : Reply). a .word) q ∙ sym w;
             state = ap (λ (a : Reply). heldIn (a .next)) q ∙ sym (behind-same S w);
+            taken = λ f. let z : forbiddenWord ≡ takenWord = sym (ap (λ (a : Reply). a .word) q) ∙ f in absurd (omega (arith, z));
             forbidden = λ f. q;
           }
+
+  step-unrefused : (S : Scenario) (told : Option runs.Step) → Takes S m told r → r .word ≡ refusedWord → ⊥
+  step-unrefused S told h u = go (mayTake S (heldIn m) told) refl
+    where
+      go : (b : Bool) → mayTake S (heldIn m) told ≡ b → ⊥
+      go true e = let z : takenWord ≡ refusedWord = sym (h .taken e .0) ∙ u in omega (arith, z)
+      go false e = let z : forbiddenWord ≡ refusedWord = sym (ap (λ (a : Reply). a .word) (h .forbidden e)) ∙ u in omega (arith, z)
 
   pub steps : (scratchExit used : List ℕ) (n : ℕ) (told : Option runs.Step) (k : ℕ) → m .code < channels → scratchLeast ≤ length scratch
       → length used ≡ n → n ≤ scratchLeast → scratchExit ≡ cleared k (used ++ drop n scratch) → k ≡ scratchLeast → told ≡ stepTold kind message
@@ -175,6 +186,7 @@ module _ (m : Monitor) (kind message : ℕ) (text scratch : List ℕ) (r : Reply
       let w = lent text (m .code) (length scratch) h l in (
         record {
           refusedWhen = λ number line i. subst (λ (o : Out Scenario). Steps o m told r) (sym w ∙ i) b;
+          refusedOnly = λ S i. step-unrefused S told (subst (λ (o : Out Scenario). Steps o m told r) (sym w ∙ i) b);
           scratchLeft = cleared-all scratchLeast k (used ++ drop n scratch) scratchExit s all ∙ scratch-behind text scratch used n e f ∙ ap (λ (o : Out Scenario). scratchBehind o scratch) (sym w);
           byTheRules = λ S code cs isSheet known held. step-rules S told t l (subst (λ (o : Out Scenario). Steps o m told r) isSheet b);
         },
@@ -197,6 +209,7 @@ module _ (m : Monitor) (code : ℕ) (text scratch : List ℕ) (r : Reply) where
       record {
         word = ap (λ (a : Reply). a .word) e ∙ two;
         state = ap (λ (a : Reply). heldIn (a .next)) e ∙ sym (rw (← two));
+        taken = λ f. let one : refusedWord ≡ takenWord = sym (ap (λ (a : Reply). a .word) e) ∙ f in absurd (omega (arith, one));
         forbidden = λ f. let one : refusedWord ≡ forbiddenWord = sym (ap (λ (a : Reply). a .word) e) ∙ f in absurd (omega (arith, one));
       }
 
@@ -215,6 +228,7 @@ module _ (m : Monitor) (code : ℕ) (text scratch : List ℕ) (r : Reply) where
   switch-refuses number w e l word = (
     record {
       refusedWhen = λ n k i. same-refusal number 0 n k m r e (sym (first number w) ∙ i);
+      refusedOnly = λ S i u. not-refused (sym (first number w) ∙ i);
       scratchLeft = untouched number scratch (switchable text code (length scratch) (stateOf (m .run))) l (first number w);
       byTheRules = λ S code cs isSheet known held. stays S (word S) number e;
     },
@@ -253,6 +267,7 @@ module _ (m : Monitor) (code : ℕ) (text scratch : List ℕ) (r : Reply) where
           record {
             word = ap (λ (a : Reply). a .word) q ∙ sym w;
             state = ap (λ (a : Reply). heldIn (a .next)) q ∙ sym (passes S w);
+            taken = λ f. (ap (λ (a : Reply). a .one) q, ap (λ (a : Reply). a .two) q);
             forbidden = λ f. let z : takenWord ≡ forbiddenWord = sym (ap (λ (a : Reply). a .word) q) ∙ f in absurd (omega (arith, z));
           }
 
@@ -279,6 +294,15 @@ module _ (m : Monitor) (code : ℕ) (text scratch : List ℕ) (r : Reply) where
       go false i f = not-refused (sym f)
   judged-refused (refusal n l) number line p e = same-refusal n l number line m r p e
 
+  judged-unrefused : (o : Out Scenario) (S : Scenario) → Switches o m code r → judged o ≡ ok S → r .word ≡ refusedWord → ⊥
+  unfolding judged
+  judged-unrefused (ok T) S p e u = go (isBarred code (stateOf (m .run))) refl e
+    where
+      go : (b : Bool) → isBarred code (stateOf (m .run)) ≡ b → cond b (refusal switchRefusal 0) (ok T) ≡ ok S → ⊥
+      go true i f = not-refused f
+      go false i f = let z : takenWord ≡ refusedWord = sym (ap (λ (a : Reply). a .word) (p .made i)) ∙ u in omega (arith, z)
+  judged-unrefused (refusal n l) S p e u = not-refused e
+
   pub switches : (scratchExit used : List ℕ) (n k : ℕ) → code < channels → scratchLeast ≤ length scratch
       → length used ≡ n → n ≤ scratchLeast → scratchExit ≡ cleared k (used ++ drop n scratch) → k ≡ scratchLeast
       → Switches (sheetOf text) m code r → SwitchPromise scratchExit
@@ -286,6 +310,7 @@ module _ (m : Monitor) (code : ℕ) (text scratch : List ℕ) (r : Reply) where
       let w = switch-judged h l in (
         record {
           refusedWhen = λ number line i. judged-refused (sheetOf text) number line b (sym w ∙ i);
+          refusedOnly = λ S i. judged-unrefused (sheetOf text) S b (sym w ∙ i);
           scratchLeft = cleared-all scratchLeast k (used ++ drop n scratch) scratchExit s all ∙ scratch-behind text scratch used n e f ∙ same-scratch (sheetOf text) ∙ ap (λ (o : Out Scenario). scratchBehind o scratch) (sym w);
           byTheRules = λ S opened cs isSheet known held. switch-rules S h l (subst (λ (o : Out Scenario). Switches o m code r) isSheet b);
         },

@@ -52,7 +52,7 @@ Begins (refusal number line) code r = r ≡ refusedAs number line zeros
 
 -- the step told is taken or forbidden by the rules, or the sheet is refused
 pub record Takes (S : Scenario) (m : Monitor) (told : Option runs.Step) (r : model.MonitorAnswer Monitor) : Type 0 where
-  pub taken : mayTake S (heldIn m) told ≡ true → (r .word ≡ takenWord) × (heldIn (r .next) ≡ taking S (heldIn m) told)
+  pub taken : mayTake S (heldIn m) told ≡ true → (r .word ≡ takenWord) × (r .one ≡ 0) × (r .two ≡ 0) × (heldIn (r .next) ≡ taking S (heldIn m) told)
   pub forbidden : mayTake S (heldIn m) told ≡ false → r ≡ forbiddenAs m
 
 abbrev pub Steps : Out Scenario → Monitor → Option runs.Step → model.MonitorAnswer Monitor → Type 0

@@ -1,5 +1,5 @@
 // The levels of calls: the way from one block of a walk to the next. Refusals 8, 9 and 13.
-use walk::FIRST_LINE;
+use model::FIRST_LINE;
 use walk::Walk;
 ghost use mathlib.Core.Path.{_≡_};
 ghost use Prim.Native.Nat.{_≤_};
@@ -41,9 +41,8 @@ fn behind_blocks(kind: &[u8], rows: usize, row: usize) -> usize
     at
 }
 
-// From a row on, the open block being empty, to the next row of a block: a B row changes nothing then; a call goes one level down,
-// with refusal 8 at level 8, else 9 at call 1,025, else 13 at the ninth A row; and where a sheet ends, the walk goes on behind the call
-// that was open. The options are those of a list of eight, as a number.
+// From a row on, the open block being empty, to the next row of a block, through calls and ends of sheets, or to refusal 8, 9 or 13.
+// The options are those of a list of eight, as a number.
 pub fn next_block(
     kind: &[u8],
     one: &[u16],

@@ -19,7 +19,6 @@ use Rattle.model.proofs.Bounded.{and-right, lowest-hit, lowest-miss, lowest-som
 use Rattle.relation.specs.Scenario.{scenarioIn}
 use Rattle.channel_table.specs.declared.Channel.{Channel}
 use Rattle.channel_table.specs.Table.{channelIn}
-use Rattle.run.specs.declared.Run.{Run}
 use Rattle.step.specs.declared.Step as code
 use Rattle.step.specs.declared.StepOrNone.{StepOrNone}
 use Rattle.step.specs.declared.StepOrNone.the-variants as maybe

@@ -13,7 +13,6 @@ use Rattle.model.specs.Order.{Scenario}
 use Rattle.model.specs.Senders.{Rule, soundnessOf, soundRules, soundTable}
 use Rattle.model.proofs.Senders.{Agrees, agrees}
 use Rattle.coverage.specs.Rules.{rulesAs}
-use Rattle.coverage.specs.declared.Rule as coverage
 use Rattle.sender_table.specs.Table.{outcomeAs, Few, TableAs}
 use Rattle.sender_table.specs.declared.Table.{Table}
 use Rattle.sender_table.specs.declared.Verdict.{Verdict}

@@ -1,4 +1,4 @@
--- Each way through the tests of a row's place is the twin's. Assumes nothing.
+-- Each way through the tests of a row's place is that of specs/Stand. Assumes nothing.
 use Prim.Native.Nat.{ℕ, suc, _+_, _*_, _≤_, _<_}
 use Prim.Native.Char.{code}
 use native.Mathlib.Omega.{arith}

@@ -1,4 +1,4 @@
--- Code-shaped twins of the model's place: the sheets opened are those with a start in the table.
+-- The model's place as the code keeps it: the sheets opened are those with a start in the table.
 -- Assumes nothing.
 use Prim.Native.Nat.{ℕ, _+_, _*_, _≤_}
 use Prim.Native.Char.{code}

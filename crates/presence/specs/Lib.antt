@@ -1,1 +1,1 @@
-pub mod Stray
+pub mod AbsentCalls

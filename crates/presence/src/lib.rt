@@ -6,7 +6,7 @@ ghost use Prim.Native.Nat.{_≤_, _<_};
 ghost use lib.ListN.{length, getD};
 ghost use Rattle.model.specs.Limits.{sheets, rowsMost};
 ghost use Rattle.place.specs.Stand.{isOpen};
-ghost use Rattle.presence.specs.Stray.{isStray, presenceIn};
+ghost use Rattle.presence.specs.AbsentCalls.{callsAbsent, presenceIn};
 
 // Every sheet is there; or the line to report.
 pub enum Presence {
@@ -15,7 +15,7 @@ pub enum Presence {
 }
 
 // Row i calls a sheet that is not there; an A row names two calls.
-fn is_stray(
+fn calls_absent(
     kind: &[u8; ROWS_MOST],
     one: &[u16; ROWS_MOST],
     two: &[u16; ROWS_MOST],
@@ -23,7 +23,7 @@ fn is_stray(
     i: usize,
 ) -> bool
     requires { ⌜ (i < rowsMost) × (length (now start) ≡ sheets) ⌝ }
-    ensures { λ r. ⌜ r ≡ isStray (getD (now (kind .entry)) i 0) (getD (now (one .entry)) i 0) (getD (now (two .entry)) i 0) (now (start .entry)) ⌝ }
+    ensures { λ r. ⌜ r ≡ callsAbsent (getD (now (kind .entry)) i 0) (getD (now (one .entry)) i 0) (getD (now (two .entry)) i 0) (now (start .entry)) ⌝ }
 {
     if kind[i] == b'C' {
         return !is_open(start, one[i]);
@@ -53,8 +53,8 @@ pub fn complete(
     }
     let mut i = 0;
     while i < count {
-        if is_stray(kind, one, two, start, i) {
-            return Presence::Absent(i + 2);
+        if calls_absent(kind, one, two, start, i) {
+            return Presence::Absent(i + model::FIRST_LINE);
         }
         i += 1;
     }

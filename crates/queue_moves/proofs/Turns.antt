@@ -1,15 +1,15 @@
 -- A job behind the last, a job that leaves, and a turn of the queue. Assumes nothing.
 use mathlib.Core.Path.{_≡_, refl, sym, _∙_, ap}
-use mathlib.Core.Bool.{Bool, true, false, not, cond, _&&_, _||_}
+use mathlib.Core.Bool.{Bool, true, false, not}
 use mathlib.Core.List.{List, [], _∷_, _++_}
-use mathlib.Core.Option.{Option, none, some}
-use Prim.Native.Nat.{ℕ, zero, suc, _+_, _-_, _*_, _%_, _^_, _<_, _≤_}
+use mathlib.Core.Option.{some}
+use Prim.Native.Nat.{ℕ, zero, suc, _+_, _-_, _*_, _^_, _<_, _≤_}
 use native.Mathlib.Numerals.{add-one}
 use native.Mathlib.Omega.{arith}
 use borrow.Author.Tests.{eq-eqb, leb-false, not-true}
-use lib.Dec.{eqb, ltb}
+use lib.Dec.{eqb}
 use lib.ListN.{length, getD, take, drop, set, length-append, length-drop}
-use lib.Seq.{take-nil, take-suc-set, take-take, getD-drop, paste, paste-zero, paste-suc, take-paste, drop-paste, length-paste, length-take-le}
+use lib.Seq.{take-nil, take-suc-set, take-take, getD-drop, paste, paste-zero, paste-suc, take-paste, drop-paste, length-paste}
 use Rattle.model.specs.Limits.{jobsMost}
 use Rattle.model.specs.Bounded.{among, eachOnce}
 use Rattle.model.specs.Dispatcher as model

@@ -7,7 +7,7 @@ use native.Mathlib.Omega.{arith}
 use lib.Dec.{eqb}
 use lib.ListN.{getD}
 use Rattle.model.specs.Order.{sendOf, receiveOf, event, atOrBefore}
-use Rattle.model.specs.Race.{RaceRule, byEvent, byOrigin, origin, escapes, isRace}
+use Rattle.model.specs.Race.{RaceRule, byEvent, byOrigin, origin, notAtOrBefore, isRace}
 use Rattle.model.proofs.Events.{send-event, receive-event}
 use Rattle.relation.specs.Width.{width}
 use Rattle.relation.specs.Rows.{holds}
@@ -27,19 +27,19 @@ origin-event x =
     go false = refl
 
 module _ (count : ℕ) (boards words : List ℕ) where
-  pub by-event : (e x : ℕ) → escapes (scenarioIn count boards words) byEvent e (event x)
+  pub by-event : (e x : ℕ) → notAtOrBefore (scenarioIn count boards words) byEvent e (event x)
       ≡ not (atOrBefore (scenarioIn count boards words) (event x) (event (2 * e)))
-  unfolding escapes
+  unfolding notAtOrBefore
   by-event e x = rw (send-event e)
 
-  pub by-origin : (e x : ℕ) → escapes (scenarioIn count boards words) byOrigin e (event x)
+  pub by-origin : (e x : ℕ) → notAtOrBefore (scenarioIn count boards words) byOrigin e (event x)
       ≡ not (atOrBefore (scenarioIn count boards words) (event (x - x % 2)) (event (2 * e)))
-  unfolding escapes
+  unfolding notAtOrBefore
   by-origin e x = rw (send-event e, origin-event x)
 
   pub race-at : (r : RaceRule) (e x : ℕ) → e < count → x < 2 * count
       → isRace (scenarioIn count boards words) r e (event x)
-      ≡ (eqb (getD boards x 0) (getD boards (2 * e + 1) 0) && holds width words (2 * e + 1) x && escapes (scenarioIn count boards words) r e (event x))
+      ≡ (eqb (getD boards x 0) (getD boards (2 * e + 1) 0) && holds width words (2 * e + 1) x && notAtOrBefore (scenarioIn count boards words) r e (event x))
   unfolding isRace
   race-at r e x l h =
       rw (board-at count boards words x, ← receive-event e, before-at count boards words x (2 * e + 1) h (omega arith))

@@ -11,7 +11,7 @@ use lib.ListN.{getD}
 use borrow.Author.Tests.{eq-eqb, ne-eqb, lt-ltb, le-ltb}
 use Rattle.model.specs.Limits as limits
 use Rattle.model.specs.Order.{event}
-use Rattle.model.specs.Race.{RaceRule, byEvent, byOrigin, never, escapes, isRace}
+use Rattle.model.specs.Race.{RaceRule, byEvent, byOrigin, never, notAtOrBefore, isRace}
 use Rattle.relation.specs.Width.{width, wordBits}
 use Rattle.relation.specs.Rows.{has, holds}
 use Rattle.relation.specs.Scenario.{scenarioIn}
@@ -79,13 +79,13 @@ pub receive-below : {count e b : ℕ} {boards words masks : List ℕ} → Standi
     → b < limits.boards
 receive-below {e = e} s l i = rw i (s .boardsBelow (2 * e + 1) (omega arith))
 
--- what escapes e's send is what stands outside; and so a race is said by words
+-- what is not at or before e's send is what stands outside; and so a race is said by words
 module _ (count : ℕ) (boards words : List ℕ) (r : RaceRule) (e : ℕ) (l : e < count) where
-  outside-escapes : (x : ℕ) → x < 2 * count → escapes (scenarioIn count boards words) r e (event x) ≡ isOutside words r e x
-  unfolding escapes
-  outside-escapes x h = go r
+  outside-same : (x : ℕ) → x < 2 * count → notAtOrBefore (scenarioIn count boards words) r e (event x) ≡ isOutside words r e x
+  unfolding notAtOrBefore
+  outside-same x h = go r
     where
-      go : (q : RaceRule) → escapes (scenarioIn count boards words) q e (event x) ≡ isOutside words q e x
+      go : (q : RaceRule) → notAtOrBefore (scenarioIn count boards words) q e (event x) ≡ isOutside words q e x
       go byEvent = by-event count boards words e x ∙ ap not (at-or-before-at count boards words x (2 * e) h (omega arith))
       go byOrigin =
           by-origin count boards words e x ∙ ap not (at-or-before-at count boards words (x - x % 2) (2 * e) (omega arith) (omega arith))
@@ -93,7 +93,7 @@ module _ (count : ℕ) (boards words : List ℕ) (r : RaceRule) (e : ℕ) (l : e
 
   pub race-outside : (x : ℕ) → x < 2 * count → isRace (scenarioIn count boards words) r e (event x)
       ≡ (eqb (getD boards x 0) (getD boards (2 * e + 1) 0) && holds width words (2 * e + 1) x && isOutside words r e x)
-  race-outside x h = race-at count boards words r e x l h ∙ rw (outside-escapes x h)
+  race-outside x h = race-at count boards words r e x l h ∙ rw (outside-same x h)
 
 -- the races of e in word w
 module _ (count : ℕ) (boards words masks : List ℕ) (S : Standing count boards words masks) (r : RaceRule) (e : ℕ) (l : e < count) where

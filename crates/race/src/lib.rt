@@ -11,7 +11,6 @@ ghost use Rattle.race.specs.Word.{OutsideWord, RaceWord};
 use at_or_before::reached_word;
 use relation::SENDS;
 use relation::WIDTH;
-use relation::WORD_BITS;
 
 // What must not be at or before e's send: the event itself, or its origin; on the lazy channels there are no races.
 pub enum Rule {

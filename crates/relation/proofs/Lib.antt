@@ -1,9 +1,12 @@
 pub mod Tests
 pub mod Bits
 pub mod Place
+pub mod OneBit
 pub mod Marked
 pub mod Cleared
 pub mod Scenario
 pub mod Loops
 pub mod Words
+pub mod Ones
 pub mod Alone
+pub mod Order

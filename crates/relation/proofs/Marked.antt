@@ -1,20 +1,20 @@
 -- What `marked` means: row y has event x besides, and no other row or event is touched. Neither it nor `unmarked` changes how many words there are.
 -- Assumes nothing.
-use mathlib.Core.Path.{_≡_, ap, ap₂}
-use mathlib.Core.Bool.{Bool, false, _&&_, _||_, or-false}
+use mathlib.Core.Path.{_≡_, ap, ap₂, _∙_}
+use mathlib.Core.Bool.{Bool, _&&_, _||_}
 use mathlib.Core.List.{List}
 use Prim.Native.Nat.{ℕ, _+_, _-_, _*_, _%_, _^_, _<_, _≤_}
-use native.Mathlib.Decide.{ℕ-discrete}
 use native.Mathlib.Omega.{arith}
 use lib.Bits.{bitAnd}
 use lib.Dec.{eqb}
 use lib.ListN.{length, getD, set, length-set}
-use lib.Seq.{getD-set-same, getD-set-other}
-use borrow.Author.Tests.{eq-eqb, ne-eqb}
+use borrow.Author.Tests.{eq-eqb, eqb-true}
+use Rattle.model.proofs.Bounded.{and-left, and-right, and-both}
 use Rattle.relation.specs.Width.{wordBits}
 use Rattle.relation.specs.Rows.{has, holds, marked, unmarked, wordOf, bitOf}
-use Rattle.relation.proofs.Tests.{eqb-same}
-use Rattle.relation.proofs.Bits.{has-or, has-power, mask-power}
+use Rattle.relation.proofs.Tests.{both-ways}
+use Rattle.relation.proofs.Bits.{mask-power}
+use Rattle.relation.proofs.OneBit.{bit-set}
 use Rattle.relation.proofs.Place.{column-lt, place-row, place-event}
 
 pub length-marked : (W : ℕ) (l : List ℕ) (y x : ℕ) → length (marked W l y x) ≡ length l
@@ -31,30 +31,23 @@ pub unmarked-by : (W : ℕ) (l : List ℕ) (y x : ℕ)
 unfolding unmarked
 unmarked-by W l y x = rw (mask-power x)
 
--- not both are equal
-apart : (b y a x : ℕ) → (b ≡ y → a ≡ x → ⊥) → (eqb b y && eqb a x) ≡ false
-apart b y a x n = go (ℕ-discrete b y)
-  where
-    go : Dec (b ≡ y) → (eqb b y && eqb a x) ≡ false
-    go (yes e) = rw (eq-eqb b y e, ne-eqb a x (n e))
-    go (no f) = rw (ne-eqb b y f)
+-- in one word and one bit of it, they are one event of one row
+same-place : (W y x b a : ℕ) → x < wordBits * W → a < wordBits * W
+    → (eqb (wordOf W b a) (wordOf W y x) && eqb (bitOf a) (bitOf x)) ≡ (eqb b y && eqb a x)
+same-place W y x b a hx ha =
+    both-ways (eqb (wordOf W b a) (wordOf W y x) && eqb (bitOf a) (bitOf x)) (eqb b y && eqb a x)
+    (λ t.
+    let word : wordOf W b a ≡ wordOf W y x = eqb-true _ _ (and-left (eqb (wordOf W b a) (wordOf W y x)) (eqb (bitOf a) (bitOf x)) t) in
+    let bit : bitOf a ≡ bitOf x = eqb-true _ _ (and-right (eqb (wordOf W b a) (wordOf W y x)) (eqb (bitOf a) (bitOf x)) t) in
+    and-both (eqb b y) (eqb a x) (eq-eqb b y (place-row W b y a x ha hx word)) (eq-eqb a x (place-event W b y a x ha hx word bit)))
+    (λ t.
+    let row : b ≡ y = eqb-true b y (and-left (eqb b y) (eqb a x) t) in
+    let event : a ≡ x = eqb-true a x (and-right (eqb b y) (eqb a x) t) in
+    and-both (eqb (wordOf W b a) (wordOf W y x)) (eqb (bitOf a) (bitOf x)) (eq-eqb _ _ (ap₂ (wordOf W) row event)) (eq-eqb _ _ (ap bitOf event)))
 
 pub holds-marked : (W : ℕ) (l : List ℕ) (y x b a : ℕ) → y * W + W ≤ length l → x < wordBits * W → a < wordBits * W
     → holds W (marked W l y x) b a ≡ (holds W l b a || eqb b y && eqb a x)
 unfolding holds marked
-holds-marked W l y x b a room hx ha = go (ℕ-discrete (wordOf W b a) (wordOf W y x))
-  where
-    inside : wordOf W y x < length l
-    inside = omega (arith, column-lt W x hx)
-
-    there : wordOf W b a ≡ wordOf W y x → eqb (bitOf a) (bitOf x) ≡ (eqb b y && eqb a x)
-    there e =
-        rw (eq-eqb b y (place-row W b y a x ha hx e))
-        (eqb-same (bitOf a) (bitOf x) a x (place-event W b y a x ha hx e) (λ same. ap bitOf same))
-
-    go : Dec (wordOf W b a ≡ wordOf W y x) → holds W (marked W l y x) b a ≡ (holds W l b a || eqb b y && eqb a x)
-    go (yes e) =
-        rw (e, getD-set-same l (wordOf W y x) _ 0 inside, has-or, has-power)
-        (ap (λ (t : Bool). has (getD l (wordOf W y x) 0) (bitOf a) || t) (there e))
-    go (no n) =
-        rw (getD-set-other l (wordOf W y x) (wordOf W b a) _ 0 n, apart b y a x (λ p q. n (ap₂ (wordOf W) p q)), or-false)
+holds-marked W l y x b a room hx ha =
+    bit-set l (wordOf W y x) (bitOf x) (omega (arith, column-lt W x hx)) (wordOf W b a) (bitOf a)
+    ∙ ap (λ (t : Bool). has (getD l (wordOf W b a) 0) (bitOf a) || t) (same-place W y x b a hx ha)

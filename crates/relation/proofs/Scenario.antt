@@ -7,7 +7,7 @@ use native.Mathlib.Omega.{arith}
 use lib.Dec.{eqb}
 use lib.ListN.{getD}
 use borrow.Author.Tests.{lt-ltb, eqb-true, eqb-false}
-use Rattle.model.specs.Order.{sendOf, receiveOf, number, event, messageOf, boardOf, board}
+use Rattle.model.specs.Order.{sendOf, receiveOf, event, messageOf, boardOf, board}
 use Rattle.model.proofs.Events.{number-event, below-event}
 use Rattle.relation.specs.Width.{width}
 use Rattle.relation.specs.Rows.{holds}

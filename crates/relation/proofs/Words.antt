@@ -133,7 +133,7 @@ has-twice n j =
     half (n * 2) j ∙ rw e
 
 -- and the bits that stay in the word are not touched by what is shifted out
-has-mod : (n k b : ℕ) → b < k → has (n % 2 ^ k) b ≡ has n b
+pub has-mod : (n k b : ℕ) → b < k → has (n % 2 ^ k) b ≡ has n b
 unfolding has
 has-mod n k b h =
     let split : k - b - 1 + 1 + b ≡ k = omega arith in

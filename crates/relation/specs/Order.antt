@@ -1,10 +1,9 @@
--- The rows as an order: what it is to be transitive, and the order with one pair more.
+-- The rows as an order, and what it is to be transitive.
 -- Assumes nothing.
 use mathlib.Core.Path.{_≡_}
-use mathlib.Core.Bool.{Bool, true, false, _&&_, _||_}
+use mathlib.Core.Bool.{Bool, true}
 use mathlib.Core.List.{List}
-use Prim.Native.Nat.{ℕ, _<_, _≤_}
-use lib.Dec.{eqb}
+use Prim.Native.Nat.{ℕ, _<_}
 use Rattle.relation.specs.Rows.{holds}
 
 -- Event a is before event b: it is in b's row.
@@ -14,16 +13,3 @@ before W words a b = holds W words b a
 -- Transitive on the first n events.
 abbrev pub Transitive : ℕ → (ℕ → ℕ → Bool) → Type 0
 Transitive n R = (a b c : ℕ) → a < n → b < n → c < n → R a b ≡ true → R b c ≡ true → R a c ≡ true
-
--- Each pair of R, among the first n events, is one of S.
-abbrev pub Within : ℕ → (ℕ → ℕ → Bool) → (ℕ → ℕ → Bool) → Type 0
-Within n R S = (a b : ℕ) → a < n → b < n → R a b ≡ true → S a b ≡ true
-
--- R with x before y: all at or before x is before all at or behind y.
-abbrev pub linked : (ℕ → ℕ → Bool) → ℕ → ℕ → ℕ → ℕ → Bool
-linked R x y a b = R a b || (eqb a x || R a x) && (eqb b y || R y b)
-
--- Outside the rows from .. to - 1 no row, of the first n, is y's or holds y: inserting there loses nothing.
-abbrev pub Covers : ℕ → List ℕ → ℕ → ℕ → ℕ → ℕ → Type 0
-Covers W words n y from to =
-    (b : ℕ) → b < n → (from ≤ b → b < to → ⊥) → (b ≡ y → ⊥) × (holds W words b y ≡ false)

@@ -4,7 +4,7 @@ use mathlib.Core.Bool.{Bool, true, false, not, _&&_}
 use mathlib.Core.List.{List, _++_}
 use Prim.Native.Nat.{ℕ, _%_, _<_, _≤_}
 use native.Mathlib.Omega.{arith}
-use borrow.Author.Tests.{lt-ltb, le-ltb, le-leb, leb-true, eq-eqb, eqb-true, ne-eqb, not-true, not-false}
+use borrow.Author.Tests.{lt-ltb, le-ltb, le-leb, leb-true, eqb-true, not-true, not-false}
 use lib.Dec.{eqb, leb}
 use lib.ListN.{length, drop}
 use Rattle.model.specs.Limits.{boards, channels, scratchLeast, traceLeast}
@@ -17,7 +17,7 @@ use Rattle.model.specs.Waits.{eachBoard, waitFor, waitsOf, TraceChecked}
 use Rattle.model.proofs.Bounded.{and-left, and-right}
 use Rattle.model.proofs.Accepted.{sheet-meets}
 use Rattle.model.proofs.Waits.{traced}
-use Rattle.model.proofs.Replay.{word, replay-parts, replay-by-the-rules, schedules-stick, replay-small}
+use Rattle.model.proofs.Replay.{word, replay-parts, replay-by-the-rules, empty-trace, schedules-stick, replay-small}
 use Rattle.relation.specs.Rows.{cleared}
 use Rattle.scenario.proofs.Laws.{scratch-behind}
 use Rattle.trace_steps.specs.declared.Replay.the-variants.{Refused}
@@ -40,6 +40,7 @@ replayed-from text code scratch scratchExit trace r o e i s =
       causalOrder = λ S h. sheet-meets text S (replay-parts text code (length scratch) trace S h .2);
       byTheRules = λ S h.
           subst⁻¹ (λ (n : ReplayNumbers). ByTheRules S (channelOf code) trace n) said (replay-by-the-rules text code (length scratch) trace S h);
+      emptyTrace = λ S h t. ap (λ (q : ReplayNumbers). q .word) said ∙ empty-trace text code (length scratch) trace S h t;
       schedulesStick = λ m n a x ts h t l.
           subst⁻¹ (λ (q : ReplayNumbers). q .word ≡ 1) said (ap word (schedules-stick text code (length scratch) trace m n a x ts h t l));
     }

@@ -1,4 +1,4 @@
--- Each way through the judgement of a row is the twin's. Assumes nothing.
+-- Each way through the judgement of a row is that of specs/Judged. Assumes nothing.
 use Prim.Native.Nat.{ℕ, _*_, _/_, _≤_, _<_}
 use native.Mathlib.Omega.{arith}
 use mathlib.Core.Path.{_≡_, refl, sym, _∙_, ap, subst}

@@ -1,4 +1,4 @@
--- Code-shaped twin of the model's judgement of a row, and what the code hands back of it. Assumes nothing.
+-- The model's judgement of a row as the code makes it, and what the code hands back of it. Assumes nothing.
 use Prim.Native.Nat.{ℕ, _*_, _/_, _≤_, _<_}
 use mathlib.Core.Path.{_≡_}
 use mathlib.Core.Bool.{Bool, cond}

@@ -11,7 +11,7 @@ use borrow.Author.Tests.{eq-eqb, lt-ltb, eqb-true, ltb-true}
 use Rattle.model.specs.Limits.{boards}
 use Rattle.model.specs.Bounded.{every}
 use Rattle.model.specs.Channel as model
-use Rattle.model.specs.Order.{sendOf, receiveOf, number, messageOf, board, Scenario}
+use Rattle.model.specs.Order.{sendOf, receiveOf, number, messageOf, Scenario}
 use Rattle.model.specs.Run.{bufferEmpty, boardFree, maySend, mayDeliver}
 use Rattle.model.proofs.Bounded.{and-left, and-right, every-at, every-from, which, not-is-true}
 use Rattle.relation.specs.Width.{width, wordBits}

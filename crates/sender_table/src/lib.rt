@@ -105,12 +105,12 @@ fn rules_from(table: &[u8], first: usize) -> Table
     let mut count = 0;
     while at < table.len() {
         if RULES_MOST <= count {
-            return malformed(count + 2);
+            return malformed(count + model::FIRST_LINE);
         }
         let r = rule_at(table, at);
         match r {
             Reading::Malformed => {
-                return malformed(count + 2);
+                return malformed(count + model::FIRST_LINE);
             }
             Reading::Rule(rule, next) => {
                 rules[count] = rule;

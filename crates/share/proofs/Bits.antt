@@ -1,9 +1,8 @@
 -- The lowest bit of a word whose event is on a board, and the words of a row one after the other. Assumes nothing.
 use mathlib.Core.Path.{_≡_, refl, sym, _∙_, ap, subst}
-use mathlib.Core.Logic.{⊎-elim}
 use mathlib.Core.Bool.{Bool, true, false, _&&_, and-false}
 use mathlib.Core.List.{List}
-use mathlib.Core.Option.{Option, none, some}
+use mathlib.Core.Option.{none, some}
 use Prim.Native.Nat.{ℕ, _+_, _-_, _*_, _/_, _^_, _<_, _≤_}
 use native.Mathlib.Nat.{lt-of-lt-of-le}
 use native.Mathlib.Decide.{decLt}
@@ -15,7 +14,6 @@ use lib.Dec.{eqb, ltb, leb}
 use lib.ListN.{getD}
 use lib.Pow.{pow-mono, shr-lt}
 use borrow.Author.Tests.{lt-ltb, le-ltb, ltb-true, le-leb, lt-leb}
-use Rattle.model.specs.Limits.{messagesMost}
 use Rattle.model.specs.Order.{event}
 use Rattle.model.specs.Race.{RaceRule, isRace}
 use Rattle.model.specs.Bounded.{lowest}

@@ -1,14 +1,14 @@
 -- What the turns of a job find, and that all of them together find the race named. Assumes nothing.
-use mathlib.Core.Path.{_≡_, refl, sym, _∙_, ap, subst, subst⁻¹}
+use mathlib.Core.Path.{_≡_, refl, sym, _∙_, ap, subst⁻¹}
 use mathlib.Core.Logic.{⊎-elim}
-use mathlib.Core.Bool.{Bool, true, false, cond, _&&_}
+use mathlib.Core.Bool.{Bool, true, false, _&&_}
 use mathlib.Core.List.{List}
 use mathlib.Core.Option.{Option, none, some}
-use Prim.Native.Nat.{ℕ, zero, suc, _+_, _*_, _/_, _%_, _<_, _≤_}
+use Prim.Native.Nat.{ℕ, zero, suc, _*_, _/_, _%_, _<_, _≤_}
 use native.Mathlib.Decide.{ℕ-discrete, decLt}
 use native.Mathlib.Omega.{arith}
-use lib.Dec.{eqb, ltb, leb}
-use borrow.Author.Tests.{eq-eqb, ne-eqb, lt-ltb, le-ltb, ltb-true, le-leb, lt-leb}
+use lib.Dec.{leb}
+use borrow.Author.Tests.{eq-eqb, ne-eqb, lt-ltb, ltb-true, le-leb}
 use Rattle.model.specs.Limits.{channels, messagesMost}
 use Rattle.model.specs.Bounded.{lowest}
 use Rattle.model.specs.Order.{Scenario, event}
@@ -18,10 +18,11 @@ use Rattle.relation.specs.Width.{width, wordBits}
 use Rattle.relation.specs.Scenario.{scenarioIn}
 use Rattle.race.specs.declared.Rule.{Rule}
 use Rattle.race.specs.Bridge.{ruleIn}
-use Rattle.share.specs.declared.Found.{Found}
-use Rattle.share.specs.declared.Found.the-variants as found
+use Rattle.relation.specs.declared.Found.{Found}
+use Rattle.relation.specs.declared.Found.the-variants as found
+use Rattle.relation.specs.Own.{foundIn}
 use Rattle.share.specs.declared.Race.{Race}
-use Rattle.share.specs.Search.{inWords, foundIn, half, fromOf, toOf, shareOf, searched, raceIn, Looks}
+use Rattle.share.specs.Search.{inWords, half, fromOf, toOf, shareOf, searched, raceIn, Looks}
 
 -- ---- the share of a turn, as it is looked at
 module _ (S : Scenario) (q : RaceRule) (t : ℕ) where

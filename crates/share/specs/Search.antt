@@ -14,8 +14,6 @@ use Rattle.relation.specs.Width.{width, wordBits}
 use Rattle.relation.specs.Scenario.{scenarioIn}
 use Rattle.share.specs.declared.Bit.{Bit}
 use Rattle.share.specs.declared.Bit.the-variants as bit
-use Rattle.share.specs.declared.Found.{Found}
-use Rattle.share.specs.declared.Found.the-variants as found
 use Rattle.share.specs.declared.Race.{Race}
 
 -- event x is one of the first `events`, on the board
@@ -29,10 +27,6 @@ inWords from to x = leb (wordBits * from) x && ltb x (wordBits * to)
 abbrev pub bitIn : Bit → Option ℕ
 bitIn (bit.At b) = some b
 bitIn bit.Nothing = none
-
-abbrev pub foundIn : Found → Option ℕ
-foundIn (found.Event x) = some x
-foundIn found.Nothing = none
 
 -- Turn t of a job looks at message t / 2, and in its row at the first half of the words or at the second.
 abbrev pub half : ℕ

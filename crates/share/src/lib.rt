@@ -9,11 +9,13 @@ ghost use Rattle.model.specs.Order.{event};
 ghost use Rattle.model.specs.Race.{isRace};
 ghost use Rattle.relation.specs.Width.{width, wordBits};
 ghost use Rattle.relation.specs.Rows.{has};
+ghost use Rattle.relation.specs.Own.{foundIn};
 ghost use Rattle.relation.specs.Scenario.{scenarioIn};
 ghost use Rattle.race.specs.Bridge.{ruleIn};
 ghost use Rattle.at_or_before.specs.Reached.{eventAt};
-ghost use Rattle.share.specs.Search.{isOn, inWords, bitIn, foundIn, shareOf, Looks};
+ghost use Rattle.share.specs.Search.{isOn, inWords, bitIn, shareOf, Looks};
 use race::Rule;
+use relation::Found;
 use relation::WIDTH;
 use relation::WORD_BITS;
 
@@ -31,12 +33,6 @@ pub struct Race {
 // A bit of a word, if one is found.
 enum Bit {
     At(usize),
-    Nothing,
-}
-
-// The lowest event that races, if one does.
-enum Found {
-    Event(usize),
     Nothing,
 }
 

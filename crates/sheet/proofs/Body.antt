@@ -14,17 +14,17 @@ use Rattle.model.specs.Bounded.{among}
 use Rattle.model.specs.Refusal.{Out, ok, refusal, andThen, absentRefusal}
 use Rattle.model.specs.Text.{Line, Columns, linesOf}
 use Rattle.model.specs.Rows.{Row}
-use Rattle.model.specs.Place.{outside, lineOf, rowsFrom, opens, strayCall, complete}
+use Rattle.model.specs.Place.{outside, lineOf, rowsFrom, opens, absentCall, complete}
 use Rattle.relation.specs.Width.{width}
 use Rattle.place.specs.Stand.{isOpen}
-use Rattle.presence.specs.Stray.{isStray, strayIn, absentAt, presenceIn}
+use Rattle.presence.specs.AbsentCalls.{callsAbsent, absentIn, absentAt, presenceIn}
 use Rattle.presence.specs.declared.Presence.{Presence}
 use Rattle.presence.specs.declared.Presence.the-variants.{Complete, Absent}
 use Rattle.sheet.specs.Bridge.{rowFrom, rowsAt, rowsOf, outcomeOf, startsOf, storeOf, Sized, KeptOn}
-use Rattle.sheet.specs.Reading.{readFrom, fresh}
 use Rattle.sheet.specs.Store.{verdictOn, BodyAs}
 use Rattle.sheet.specs.declared.Verdict.{Verdict}
 use Rattle.sheet.specs.declared.Verdict.the-variants.{Rows, Refused}
+use Rattle.sheet.proofs.Reading.{readFrom, fresh}
 use Rattle.sheet.proofs.Simulation.{rows-refused, rows-read, starts-same, open-same}
 
 -- the verdict, by the sheets that are there
@@ -38,21 +38,21 @@ verdict-complete f count e = rw e
 
 -- Calls by the columns, and by the rows: a sheet has a start exactly when it is present.
 module _ (starts present : List ℕ) (agree : (n : ℕ) → isOpen starts n ≡ among n present) where
-  stray-row : (k a b i : ℕ) (rs : List Row)
-      → strayCall present i (rowFrom k a b ∷ rs) ≡ cond (isStray k a b starts) (some (lineOf i)) (strayCall present (suc i) rs)
-  unfolding strayCall rowFrom isStray
-  stray-row k a b i rs = go (eqb k (code "S")) (eqb k (code "M")) (eqb k (code "P")) (eqb k (code "C")) (eqb k (code "A")) refl refl refl refl refl
+  absent-row : (k a b i : ℕ) (rs : List Row)
+      → absentCall present i (rowFrom k a b ∷ rs) ≡ cond (callsAbsent k a b starts) (some (lineOf i)) (absentCall present (suc i) rs)
+  unfolding absentCall rowFrom callsAbsent
+  absent-row k a b i rs = go (eqb k (code "S")) (eqb k (code "M")) (eqb k (code "P")) (eqb k (code "C")) (eqb k (code "A")) refl refl refl refl refl
     where
-      called : (t : Bool) → cond t (strayCall present (suc i) rs) (some (lineOf i)) ≡ cond (not t || false) (some (lineOf i)) (strayCall present (suc i) rs)
+      called : (t : Bool) → cond t (absentCall present (suc i) rs) (some (lineOf i)) ≡ cond (not t || false) (some (lineOf i)) (absentCall present (suc i) rs)
       called true = refl
       called false = refl
 
-      chosen : (t : Bool) → cond t (strayCall present (suc i) rs) (some (lineOf i)) ≡ cond (not t) (some (lineOf i)) (strayCall present (suc i) rs)
+      chosen : (t : Bool) → cond t (absentCall present (suc i) rs) (some (lineOf i)) ≡ cond (not t) (some (lineOf i)) (absentCall present (suc i) rs)
       chosen true = refl
       chosen false = refl
 
       go : (s m p c d : Bool) → eqb k (code "S") ≡ s → eqb k (code "M") ≡ m → eqb k (code "P") ≡ p → eqb k (code "C") ≡ c → eqb k (code "A") ≡ d
-          → strayCall present i (rowFrom k a b ∷ rs) ≡ cond (isStray k a b starts) (some (lineOf i)) (strayCall present (suc i) rs)
+          → absentCall present i (rowFrom k a b ∷ rs) ≡ cond (callsAbsent k a b starts) (some (lineOf i)) (absentCall present (suc i) rs)
       go true m p c d e f g h o = rw (eqb-true k (code "S") e)
       go false true p c d e f g h o = rw (eqb-true k (code "M") f)
       go false false true c d e f g h o = rw (eqb-true k (code "P") g)
@@ -60,19 +60,19 @@ module _ (starts present : List ℕ) (agree : (n : ℕ) → isOpen starts n ≡ 
       go false false false false true e f g h o = rw (eqb-true k (code "A") o, agree a, agree b) (chosen (among a present && among b present))
       go false false false false false e f g h o = rw (e, f, g, h, o)
 
-  stray-in : (kind one two : List ℕ) (n i : ℕ) → strayIn kind one two starts i n ≡ strayCall present i (rowsAt kind one two i n)
-  unfolding strayIn strayCall rowsAt
-  stray-in kind one two zero i = refl
-  stray-in kind one two (suc n) i =
-      rw (stray-in kind one two n (suc i)) (sym (stray-row (getD kind i 0) (getD one i 0) (getD two i 0) i (rowsAt kind one two (suc i) n)))
+  absent-in : (kind one two : List ℕ) (n i : ℕ) → absentIn kind one two starts i n ≡ absentCall present i (rowsAt kind one two i n)
+  unfolding absentIn absentCall rowsAt
+  absent-in kind one two zero i = refl
+  absent-in kind one two (suc n) i =
+      rw (absent-in kind one two n (suc i)) (sym (absent-row (getD kind i 0) (getD one i 0) (getD two i 0) i (rowsAt kind one two (suc i) n)))
 
 -- the verdict on the columns is that on their rows
 complete-in : (kind one two starts : List ℕ) (count : ℕ) → ((n : ℕ) → isOpen starts n ≡ among n (opens (rowsOf kind one two count)))
     → outcomeOf (verdictOn (presenceIn kind one two starts count) count) kind one two ≡ complete (rowsOf kind one two count)
 unfolding presenceIn absentAt complete verdictOn
 complete-in kind one two starts count agree =
-    rw (stray-in starts (opens (rowsOf kind one two count)) agree kind one two count 0, agree 0)
-    (go (among 0 (opens (rowsOf kind one two count))) (strayCall (opens (rowsOf kind one two count)) 0 (rowsOf kind one two count)))
+    rw (absent-in starts (opens (rowsOf kind one two count)) agree kind one two count 0, agree 0)
+    (go (among 0 (opens (rowsOf kind one two count))) (absentCall (opens (rowsOf kind one two count)) 0 (rowsOf kind one two count)))
   where
     go : (t : Bool) (o : Option ℕ)
         → outcomeOf (verdictOn (cond t (absentAt o) (Absent 0)) count) kind one two
@@ -84,7 +84,7 @@ complete-in kind one two starts count agree =
 complete-kept : (kind one two start : List ℕ) (count : ℕ) → (count ≤ rowsMost) × Sized (storeOf kind one two start)
     → KeptOn (storeOf kind one two start) (verdictOn (presenceIn kind one two start count) count)
 unfolding presenceIn absentAt verdictOn
-complete-kept kind one two start count h = go (isOpen start 0) (strayIn kind one two start 0 count)
+complete-kept kind one two start count h = go (isOpen start 0) (absentIn kind one two start 0 count)
   where
     go : (t : Bool) (o : Option ℕ) → KeptOn (storeOf kind one two start) (verdictOn (cond t (absentAt o) (Absent 0)) count)
     go true none = h
@@ -93,7 +93,7 @@ complete-kept kind one two start count h = go (isOpen start 0) (strayIn kind one
 
 complete-rows : (rs qs : List Row) → complete rs ≡ ok qs → rs ≡ qs
 unfolding complete
-complete-rows rs qs = go (among 0 (opens rs)) (strayCall (opens rs) 0 rs)
+complete-rows rs qs = go (among 0 (opens rs)) (absentCall (opens rs) 0 rs)
   where
     go : (t : Bool) (o : Option ℕ)
         → _≡_ {A = Out (List Row)} (cond t (elim o [ none ↦ ok rs | some line ↦ refusal absentRefusal line ]) (refusal absentRefusal 0)) (ok qs)

@@ -1,3 +1,4 @@
+pub mod Reading
 pub mod Bridge
 pub mod Simulation
 pub mod Body

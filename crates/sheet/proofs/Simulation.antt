@@ -1,4 +1,4 @@
--- The twin's reading, with its table of starts, is the model's, with its list of opened sheets. Assumes nothing.
+-- The code's reading, with its table of starts, is the model's, with its list of opened sheets. Assumes nothing.
 use Prim.Native.Nat.{ℕ, suc, _+_, _*_, _/_, _<_}
 use native.Mathlib.Nat.{zero-add}
 use native.Mathlib.Omega.{arith}
@@ -30,7 +30,7 @@ use Rattle.block_order.specs.Noted.{noted, circles}
 use Rattle.block_order.proofs.Held.{held-empty}
 use Rattle.block_order.proofs.Rows.{HeldAt, circle-same, held-behind}
 use Rattle.place.specs.Stand.{Stand, isOpen, mayOpen, movedTo, stoodAt}
-use Rattle.sheet.specs.Reading.{Kept, aheadOf, readFrom, fresh}
+use Rattle.sheet.proofs.Reading.{Kept, aheadOf, readFrom, fresh}
 
 -- a sheet has a start exactly when it is among those opened
 abbrev Agree : List ℕ → List ℕ → Type 0
@@ -52,7 +52,7 @@ agree-set starts opened n i h l m = go (eqb m n) refl
     go true e = subst (λ (x : ℕ). isOpen (set starts n (i + 1)) x ≡ true) (sym (eqb-true m n e)) (open-set starts n i l)
     go false e = open-other starts n i m (eqb-false m n e) ∙ h m
 
--- the place behind a row in the model, and where the twin stands: both are there, and agree, or neither is
+-- the place behind a row in the model, and where the code stands: both are there, and agree, or neither is
 record Alike (p : Place) (s : Stand) : Type 0 where
   pub agree : Agree (s .starts) (p .opened)
   pub long : length (s .starts) ≡ sheets
@@ -128,7 +128,7 @@ place-same p s i r h z =
     subst (λ (l : List ℕ). Moves (placed p r) (stoodAt i (record { starts = s .starts; events = l }) r)) (sym (h .events))
     (place (p .opened) (s .starts) (p .events) (p .orders) i (h .agree) (h .long) r z)
 
--- the rows of what the twin keeps
+-- the rows of what the code keeps
 rowsKept : Out Kept → Out (List Row)
 rowsKept (ok k) = ok (k .rows)
 rowsKept (refusal number line) = refusal number line
@@ -186,7 +186,7 @@ module _ (choices : Bool) (c : Columns) where
       form none = refused rowRefusal (lineOf i)
       form (some r) = stood r (placed p r) (stoodAt i (s .stand) r) (place-same p (s .stand) i r (h .alike) z) refl
 
-  -- a row and what is behind it, in the model and in the twin
+  -- a row and what is behind it, in the model and in the code
   ahead-same : (r : Row) (o : Out Kept) (m : Out (List Row)) → m ≡ rowsKept o
       → elim m [ refusal number line ↦ refusal number line | ok rs ↦ ok (r ∷ rs) ] ≡ rowsKept (aheadOf r o)
   unfolding rowsKept aheadOf
@@ -424,7 +424,7 @@ empty : (n : ℕ) → false ≡ among n []
 unfolding among
 empty n = refl
 
--- what the twin reads is what the model reads, and its table has the starts of the sheets that the rows open
+-- what the code reads is what the model reads, and its table has the starts of the sheets that the rows open
 module _ (choices : Bool) (c : Columns) (ls : List Line) (words : List ℕ) (long : length words ≡ 2 * messagesMost * width) where
   same-rows : rowsFrom choices c 0 outside ls ≡ rowsKept (readFrom choices c 0 (fresh words) ls)
   same-rows =

@@ -1,4 +1,4 @@
--- The loop over the rows keeps to the twins: each row judged, and stored. Assumes nothing.
+-- The loop over the rows keeps to `Reading`: each row judged, and stored. Assumes nothing.
 use Prim.Native.Nat.{ℕ, zero, suc, _+_, _-_, _*_, _≤_, _<_}
 use native.Mathlib.Nat.{add-zero, zero-add}
 use native.Mathlib.Numerals.{add-one}
@@ -19,13 +19,13 @@ use Rattle.relation.specs.Width.{width}
 use Rattle.row.specs.Judged.{Reader, readerOf, judgedBy, StepAs}
 use Rattle.row.specs.declared.Step.{Step}
 use Rattle.row.specs.declared.Step.the-variants as step
-use Rattle.presence.specs.Stray.{presenceIn}
+use Rattle.presence.specs.AbsentCalls.{presenceIn}
 use Rattle.presence.specs.declared.Presence.{Presence}
 use Rattle.sheet.specs.Bridge.{rowFrom, rowsAt, rowsOf, storeOf, Sized}
-use Rattle.sheet.specs.Reading.{Kept, aheadOf, readFrom, fresh}
 use Rattle.sheet.specs.Store.{verdictOn, BodyAs}
 use Rattle.sheet.specs.declared.Verdict.{Verdict}
 use Rattle.sheet.specs.declared.Verdict.the-variants as verdict
+use Rattle.sheet.proofs.Reading.{Kept, aheadOf, readFrom, fresh}
 use Rattle.sheet.proofs.Body.{body-refused, body-complete}
 
 -- rows ahead of the one that is stored, and that one

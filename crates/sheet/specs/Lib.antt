@@ -1,3 +1,2 @@
 pub mod Bridge
-pub mod Reading
 pub mod Store

@@ -1,4 +1,4 @@
--- What the reader's functions do with the columns and the table, as the twins say it.
+-- What the reader's functions do with the columns and the table.
 -- Assumes nothing.
 use Prim.Native.Nat.{ℕ}
 use mathlib.Core.Path.{_≡_}

@@ -7,7 +7,7 @@ use model::SHEETS;
 use presence::Presence;
 use row::Step;
 ghost use mathlib.Core.Path.{_≡_};
-ghost use Prim.Native.Nat.{_*_, _≤_, _<_};
+ghost use Prim.Native.Nat.{_*_, _≤_};
 ghost use lib.ListN.{length};
 ghost use Rattle.model.specs.Limits.{messagesMost};
 ghost use Rattle.relation.specs.Width.{width};
@@ -22,8 +22,7 @@ pub enum Verdict {
 }
 
 // Reads a text, with or without A rows let through, into three columns of `Rows(count)` rows, and notes at `start[n]` the number of the row behind `S n` (0: no sheet n).
-// Of the columns only these rows are written, so what they are lent with does not matter but for their lengths. The words hold the open
-// block's order while it is read; what they hold at first does not matter, and nothing is said of what is left in them.
+// The words hold the open block's order while it is read. What columns and words are lent with does not matter.
 pub fn read(
     text: &[u8],
     choices: bool,
@@ -82,7 +81,7 @@ fn rows(
         );
         match s {
             Step::Refused(number) => {
-                return Verdict::Refused(number, row + 2);
+                return Verdict::Refused(number, row + model::FIRST_LINE);
             }
             Step::Row(k, a, b, next, after) => {
                 kind[row] = k;

@@ -21,7 +21,7 @@ use Rattle.step.specs.declared.Step.the-variants as step
 use Rattle.run.specs.State.{inRow, stateOf}
 use Rattle.buffers.specs.Held.{HeldIn}
 use Rattle.channel.specs.Steps.{SaysIn}
-use Rattle.standing.specs.Bridge.{standIn, allDone, stillAt, SaysStill}
+use Rattle.standing.specs.Bridge.{standIn, allDone, noStepAt, SaysNoStep}
 use Rattle.standing.specs.declared.Stand.the-variants.{Finished, Stuck, Open}
 
 -- so far every number passes
@@ -73,49 +73,49 @@ module _ (done : List ℕ) (count : ℕ) where
 -- What each return of `is_held_up` is to show.
 module _ (count : ℕ) (on words : List ℕ) (c : Channel) (done way rows : List ℕ) where
   module _ (m : ℕ) where
-    pub may-send : (r : Bool) → r ≡ true → SaysIn count on words c done way rows (step.Send m) r → SaysStill count on words c done way rows m false
+    pub may-send : (r : Bool) → r ≡ true → SaysIn count on words c done way rows (step.Send m) r → SaysNoStep count on words c done way rows m false
     may-send r t h run d w s = rw (← h run d w s, t)
 
     pub may-deliver : (q r : Bool) → q ≡ false → r ≡ true → SaysIn count on words c done way rows (step.Send m) q
-        → SaysIn count on words c done way rows (step.Deliver m) r → SaysStill count on words c done way rows m false
+        → SaysIn count on words c done way rows (step.Deliver m) r → SaysNoStep count on words c done way rows m false
     may-deliver q r f t g h run d w s = rw (← g run d w s, ← h run d w s, f, t)
 
     pub may-consume : (p q r : Bool) → p ≡ false → q ≡ false → SaysIn count on words c done way rows (step.Send m) p
         → SaysIn count on words c done way rows (step.Deliver m) q → SaysIn count on words c done way rows (step.Consume m) r
-        → SaysStill count on words c done way rows m (not r)
+        → SaysNoStep count on words c done way rows m (not r)
     may-consume p q r e f g h i run d w s = rw (← g run d w s, ← h run d w s, ← i run d w s, e, f)
 
 -- the search for a message that may move, in every run with these parts
 module _ (count : ℕ) (on words : List ℕ) (c : Channel) (done way rows : List ℕ) where
-  pub record Stilled (m : ℕ) : Type 0 where
+  pub record WithoutStep (m : ℕ) : Type 0 where
     pub within : m ≤ count
-    pub passed : (run : Run) → run .done ≡ done → run .way ≡ way → HeldIn run rows → every m (stillAt count on words c run) ≡ true
+    pub passed : (run : Run) → run .done ≡ done → run .way ≡ way → HeldIn run rows → every m (noStepAt count on words c run) ≡ true
 
-  pub stilled-starts : Stilled 0
+  pub without-step-starts : WithoutStep 0
   unfolding every
-  stilled-starts = record { within = omega arith; passed = λ run d w h. refl }
+  without-step-starts = record { within = omega arith; passed = λ run d w h. refl }
 
-  module _ (m : ℕ) (r : Bool) (says : SaysStill count on words c done way rows m r) where
-    pub still-moves : (run : Run) → not r ≡ true → m < count → run .done ≡ done → run .way ≡ way → HeldIn run rows
+  module _ (m : ℕ) (r : Bool) (says : SaysNoStep count on words c done way rows m r) where
+    pub step-left : (run : Run) → not r ≡ true → m < count → run .done ≡ done → run .way ≡ way → HeldIn run rows
         → false ≡ noStep (scenarioIn count on words) (channelIn c) (stateOf run)
     unfolding noStep
-    still-moves run f l d w h = sym (every-fails count _ m l (sym (says run d w h) ∙ not-true r f))
+    step-left run f l d w h = sym (every-fails count _ m l (sym (says run d w h) ∙ not-true r f))
 
-    pub still-stands : not r ≡ false → m < count → Stilled m → Stilled (m + 1)
+    pub no-step-more : not r ≡ false → m < count → WithoutStep m → WithoutStep (m + 1)
     unfolding every
-    still-stands f l P =
+    no-step-more f l P =
         record {
           within = omega arith;
           passed = λ run d w h.
-              rw add-one (and-both (every m (stillAt count on words c run)) _ (P .passed run d w h) (sym (says run d w h) ∙ not-false r f));
+              rw add-one (and-both (every m (noStepAt count on words c run)) _ (P .passed run d w h) (sym (says run d w h) ∙ not-false r f));
         }
 
-  pub all-still : (run : Run) (m : ℕ) → Stilled m → count ≤ m → run .done ≡ done → run .way ≡ way → HeldIn run rows
+  pub no-step-at-all : (run : Run) (m : ℕ) → WithoutStep m → count ≤ m → run .done ≡ done → run .way ≡ way → HeldIn run rows
       → true ≡ noStep (scenarioIn count on words) (channelIn c) (stateOf run)
   unfolding noStep
-  all-still run m P l d w h =
+  no-step-at-all run m P l d w h =
       let e : m ≡ count = omega (arith, P .within) in
-      sym (subst (λ (n : ℕ). every n (stillAt count on words c run) ≡ true) e (P .passed run d w h))
+      sym (subst (λ (n : ℕ). every n (noStepAt count on words c run) ≡ true) e (P .passed run d w h))
 
 -- where the run stands
 module _ (count : ℕ) (on words : List ℕ) (c : Channel) (run : Run) where

@@ -25,12 +25,12 @@ abbrev pub allDone : ℕ → List ℕ → Bool
 allDone count done = every count (λ m. inRow done (2 * m) && inRow done (2 * m + 1))
 
 -- no step on message m is allowed in the run
-abbrev pub stillAt : ℕ → List ℕ → List ℕ → Channel → Run → ℕ → Bool
-stillAt count on words c run m =
+abbrev pub noStepAt : ℕ → List ℕ → List ℕ → Channel → Run → ℕ → Bool
+noStepAt count on words c run m =
     let may = allowed (scenarioIn count on words) (channelIn c) (stateOf run) in
     not (may (send m)) && not (may (deliver m)) && not (may (consume m))
 
 -- the same of every run with these events done, these messages under way and these buffers in rows
-abbrev pub SaysStill : ℕ → List ℕ → List ℕ → Channel → List ℕ → List ℕ → List ℕ → ℕ → Bool → Type 0
-SaysStill count on words c done way rows m r =
-    (run : Run) → run .done ≡ done → run .way ≡ way → HeldIn run rows → r ≡ stillAt count on words c run m
+abbrev pub SaysNoStep : ℕ → List ℕ → List ℕ → Channel → List ℕ → List ℕ → List ℕ → ℕ → Bool → Type 0
+SaysNoStep count on words c done way rows m r =
+    (run : Run) → run .done ≡ done → run .way ≡ way → HeldIn run rows → r ≡ noStepAt count on words c run m

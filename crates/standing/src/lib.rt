@@ -8,7 +8,7 @@ ghost use Rattle.relation.specs.Scenario.{scenarioIn};
 ghost use Rattle.channel_table.specs.Table.{channelIn};
 ghost use Rattle.board.specs.Masks.{Standing};
 ghost use Rattle.run.specs.State.{stateOf};
-ghost use Rattle.standing.specs.Bridge.{standIn, allDone, SaysStill};
+ghost use Rattle.standing.specs.Bridge.{standIn, allDone, SaysNoStep};
 use buffers::HELD_WORDS;
 use channel::may_step;
 use channel_table::Channel;
@@ -55,7 +55,7 @@ fn is_held_up<'a>(
 ) -> bool
     requires { ⌜ Standing count (now boards) (now words) (now masks) ⌝ }
     requires { ⌜ m < count ⌝ }
-    ensures { λ r. ⌜ SaysStill count (now (boards .entry)) (now (words .entry)) c (now (done .entry)) (now (way .entry)) (now (rows .entry)) m r ⌝ }
+    ensures { λ r. ⌜ SaysNoStep count (now (boards .entry)) (now (words .entry)) c (now (done .entry)) (now (way .entry)) (now (rows .entry)) m r ⌝ }
 {
     let send = Step::Send(m);
     if may_step(words, masks, boards, count, c, done, way, rows, send) {
@@ -70,7 +70,14 @@ fn is_held_up<'a>(
 }
 
 // No step is allowed.
-fn is_still(run: Run, words: &[u64], masks: &[u64], boards: &[u8], count: usize, c: Channel) -> bool
+fn has_no_step(
+    run: Run,
+    words: &[u64],
+    masks: &[u64],
+    boards: &[u8],
+    count: usize,
+    c: Channel,
+) -> bool
     requires { ⌜ Standing count (now boards) (now words) (now masks) ⌝ }
     ensures { λ r. ⌜ r ≡ noStep (scenarioIn count (now (boards .entry)) (now (words .entry))) (channelIn c) (stateOf run) ⌝ }
 {
@@ -86,7 +93,7 @@ fn is_still(run: Run, words: &[u64], masks: &[u64], boards: &[u8], count: usize,
     true
 }
 
-// Where the run stands.
+// Finished is asked first: in a finished run no step is allowed either.
 pub fn stand_of(
     run: Run,
     words: &[u64],
@@ -101,7 +108,7 @@ pub fn stand_of(
     if is_finished(&run.done, count) {
         return Stand::Finished;
     }
-    if is_still(run, words, masks, boards, count, c) {
+    if has_no_step(run, words, masks, boards, count, c) {
         return Stand::Stuck;
     }
     Stand::Open

@@ -16,7 +16,7 @@ use Rattle.channel_table.specs.declared.Channel.{Channel}
 use Rattle.channel_table.specs.Table.{channelIn}
 use Rattle.run.specs.declared.Run.{Run}
 use Rattle.run.specs.State.{inRow, bufferOf, stateOf}
-use Rattle.switching.specs.Crowded.{isCrowded, isFull}
+use Rattle.switching.specs.TwoOrMore.{holdsTwo, isFull}
 
 -- board b holds two messages or more
 abbrev pub crowd : State → ℕ → Bool
@@ -31,9 +31,9 @@ pub passed-none : (run : Run) → Passed run 0
 unfolding any every
 passed-none run = record { none = refl; most = omega arith }
 
-pub crowded-here : (run : Run) (b n : ℕ) → n ≡ howMany messagesMost (λ m. inRow (bufferOf run b .held) (2 * m)) → 2 ≤ n → b < boards
-    → true ≡ isCrowded (stateOf run)
-crowded-here run b n e l k = sym (any-from boards (crowd (stateOf run)) b k (ap (leb 2) (sym e) ∙ le-leb 2 n l))
+pub two-here : (run : Run) (b n : ℕ) → n ≡ howMany messagesMost (λ m. inRow (bufferOf run b .held) (2 * m)) → 2 ≤ n → b < boards
+    → true ≡ holdsTwo (stateOf run)
+two-here run b n e l k = sym (any-from boards (crowd (stateOf run)) b k (ap (leb 2) (sym e) ∙ le-leb 2 n l))
 
 pub passed-one : (run : Run) (b n : ℕ) → Passed run b → n ≡ howMany messagesMost (λ m. inRow (bufferOf run b .held) (2 * m)) → n < 2 → b < boards
     → Passed run (b + 1)
@@ -44,11 +44,11 @@ passed-one run b n p e l k =
     let next : b + 1 ≡ suc b = omega arith in
     record { none = ap (λ m. any m (crowd (stateOf run))) next ∙ last; most = omega (arith, k) }
 
-pub passed-all : (run : Run) (b : ℕ) → Passed run b → boards ≤ b → false ≡ isCrowded (stateOf run)
+pub passed-all : (run : Run) (b : ℕ) → Passed run b → boards ≤ b → false ≡ holdsTwo (stateOf run)
 passed-all run b p l = let e : b ≡ boards = omega (arith, p .most) in sym (ap (λ n. any n (crowd (stateOf run))) (sym e) ∙ p .none)
 
 -- each part of what bars a switch
-pub eager-bars : (run : Run) (eager r : Bool) → eager ≡ true → r ≡ isCrowded (stateOf run) → r ≡ (eager && isCrowded (stateOf run))
+pub eager-bars : (run : Run) (eager r : Bool) → eager ≡ true → r ≡ holdsTwo (stateOf run) → r ≡ (eager && holdsTwo (stateOf run))
 eager-bars run eager r e i = rw e i
 
 pub ring-bars : (run : Run) (code n : ℕ) → code ≡ 5 → n ≡ howMany messagesMost (λ m. inRow (run .way) (2 * m))
@@ -59,18 +59,18 @@ pub others-pass : (run : Run) (code : ℕ) → (code ≡ 5 → ⊥) → false �
 others-pass run code e = rw (ne-eqb code 5 e)
 
 -- and both
-pub barred-by-buffers : (run : Run) (code : ℕ) (c : Channel) (r : Bool) → channelIn c ≡ channelOf code → r ≡ (c .eager && isCrowded (stateOf run)) → r ≡ true
+pub barred-by-buffers : (run : Run) (code : ℕ) (c : Channel) (r : Bool) → channelIn c ≡ channelOf code → r ≡ (c .eager && holdsTwo (stateOf run)) → r ≡ true
     → true ≡ isBarred code (stateOf run)
 unfolding isBarred
 barred-by-buffers run code c r i e t =
     let s = stateOf run in
-    let held : (channelOf code .eager && isCrowded s) ≡ true = ap (λ (k : model.Channel). k .eager && isCrowded s) (sym i) ∙ sym e ∙ t in
+    let held : (channelOf code .eager && holdsTwo s) ≡ true = ap (λ (k : model.Channel). k .eager && holdsTwo s) (sym i) ∙ sym e ∙ t in
     sym (or-left _ (eqb code 5 && isFull s) held)
 
-pub barred-by-way : (run : Run) (code : ℕ) (c : Channel) (r w : Bool) → channelIn c ≡ channelOf code → r ≡ (c .eager && isCrowded (stateOf run)) → r ≡ false
+pub barred-by-way : (run : Run) (code : ℕ) (c : Channel) (r w : Bool) → channelIn c ≡ channelOf code → r ≡ (c .eager && holdsTwo (stateOf run)) → r ≡ false
     → w ≡ (eqb code 5 && isFull (stateOf run)) → w ≡ isBarred code (stateOf run)
 unfolding isBarred
 barred-by-way run code c r w i e t f =
     let s = stateOf run in
-    let free : (channelOf code .eager && isCrowded s) ≡ false = ap (λ (k : model.Channel). k .eager && isCrowded s) (sym i) ∙ sym e ∙ t in
+    let free : (channelOf code .eager && holdsTwo s) ≡ false = ap (λ (k : model.Channel). k .eager && holdsTwo s) (sym i) ∙ sym e ∙ t in
     f ∙ ap (λ (b : Bool). b || (eqb code 5 && isFull s)) (sym free)

@@ -1,77 +1,37 @@
 -- The messages of a row, counted word by word. Assumes nothing.
-use mathlib.Core.Path.{_≡_, refl, sym, _∙_, ap, ap₂, subst}
-use mathlib.Core.Bool.{Bool, true, false, not, cond, _&&_}
+use mathlib.Core.Path.{_≡_, refl, sym, _∙_, ap, ap₂}
+use mathlib.Core.Bool.{false, _&&_, and-true, and-false}
 use mathlib.Core.List.{List}
-use Prim.Native.Nat.{ℕ, zero, suc, _+_, _*_, _/_, _%_, _^_, _<_, _≤_}
-use native.Mathlib.Nat.{div-one, mod-lt, lt-of-le-of-lt, le-trans, le-of-eq}
+use Prim.Native.Nat.{ℕ, _+_, _*_, _/_, _%_, _^_, _<_, _≤_}
+use native.Mathlib.Nat.{lt-of-le-of-lt, le-trans, le-of-eq}
 use native.Mathlib.Omega.{arith}
-use borrow.Author.Tests.{not-true}
-use lib.Arith.{lt-one}
+use borrow.Author.Tests.{eq-eqb, ne-eqb}
 use lib.Bits.{bitAnd, and-le-l}
-use lib.Pow.{shr-lt}
-use lib.Count.{ones, ones-step, ones-le}
-use lib.Dec.{eqb}
+use lib.Count.{ones, ones-le}
 use lib.ListN.{getD}
 use Rattle.model.specs.Limits.{messagesMost}
-use Rattle.model.specs.Bounded.{every, howMany}
-use Rattle.model.proofs.Bounded.{every-at, many-same, many-most, many-front, many-split, many-doubles}
+use Rattle.model.specs.Bounded.{howMany}
+use Rattle.model.proofs.Bounded.{many-same, many-most, many-split, many-doubles}
 use Rattle.relation.specs.Width.{width, wordBits}
 use Rattle.relation.specs.Rows.{has}
-use Rattle.relation.proofs.Words.{has-and, shifted, alone-row}
+use Rattle.relation.proofs.Words.{has-and, alone-row, evenBits, has-even-bits}
+use Rattle.relation.proofs.Ones.{ones-bits}
 use Rattle.run.specs.State.{inRow}
-use Rattle.switching.specs.Crowded.{halfWord}
-
--- a digit is one exactly if it is set
-digit : (d : ℕ) → d < 2 → d ≡ cond (eqb d 1) 1 0
-digit zero l = refl
-digit (suc zero) l = refl
-digit (suc (suc d)) l = absurd (omega arith)
-
--- the set digits of a number, by their places
-ones-bits : (k w : ℕ) → w < 2 ^ k → ones w ≡ howMany k (has w)
-unfolding howMany ones has
-ones-bits zero w l = ap ones (lt-one l)
-ones-bits (suc k) w l =
-    let e : suc k ≡ k + 1 = omega arith in
-    let half : w / 2 < 2 ^ k = shr-lt k 1 (subst (λ (x : ℕ). w < 2 ^ x) e l) in
-    let rest : ones (w / 2) ≡ howMany k (λ j. has w (suc j))
-    = ones-bits k (w / 2) half ∙ many-same k (has (w / 2)) (λ j. has w (suc j)) (λ j m. let f : suc j ≡ 1 + j = omega arith in sym (ap (has w) f ∙ shifted w 1 j)) in
-    let low : w % 2 ≡ cond (has w 0) 1 0 = rw div-one (digit (w % 2) (mod-lt w (omega arith))) in
-    ones-step w ∙ ap₂ _+_ low rest ∙ sym (many-front k (has w))
-
--- the sends of a word: the even bits, and no other
-abbrev pub sends : ℕ
-sends = 6148914691236517205
-
-even-bits : every halfWord (λ j. has sends (2 * j)) ≡ true
-unfolding every has
-even-bits = refl
-
-odd-bits : every halfWord (λ j. not (has sends (2 * j + 1))) ≡ true
-unfolding every has
-odd-bits = refl
-
-and-true : (b : Bool) → (b && true) ≡ b
-and-true true = refl
-and-true false = refl
-
-and-false : (b : Bool) → (b && false) ≡ false
-and-false true = refl
-and-false false = refl
+use Rattle.switching.specs.TwoOrMore.{halfWord}
 
 -- the messages of a word
-pub word-counted : (w : ℕ) → w < 2 ^ wordBits → ones (bitAnd w sends) ≡ howMany halfWord (λ j. has w (2 * j))
+pub word-counted : (w : ℕ) → w < 2 ^ wordBits → ones (bitAnd w evenBits) ≡ howMany halfWord (λ j. has w (2 * j))
 word-counted w l =
-    let even : (j : ℕ) → j < halfWord → has (bitAnd w sends) (2 * j) ≡ has w (2 * j)
-    = λ j m. has-and w sends (2 * j) ∙ ap (λ b. has w (2 * j) && b) (every-at halfWord _ even-bits j m) ∙ and-true (has w (2 * j)) in
-    let odd : (j : ℕ) → j < halfWord → has (bitAnd w sends) (2 * j + 1) ≡ false
-    = λ j m. has-and w sends (2 * j + 1) ∙ ap (λ b. has w (2 * j + 1) && b) (not-true _ (every-at halfWord _ odd-bits j m)) ∙ and-false (has w (2 * j + 1)) in
-    ones-bits wordBits (bitAnd w sends) (lt-of-le-of-lt (and-le-l w sends) l)
-    ∙ many-doubles halfWord (has (bitAnd w sends)) odd ∙ many-same halfWord _ _ even
+    let even : (j : ℕ) → j < halfWord → has (bitAnd w evenBits) (2 * j) ≡ has w (2 * j)
+    = λ j m. has-and w evenBits (2 * j) ∙ ap (λ b. has w (2 * j) && b) (has-even-bits (2 * j) (omega arith) ∙ eq-eqb (2 * j % 2) 0 (omega arith)) ∙ and-true (has w (2 * j)) in
+    let odd : (j : ℕ) → j < halfWord → has (bitAnd w evenBits) (2 * j + 1) ≡ false
+    = λ j m. has-and w evenBits (2 * j + 1) ∙ ap (λ b. has w (2 * j + 1) && b) (has-even-bits (2 * j + 1) (omega arith) ∙ ne-eqb ((2 * j + 1) % 2) 0 (λ z. omega (arith, z))) ∙ and-false (has w (2 * j + 1)) in
+    ones-bits wordBits (bitAnd w evenBits) (lt-of-le-of-lt (and-le-l w evenBits) l)
+    ∙ many-doubles halfWord (has (bitAnd w evenBits)) odd ∙ many-same halfWord _ _ even
 
 -- and their count is small
-pub ones-fit : (w : ℕ) → w < 2 ^ wordBits → ones (bitAnd w sends) < 2 ^ wordBits
-ones-fit w l = omega (arith, ones-le wordBits (bitAnd w sends) (lt-of-le-of-lt (and-le-l w sends) l))
+pub ones-fit : (w : ℕ) → w < 2 ^ wordBits → ones (bitAnd w evenBits) < 2 ^ wordBits
+ones-fit w l = omega (arith, ones-le wordBits (bitAnd w evenBits) (lt-of-le-of-lt (and-le-l w evenBits) l))
 
 -- the count so far
 pub record Counting (row : List ℕ) (count i : ℕ) : Type 0 where

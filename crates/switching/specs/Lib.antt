@@ -1,1 +1,1 @@
-pub mod Crowded
+pub mod TwoOrMore

@@ -8,7 +8,7 @@ ghost use Rattle.model.specs.Bounded.{howMany};
 ghost use Rattle.model.specs.Monitor.{isBarred};
 ghost use Rattle.relation.specs.Rows.{has};
 ghost use Rattle.run.specs.State.{inRow, stateOf};
-ghost use Rattle.switching.specs.Crowded.{halfWord, isCrowded, isFull};
+ghost use Rattle.switching.specs.TwoOrMore.{halfWord, holdsTwo, isFull};
 use relation::SENDS;
 use relation::WIDTH;
 use run::Run;
@@ -35,8 +35,8 @@ fn messages_in(row: [u64; WIDTH]) -> usize
 }
 
 // Some board holds two messages or more.
-fn is_crowded(run: Run) -> bool
-    ensures { λ r. ⌜ r ≡ isCrowded (stateOf run) ⌝ }
+fn holds_two(run: Run) -> bool
+    ensures { λ r. ⌜ r ≡ holdsTwo (stateOf run) ⌝ }
 {
     for board in 0..model::BOARDS {
         let buffer = run.buffers[board];
@@ -50,10 +50,10 @@ fn is_crowded(run: Run) -> bool
 
 // An eager channel has no room for a board that holds two messages or more.
 fn bars_buffers(run: Run, eager: bool) -> bool
-    ensures { λ r. ⌜ r ≡ (eager && isCrowded (stateOf run)) ⌝ }
+    ensures { λ r. ⌜ r ≡ (eager && holdsTwo (stateOf run)) ⌝ }
 {
     if eager {
-        return is_crowded(run);
+        return holds_two(run);
     }
     false
 }

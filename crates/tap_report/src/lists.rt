@@ -21,12 +21,6 @@ fn is_space(byte: u8) -> bool {
     byte == b' ' || byte == b'\t' || byte == b'\r' || byte == b'\n'
 }
 
-// The number with a digit more. One beyond 65,535, which is no event of any sheet, stays there.
-fn grown(value: u16, digit: u8) -> u16 {
-    let next = value as u32 * 10 + digit as u32 % 16;
-    if next < 65535 { next as u16 } else { 65535 }
-}
-
 // The list with a number more, while there is room.
 fn put(list: &mut [u16], count: usize, value: u16) -> usize {
     if list.len() <= count {
@@ -61,7 +55,7 @@ fn with_byte(list: &mut [u16], reading: Reading, byte: u8) -> Reading {
     if is_digit(byte) {
         return Reading {
             count: reading.count,
-            value: grown(reading.value, byte),
+            value: commands::grown(reading.value, byte),
             open: true,
         };
     }

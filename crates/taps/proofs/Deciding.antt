@@ -10,7 +10,7 @@ use borrow.Author.Tests.{not-true, not-false}
 use Rattle.model.specs.Bounded.{lowest, eachOnce}
 use Rattle.model.specs.Refusal.{Out, ok, refusal, tapRefusal}
 use Rattle.model.specs.Order.{Scenario}
-use Rattle.model.specs.Taps.{Tapped, withLists, isSooner, precedes, courseOf, fit, clash, refused, fitWord, tappedOn, tappedFor, tapNumbersOf, outputAfter}
+use Rattle.model.specs.Taps.{Tapped, withLists, isSooner, precedes, courseOf, fit, clash, fitWord, tappedOn, tappedFor, tapNumbersOf, outputAfter}
 use Rattle.relation.specs.Width.{width}
 use Rattle.relation.specs.Order.{before, Transitive}
 use Rattle.relation.specs.Own.{isOwn, foundIn}

@@ -22,7 +22,7 @@ pub fn print_steps(text: &[u8], code: u32) {
     }
 }
 
-// Where the answer is locked, the trace's bytes; else nothing, and the answer goes to standard error.
+// Where the answer is locked, the trace's bytes; else a line on standard error says that it is not.
 pub fn write_trace(text: &[u8], code: u32) {
     let mut scratch = [0u64; model::SCRATCH_LEAST];
     let mut trace = [0u8; model::TRACE_LEAST];

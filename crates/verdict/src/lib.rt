@@ -1,5 +1,4 @@
 // What is decided of an accepted sheet on a channel: free, or locked, with the schedule for the race's message in the trace.
-ghost use mathlib.Core.Path.{_≡_};
 ghost use Prim.Native.Nat.{_<_, _≤_};
 ghost use lib.ListN.{length};
 ghost use Rattle.model.specs.Limits.{channels, traceLeast};

@@ -22,7 +22,7 @@ use Rattle.closure.specs.Insertion.{inserted}
 use Rattle.closure.proofs.Inserted.{length-inserted}
 use Rattle.sheet.specs.Bridge.{rowFrom, rowsAt, rowsOf}
 use Rattle.sheet.proofs.Bridge.{rows-drop as rows-at-drop, row-message as row-is-message, row-order as row-is-order}
-use Rattle.blocks.specs.Store.{Store, storeOf, seated, added, passed, storeOps}
+use Rattle.blocks.specs.Store.{Store, storeOf, boardsWith, added, passed, storeOps}
 use Rattle.walk.specs.Block.{opened, stateOf, rowsFrom, inBlock, blockWalked, Leaves, AllStand, Ready}
 use Rattle.walk.specs.declared.Walk.{Walk}
 use Rattle.walk.specs.declared.Walked.{Walked}
@@ -85,9 +85,9 @@ module _ (kind : List ℕ) (count i : ℕ) where
   at-end h = rw (le-ltb i count h)
 
 -- where a message takes its place there are as many boards, and boards stay boards
-seated-length : (events : List ℕ) (m a b : ℕ) → length (seated events m a b) ≡ length events
-unfolding seated
-seated-length events m a b = simp length-set
+boards-with-length : (events : List ℕ) (m a b : ℕ) → length (boardsWith events m a b) ≡ length events
+unfolding boardsWith
+boards-with-length events m a b = simp length-set
 
 set-below : (n : ℕ) (l : List ℕ) (i v : ℕ) → ((j : ℕ) → getD l j 0 < n) → v < n → (k : ℕ) → getD (set l i v) k 0 < n
 set-below n [] i v h p k = h k
@@ -96,10 +96,10 @@ set-below n (x ∷ l) zero v h p (suc k) = h (suc k)
 set-below n (x ∷ l) (suc i) v h p zero = h zero
 set-below n (x ∷ l) (suc i) v h p (suc k) = set-below n l i v (λ j. h (suc j)) p k
 
-seated-boards : (events : List ℕ) (m a b : ℕ) → ((i : ℕ) → getD events i 0 < boards) → a < boards → b < boards
-    → (k : ℕ) → getD (seated events m a b) k 0 < boards
-unfolding seated
-seated-boards events m a b h p q = set-below boards (set events (2 * m) a) (2 * m + 1) b (set-below boards events (2 * m) a h p) q
+boards-with-below : (events : List ℕ) (m a b : ℕ) → ((i : ℕ) → getD events i 0 < boards) → a < boards → b < boards
+    → (k : ℕ) → getD (boardsWith events m a b) k 0 < boards
+unfolding boardsWith
+boards-with-below events m a b h p q = set-below boards (set events (2 * m) a) (2 * m + 1) b (set-below boards events (2 * m) a h p) q
 
 -- what a row at the head comes to
 module _ (rs : List Row) (i : ℕ) (s : Progress Store) where
@@ -183,7 +183,7 @@ module _ (kind one two : List ℕ) (count row : ℕ) (w₀ : Walk) (t₀ : Store
         pub meeting-refused : (t′ : Store) → messagesMost ≤ met → Leaves (Stopped messagesRefusal (lineOf i)) t′ whole
         meeting-refused t′ m = record { exact = sym (message-refused rest i s a b m) ∙ message-head; room = tt }
 
-        pub meeting-message : (events′ words′ : List ℕ) → (events′ ≡ seated events met a b) × (words′ ≡ added width words past met a b) → met < messagesMost
+        pub meeting-message : (events′ words′ : List ℕ) → (events′ ≡ boardsWith events met a b) × (words′ ≡ added width words past met a b) → met < messagesMost
             → Meeting (i + 1) (met + 1) (storeOf events′ words′ past)
         unfolding messageMet storeOps
         meeting-message events′ words′ f m =
@@ -193,12 +193,12 @@ module _ (kind one two : List ℕ) (count row : ℕ) (w₀ : Walk) (t₀ : Store
               exact = rw (f .0, f .1, add-one met) (sym (message-met rest i s a b m) ∙ message-head);
               ready = record {
                 room = record {
-                  eventsLong = ap length (f .0) ∙ seated-length events met a b ∙ room .eventsLong;
+                  eventsLong = ap length (f .0) ∙ boards-with-length events met a b ∙ room .eventsLong;
                   wordsLong = ap length (f .1) ∙ length-added width words past met a b ∙ room .wordsLong;
                   pastLong = room .pastLong;
                   firstMost = omega (arith, room .firstMost);
                   countMost = omega arith;
-                  boardsMost = λ k. rw (f .0) (seated-boards events met a b (room .boardsMost) (message-boards .0) (message-boards .1) k);
+                  boardsMost = λ k. rw (f .0) (boards-with-below events met a b (room .boardsMost) (message-boards .0) (message-boards .1) k);
                 };
                 stand = subst (λ (n : ℕ). AllStand n rest) more (message-stands .1);
               };

@@ -51,9 +51,6 @@ pub enum Walked {
     Stopped(u8, usize),
 }
 
-// The heading is line 1.
-pub const FIRST_LINE: usize = 2;
-
 // A row of a block, M or P.
 pub fn in_block(kind: &[u8], rows: usize, row: usize) -> bool
     requires { ⌜ rows ≤ length (now kind) ⌝ }
@@ -88,7 +85,7 @@ pub fn walk_block(
             continue;
         }
         if Walk::MESSAGES_MOST <= met {
-            return Walked::Stopped(model::MESSAGES, at + FIRST_LINE);
+            return Walked::Stopped(model::MESSAGES, at + model::FIRST_LINE);
         }
         blocks::add_message(boards, words, past, met, one[at], two[at]);
         met += 1;

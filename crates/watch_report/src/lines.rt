@@ -17,7 +17,7 @@ pub enum Told {
 }
 
 enum Number {
-    Is(u32),
+    Is(u16),
     Nothing,
 }
 
@@ -55,29 +55,25 @@ pub fn read(line: &mut [u8]) -> Line {
     Line::Is(line.len())
 }
 
-// The value of a digit's byte.
-fn digit_of(byte: u8) -> u32 {
-    byte as u32 % 16
-}
-
-// The number that a field is, digits alone. One of more than six digits is told by its last ones: no sheet has so many messages.
+// The number that a field is, digits alone.
 fn number_in(field: &[u8]) -> Number {
     if field.len() == 0 {
         return Number::Nothing;
     }
-    let mut value = 0u32;
+    let mut value = 0u16;
     for i in 0..field.len() {
         let digit = field[i];
         if digit < b'0' || b'9' < digit {
             return Number::Nothing;
         }
-        value = (value % 100000) * 10 + digit_of(digit) % 10;
+        value = commands::grown(value, digit);
     }
     Number::Is(value)
 }
 
 // What a word and a number tell.
-fn told_by(word: &[u8], number: u32) -> Told {
+fn told_by(word: &[u8], field: u16) -> Told {
+    let number = field as u32;
     if check::same(word, b"send") {
         Told::Step(0, number)
     } else if check::same(word, b"deliver") {

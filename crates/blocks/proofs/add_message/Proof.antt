@@ -2,7 +2,7 @@
 use native.Mathlib.Omega.{arith}
 use mathlib.Core.Path.{refl}
 use lib.ListN.{length-set}
-use Rattle.blocks.specs.Store.{seated}
+use Rattle.blocks.specs.Store.{boardsWith}
 use Rattle.blocks.proofs.Turns.{added-parts}
 use borrow.Author.Needs.{needs}
 use Rattle.blocks.proofs.add_message.Statement.{statement}
@@ -39,7 +39,7 @@ same-length-2 : tie.Need-same-length-2
 same-length-2 c = search needs
 
 returns : tie.Need-returns
-unfolding seated
+unfolding boardsWith
 returns c = (
   refl,
   added-parts _ _ _ _ _ _ _ _ _ (c .before .before .mark .ensures)

@@ -6,15 +6,15 @@ use native.Mathlib.Omega.{arith}
 use lib.Bits.{bitAnd}
 use lib.ListN.{getD}
 use Rattle.relation.specs.Width.{width}
-use Rattle.candidates.proofs.Skipped.{Filled, common, filled-start, filled-more, common-all}
+use Rattle.candidates.proofs.Skipped.{Filled, common, filled-start, filled-more, needed-marked, needed-absent}
 use Rattle.candidates.proofs.needed.Statement.{statement}
 use Rattle.candidates.proofs.needed.Tie as tie
 
 abbrev Inv-loop : tie.InvT-loop
-Inv-loop words e send from kept₀ i₀ kept i = Filled (common words from kept₀) kept₀ kept i
+Inv-loop words e row send from kept₀ i₀ kept i = Filled (common words from row) row kept i
 
 abbrev μ-loop : tie.MeasureT-loop
-μ-loop words e send from kept₀ i₀ kept i = width - i
+μ-loop words e row send from kept₀ i₀ kept i = width - i
 
 mul-send : tie.Need-mul-send Inv-loop μ-loop
 mul-send c = search needs
@@ -58,6 +58,12 @@ loop-again c =
     let p = s .loop .inv in
     filled-more _ _ _ _ _ p (ap (λ (w : ℕ). bitAnd w (getD (s .before .before .args .words .now) (2 * s .before .before .args .e * width + s .loop .i) 0)) (p .kept (s .loop .i) (omega arith))) (c .before .loop-test .taken)
 
+slice-aggregate-test : tie.Need-slice-aggregate-test Inv-loop μ-loop
+slice-aggregate-test c = search needs
+
+test-requires : tie.Need-test-requires Inv-loop μ-loop
+test-requires c κs = search needs
+
 slice-aggregate-mark : tie.Need-slice-aggregate-mark Inv-loop μ-loop
 slice-aggregate-mark c = search needs
 
@@ -65,8 +71,10 @@ mark-requires : tie.Need-mark-requires Inv-loop μ-loop
 mark-requires c κs = search needs
 
 returns : tie.Need-returns Inv-loop μ-loop
-returns c =
-    common-all _ _ _ _ _ _ (c .before .before .before .before .loop .inv) (search needs) (search needs) (c .before .mark .ensures)
+returns c = search needed-marked
+
+returns-2 : tie.Need-returns-2 Inv-loop μ-loop
+returns-2 c = search needed-absent
 
 pub needed-spec : {M : Type 1} → statement M
 needed-spec =
@@ -87,6 +95,9 @@ needed-spec =
     add-i
     loop-less
     loop-again
+    slice-aggregate-test
+    test-requires
     slice-aggregate-mark
     mark-requires
-    returns)
+    returns
+    returns-2)

@@ -1,5 +1,6 @@
--- `channel_check::channel_check` meets its contract: the numbers are those of the answer. Assumes nothing.
+-- `channel_check::channel_check` meets its contract: the numbers are those of the answer, and the theorem is the model's. Assumes nothing.
 use borrow.Author.Needs.{needs}
+use Rattle.model.proofs.EverySheet.{every-sheet}
 use Rattle.answers.proofs.CheckNumbers.{small-checked, same-numbers}
 use Rattle.channel_check.proofs.channel_check.Statement.{statement}
 use Rattle.channel_check.proofs.channel_check.Tie as tie
@@ -17,7 +18,7 @@ same-length-2 : tie.Need-same-length-2
 same-length-2 c = search needs
 
 returns : tie.Need-returns
-returns c = search same-numbers
+returns c = (search same-numbers, every-sheet)
 
 pub channel-check-spec : {M : Type 1} → statement M
 channel-check-spec =

@@ -1,5 +1,5 @@
 -- `channel_check::dispatcher_cancel` meets its contract. Assumes nothing.
-use Rattle.channel_check.proofs.Desk.{cancel-served}
+use Rattle.channel_check.proofs.Served.{cancel-served}
 use borrow.Author.Needs.{needs}
 use Rattle.channel_check.proofs.dispatcher_cancel.Statement.{statement}
 use Rattle.channel_check.proofs.dispatcher_cancel.Tie as tie

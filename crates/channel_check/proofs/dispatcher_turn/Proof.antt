@@ -1,5 +1,5 @@
 -- `channel_check::dispatcher_turn` meets its contract. Assumes nothing.
-use Rattle.channel_check.proofs.Desk.{turn-served}
+use Rattle.channel_check.proofs.Served.{turn-served}
 use borrow.Author.Needs.{needs}
 use Rattle.channel_check.proofs.dispatcher_turn.Statement.{statement}
 use Rattle.channel_check.proofs.dispatcher_turn.Tie as tie

@@ -1,17 +1,11 @@
 -- `covers::hide_by` meets its contract. Assumes nothing.
+use Rattle.covers.proofs.Hiding.{hide-yes, hide-no}
 use borrow.Author.Needs.{needs}
-use Rattle.covers.proofs.Covering.{hide-yes, hide-no}
 use Rattle.covers.proofs.hide_by.Statement.{statement}
 use Rattle.covers.proofs.hide_by.Tie as tie
 
-mul-send : tie.Need-mul-send
-mul-send c = search needs
-
-mul-other : tie.Need-mul-other
-mul-other c = search needs
-
-test-requires : tie.Need-test-requires
-test-requires c κs = search needs
+mul-events : tie.Need-mul-events
+mul-events c = search needs
 
 join-from-requires : tie.Need-join-from-requires
 join-from-requires c κs = search needs
@@ -26,6 +20,4 @@ returns-2 : tie.Need-returns-2
 returns-2 c = search hide-no
 
 pub hide-by-spec : {M : Type 1} → statement M
-hide-by-spec =
-    tie.close
-    (tie.spec mul-send mul-other test-requires join-from-requires same-length returns returns-2)
+hide-by-spec = tie.close (tie.spec mul-events join-from-requires same-length returns returns-2)

@@ -1,7 +1,7 @@
 -- `cured_sheet::write_messages` meets its contract. Assumes nothing.
 use borrow.Author.Needs.{needs}
 use Prim.Native.Nat.{_-_}
-use Rattle.cured_sheet.proofs.Rows.{Messages, messages-none, messages-room, messages-more, messages-all, messages-few}
+use Rattle.cured_sheet.proofs.Rows.{Messages, messages-none, messages-more, messages-all, messages-few}
 use Rattle.cured_sheet.proofs.write_messages.Statement.{statement}
 use Rattle.cured_sheet.proofs.write_messages.Tie as tie
 

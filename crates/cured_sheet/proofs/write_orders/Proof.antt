@@ -1,21 +1,24 @@
 -- `cured_sheet::write_orders` meets its contract. Assumes nothing.
-use borrow.Author.Needs.{needs}
 use Prim.Native.Nat.{_*_, _-_}
 use Rattle.cured_sheet.proofs.Rows.{To, to-none, to-room, to-more, to-all}
+use borrow.Author.Needs.{needs}
 use Rattle.cured_sheet.proofs.write_orders.Statement.{statement}
 use Rattle.cured_sheet.proofs.write_orders.Tie as tie
 
 abbrev Inv-loop : tie.InvT-loop
-Inv-loop words count rest₀ events at₀ x₀ rest at x = To words count rest₀ rest at x
+Inv-loop words count rest₀ events at₀ span₀ x₀ rest at span x = To words count rest₀ rest at span x
 
 abbrev μ-loop : tie.MeasureT-loop
-μ-loop words count rest₀ events at₀ x₀ rest at x = 2 * count - x
+μ-loop words count rest₀ events at₀ span₀ x₀ rest at span x = 2 * count - x
 
 mul-events : tie.Need-mul-events Inv-loop μ-loop
 mul-events c = search needs
 
 loop-holds : tie.Need-loop-holds Inv-loop μ-loop
 loop-holds c = search to-none
+
+span-at-requires : tie.Need-span-at-requires Inv-loop μ-loop
+span-at-requires c κs = search needs
 
 sub-write-orders-from : tie.Need-sub-write-orders-from Inv-loop μ-loop
 sub-write-orders-from c = search needs
@@ -27,7 +30,7 @@ part-write-orders-from-end : tie.Need-part-write-orders-from-end Inv-loop μ-loo
 part-write-orders-from-end c = search needs
 
 write-orders-from-requires : tie.Need-write-orders-from-requires Inv-loop μ-loop
-write-orders-from-requires c κs = (search needs, (search needs, search to-room))
+write-orders-from-requires c κs = (search needs, (search needs, (search needs, search to-room)))
 
 add-at : tie.Need-add-at Inv-loop μ-loop
 add-at c = search needs
@@ -55,6 +58,7 @@ write-orders-spec =
     μ-loop
     mul-events
     loop-holds
+    span-at-requires
     sub-write-orders-from
     part-write-orders-from-start
     part-write-orders-from-end

@@ -1,18 +1,24 @@
 -- `cured_sheet::write_orders_from` meets its contract. Assumes nothing.
-use borrow.Author.Needs.{needs}
 use Prim.Native.Nat.{_-_}
-use Rattle.cured_sheet.proofs.Rows.{From, from-none, from-room, from-more, from-all}
+use Rattle.cured_sheet.proofs.Rows.{From, from-first, from-nothing, from-room, from-more, from-all}
+use borrow.Author.Needs.{needs}
 use Rattle.cured_sheet.proofs.write_orders_from.Statement.{statement}
 use Rattle.cured_sheet.proofs.write_orders_from.Tie as tie
 
 abbrev Inv-loop : tie.InvT-loop
-Inv-loop words count x rest₀ at₀ e₀ rest at e = From words count x rest₀ rest at e
+Inv-loop words count x rest₀ at₀ e₀ e-end rest at e = From words count x rest₀ rest at e
 
 abbrev μ-loop : tie.MeasureT-loop
-μ-loop words count x rest₀ at₀ e₀ rest at e = count - e
+μ-loop words count x rest₀ at₀ e₀ e-end rest at e = e-end - e
+
+is-before-requires : tie.Need-is-before-requires Inv-loop μ-loop
+is-before-requires c κs = search needs
+
+returns : tie.Need-returns Inv-loop μ-loop
+returns c = search from-nothing
 
 loop-holds : tie.Need-loop-holds Inv-loop μ-loop
-loop-holds c = search from-none
+loop-holds c = search from-first
 
 sub-write-order : tie.Need-sub-write-order Inv-loop μ-loop
 sub-write-order c = search needs
@@ -41,8 +47,8 @@ loop-again c = search from-more
 same-length : tie.Need-same-length Inv-loop μ-loop
 same-length c = search needs
 
-returns : tie.Need-returns Inv-loop μ-loop
-returns c = search from-all
+returns-2 : tie.Need-returns-2 Inv-loop μ-loop
+returns-2 c = search from-all
 
 pub write-orders-from-spec : {M : Type 1} → statement M
 write-orders-from-spec =
@@ -50,6 +56,8 @@ write-orders-from-spec =
     (tie.spec
     Inv-loop
     μ-loop
+    is-before-requires
+    returns
     loop-holds
     sub-write-order
     part-write-order-start
@@ -60,4 +68,4 @@ write-orders-from-spec =
     loop-less
     loop-again
     same-length
-    returns)
+    returns-2)

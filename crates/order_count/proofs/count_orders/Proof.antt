@@ -1,30 +1,27 @@
--- `count_orders` meets its contract. Assumes nothing.
-use borrow.Author.Needs.{needs}
-use Prim.Native.Nat.{_*_, _-_}
+-- `order_count::count_orders` meets its contract. Assumes nothing.
+use Prim.Native.Nat.{_-_}
 use Rattle.order_count.proofs.Counting.{AllCounted, all-start, all-more, all-end}
+use borrow.Author.Needs.{needs}
 use Rattle.order_count.proofs.count_orders.Statement.{statement}
 use Rattle.order_count.proofs.count_orders.Tie as tie
 
 abbrev Inv-loop : tie.InvT-loop
-Inv-loop words count events found₀ x₀ found x = AllCounted words count x found
+Inv-loop words count found₀ e₀ found e = AllCounted words count e found
 
 abbrev μ-loop : tie.MeasureT-loop
-μ-loop words count events found₀ x₀ found x = 2 * count - x
-
-mul-events : tie.Need-mul-events Inv-loop μ-loop
-mul-events c = search needs
+μ-loop words count found₀ e₀ found e = count - e
 
 loop-holds : tie.Need-loop-holds Inv-loop μ-loop
 loop-holds c = search all-start
 
-count-from-requires : tie.Need-count-from-requires Inv-loop μ-loop
-count-from-requires c κs = search needs
+count-before-requires : tie.Need-count-before-requires Inv-loop μ-loop
+count-before-requires c κs = search needs
 
 add-found : tie.Need-add-found Inv-loop μ-loop
 add-found c = search needs
 
-add-x : tie.Need-add-x Inv-loop μ-loop
-add-x c = search needs
+add-e : tie.Need-add-e Inv-loop μ-loop
+add-e c = search needs
 
 loop-less : tie.Need-loop-less Inv-loop μ-loop
 loop-less c = search needs
@@ -41,11 +38,10 @@ count-orders-spec =
     (tie.spec
     Inv-loop
     μ-loop
-    mul-events
     loop-holds
-    count-from-requires
+    count-before-requires
     add-found
-    add-x
+    add-e
     loop-less
     loop-again
     returns)

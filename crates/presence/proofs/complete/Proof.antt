@@ -1,4 +1,4 @@
--- `complete` meets its contract. The loop's invariant: no call up to row `i` is stray. Assumes nothing.
+-- `complete` meets its contract. The loop's invariant: no call up to row `i` is to an absent sheet. Assumes nothing.
 use borrow.Author.Needs.{needs}
 use Prim.Native.Nat.{_-_}
 use Rattle.presence.proofs.Searching.{Searching, search-zero, search-begin, search-more, search-found, search-none}
@@ -20,8 +20,8 @@ returns c = search search-zero
 loop-holds : tie.Need-loop-holds Inv-loop μ-loop
 loop-holds c = search search-begin
 
-is-stray-requires : tie.Need-is-stray-requires Inv-loop μ-loop
-is-stray-requires c κs = search needs
+calls-absent-requires : tie.Need-calls-absent-requires Inv-loop μ-loop
+calls-absent-requires c κs = search needs
 
 add-t11 : tie.Need-add-t11 Inv-loop μ-loop
 add-t11 c = search needs
@@ -50,7 +50,7 @@ complete-spec =
     is-open-requires
     returns
     loop-holds
-    is-stray-requires
+    calls-absent-requires
     add-t11
     returns-2
     add-i

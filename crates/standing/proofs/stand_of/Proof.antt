@@ -10,8 +10,8 @@ is-finished-requires c κs = search needs
 returns : tie.Need-returns
 returns c = search stands-finished
 
-is-still-requires : tie.Need-is-still-requires
-is-still-requires c κs = search needs
+has-no-step-requires : tie.Need-has-no-step-requires
+has-no-step-requires c κs = search needs
 
 returns-2 : tie.Need-returns-2
 returns-2 c = search stands-stuck
@@ -21,4 +21,4 @@ returns-3 c = search stands-open
 
 pub stand-of-spec : {M : Type 1} → statement M
 stand-of-spec =
-    tie.close (tie.spec is-finished-requires returns is-still-requires returns-2 returns-3)
+    tie.close (tie.spec is-finished-requires returns has-no-step-requires returns-2 returns-3)

@@ -1,6 +1,5 @@
 -- `trace_answer::is_trace` meets its contract. Assumes nothing.
 use Rattle.trace_answer.proofs.Telling.{even-test, most-test}
-use borrow.Author.Needs.{needs}
 use Rattle.trace_answer.proofs.is_trace.Statement.{statement}
 use Rattle.trace_answer.proofs.is_trace.Tie as tie
 

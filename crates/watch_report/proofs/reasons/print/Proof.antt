@@ -1,5 +1,4 @@
 -- `reasons::print` is safe and ends. Assumes nothing.
-use native.Mathlib.Omega.{arith}
 use Rattle.scenario.proofs.Laws.{sheet-fits, boards-long}
 use borrow.Author.Needs.{needs}
 use Rattle.watch_report.proofs.reasons.print.Statement.{statement}

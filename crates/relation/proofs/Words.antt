@@ -75,7 +75,7 @@ pub shifted : (w b i : ℕ) → has w (b + i) ≡ has (w / 2 ^ b) i
 unfolding has
 shifted w b i = rw (shr-shr w b i)
 
-half : (n j : ℕ) → has n (suc j) ≡ has (n / 2) j
+pub half : (n j : ℕ) → has n (suc j) ≡ has (n / 2) j
 half n j =
     let one : suc j ≡ 1 + j = omega arith in
     rw one (shifted n 1 j)

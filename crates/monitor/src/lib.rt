@@ -62,11 +62,12 @@ fn forbidden(same: Monitor) -> MonitorAnswer
 fn taken(run: Run, code: u32) -> MonitorAnswer
     ensures { λ r. ⌜ answerIn r ≡ takenAs run code ⌝ }
 {
+    let next = Monitor { run, code };
     MonitorAnswer {
         word: 0,
         one: 0,
         two: 0,
-        next: Monitor { run, code },
+        next,
     }
 }
 

@@ -2,8 +2,8 @@
 use mathlib.Core.Path.{_≡_}
 use mathlib.Core.Bool.{false}
 use mathlib.Core.List.{List}
-use Prim.Native.Nat.{ℕ, _+_, _*_, _<_}
-use lib.ListN.{length, getD}
+use Prim.Native.Nat.{ℕ, _*_, _<_}
+use lib.ListN.{length}
 use Rattle.relation.specs.Width.{width, wordBits}
 use Rattle.relation.specs.Rows.{holds, marked, unmarked}
 use Rattle.joined_rows.specs.Joins.{copiedFrom}
@@ -13,11 +13,10 @@ use Rattle.step.specs.declared.Step.the-variants as step
 use Rattle.run.specs.declared.Run.{Run}
 use Rattle.run.specs.State.{inRow, bufferOf}
 
--- the rows are the run's buffers, a row a board
+-- the rows are what the run's buffers hold, a row a board, event by event
 pub record HeldIn (run : Run) (rows : List ℕ) : Type 0 where
   pub boards : length (run .buffers) ≡ boardsMost
-  pub long : (b : ℕ) → b < boardsMost → length (bufferOf run b .held) ≡ width
-  pub words : (b i : ℕ) → b < boardsMost → i < width → getD rows (b * width + i) 0 ≡ getD (bufferOf run b .held) i 0
+  pub same : (b k : ℕ) → b < boardsMost → k < wordBits * width → inRow (bufferOf run b .held) k ≡ holds width rows b k
 
 -- row b becomes the row held
 pub record LaysRow (rows : List ℕ) (b : ℕ) (held behind : List ℕ) : Type 0 where

@@ -30,7 +30,7 @@ use Rattle.step.specs.declared.StepOrNone.{StepOrNone}
 use Rattle.step.specs.declared.StepOrNone.the-variants as told
 use Rattle.step.specs.Steps.{stepIn, stepOrNone}
 use Rattle.run.specs.declared.Run.{Run}
-use Rattle.run.specs.State.{stateOf, runOf, OnlySends, zeroRun, Reaches}
+use Rattle.run.specs.State.{stateOf, runOf, OnlySends, startRun, Reaches}
 use Rattle.run.proofs.States.{reaches}
 use Rattle.run.proofs.Typed.{Typed}
 use Rattle.run.proofs.Written.{run-back}
@@ -66,7 +66,7 @@ module _ (text boards words : List ℕ) (v : Expanded) (p : SheetIn text boards 
       subst⁻¹ (λ (o : Out Scenario). Switches o m code r) (sheet-refused text boards words v p number line i) e
 
   module _ (count : ℕ) (i : v ≡ expanded.Messages count) where
-    pub begun : (code : ℕ) (run : Run) (r : Reply) → run ≡ zeroRun → r ≡ takenAs run code → Begins (sheetOf text) code r
+    pub begun : (code : ℕ) (run : Run) (r : Reply) → run ≡ startRun → r ≡ takenAs run code → Begins (sheetOf text) code r
     begun code run r z e = subst⁻¹ (λ (o : Out Scenario). Begins o code r) (sheet-is text boards words v p count i) (e ∙ ap (λ (q : Run). takenAs q code) z)
 
     pub stepped : (m : Monitor) (t : StepOrNone) (r : Reply) → Takes (scenarioIn count boards words) m (stepOrNone t) r

@@ -9,7 +9,7 @@ use Rattle.model.specs.Run as runs
 use Rattle.model.specs.Monitor as model
 use Rattle.model.specs.Monitor.{Held, takenWord, forbiddenWord, refusedWord, isBarred, mayTake, taking}
 use Rattle.run.specs.declared.Run.{Run}
-use Rattle.run.specs.State.{stateOf, runOf, OnlySends, zeroRun}
+use Rattle.run.specs.State.{stateOf, runOf, OnlySends, startRun}
 use Rattle.monitor.specs.declared.Monitor.{Monitor}
 use Rattle.monitor.specs.declared.MonitorAnswer.{MonitorAnswer}
 
@@ -22,7 +22,7 @@ monitorOf h = record { run = runOf (h .state); code = h .code }
 
 -- all zeros but for the code
 abbrev pub zeros : ℕ → Monitor
-zeros code = record { run = zeroRun; code = code }
+zeros code = record { run = startRun; code = code }
 
 abbrev pub answerIn : MonitorAnswer → model.MonitorAnswer Monitor
 answerIn r = record { word = r .word; one = r .one; two = r .two; next = r .next }
@@ -38,7 +38,7 @@ takenAs run code = record { word = takenWord; one = 0; two = 0; next = record { 
 
 -- all zeros with the code, or the sheet's refusal
 abbrev pub Begins : Out Scenario → ℕ → model.MonitorAnswer Monitor → Type 0
-Begins (ok S) code r = r ≡ takenAs zeroRun code
+Begins (ok S) code r = r ≡ takenAs startRun code
 Begins (refusal number line) code r = r ≡ refusedAs number line (zeros 0)
 
 -- the step told is taken or forbidden by the rules, or the sheet is refused

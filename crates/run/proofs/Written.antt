@@ -22,11 +22,11 @@ use Rattle.relation.proofs.Written.{row-from, row-back}
 use Rattle.board.specs.Boards.{boardsMost}
 use Rattle.run.specs.declared.Buffer.{Buffer}
 use Rattle.run.specs.declared.Run.{Run}
-use Rattle.run.specs.State.{inRow, bufferOf, stateOf, eventsRow, sendsRow, buffersFrom, runOf, OnlySends, zeroRun}
+use Rattle.run.specs.State.{inRow, bufferOf, stateOf, eventsRow, sendsRow, buffersFrom, runOf, OnlySends, startRun}
 use Rattle.run.proofs.Typed.{IsRow, Typed}
 
 -- the run of the start is all zeros
-pub start-zeros : runOf start ≡ zeroRun
+pub start-zeros : runOf start ≡ startRun
 unfolding rowFrom wordFrom buffersFrom
 start-zeros = refl
 

@@ -61,13 +61,13 @@ pub record OnlySends (run : Run) : Type 0 where
   pub way : (m : ℕ) → inRow (run .way) (2 * m + 1) ≡ false
   pub held : (b m : ℕ) → inRow (bufferOf run b .held) (2 * m + 1) ≡ false
 
--- all zeros
-abbrev pub zeroRun : Run
-zeroRun = record { done = replicate width 0; way = replicate width 0; buffers = replicate boardsMost (record { held = replicate width 0 }) }
+-- the start of every run: no word has a bit, a buffer for each board
+abbrev pub startRun : Run
+startRun = record { done = replicate width 0; way = replicate width 0; buffers = replicate boardsMost (record { held = replicate width 0 }) }
 
--- the start of every run, with a buffer for each board
+-- a run is at its start: these are its words, and its state is the paper's
 pub record Starts (run : Run) : Type 0 where
-  pub zeros : run ≡ zeroRun
+  pub words : run ≡ startRun
   pub state : stateOf run ≡ model.start
   pub boards : length (run .buffers) ≡ boardsMost
 

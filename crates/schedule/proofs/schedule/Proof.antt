@@ -1,6 +1,7 @@
 -- `schedule::schedule` meets its contract. The loop keeps `Goes`. Assumes nothing.
 use borrow.Author.Needs.{needs}
 use Prim.Native.Nat.{_-_}
+use native.Mathlib.Omega.{arith}
 use Rattle.schedule.proofs.Running.{Goes, goes-start, next-fits, step-few, step-reaches, goes-on, goes-stops, goes-ends}
 use Rattle.schedule.proofs.schedule.Statement.{statement}
 use Rattle.schedule.proofs.schedule.Tie as tie
@@ -77,7 +78,7 @@ rows-behind-requires c κs =
     let picked = to .before .before .before .before .before .before in
     let k = picked .before .before in
     let turn = k .before .before .before .before .before .before in
-    (to .target-of .ensures .below, step-few _ _ _ _ _ _ _ _ _ _ _ _ _ (turn .before .loop .inv) (k .choose .result) _ (k .choose .ensures) (picked .chosen .given .1))
+    (omega (arith, to .target-of .ensures .below), step-few _ _ _ _ _ _ _ _ _ _ _ _ _ (turn .before .loop .inv) (k .choose .result) _ (k .choose .ensures) (picked .chosen .given .1))
 
 held-behind-requires-2 : tie.Need-held-behind-requires-2 Inv-loop μ-loop
 held-behind-requires-2 c κs =

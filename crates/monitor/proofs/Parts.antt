@@ -35,7 +35,7 @@ use Rattle.run.proofs.States.{reaches}
 use Rattle.run.proofs.Typed.{Typed}
 use Rattle.run.proofs.Written.{run-back}
 use Rattle.next_state.specs.Behind.{NextRun}
-use Rattle.channel.proofs.StepTests.{allowed-inside}
+use Rattle.model.proofs.Rules.{allowed-inside}
 use Rattle.step_rules.specs.Steps.{Says}
 use Rattle.monitor.specs.declared.Monitor.{Monitor}
 use Rattle.monitor.specs.Bridge.{heldIn, monitorOf, zeros, refusedAs, forbiddenAs, takenAs, Begins, Takes, Steps, Switches}

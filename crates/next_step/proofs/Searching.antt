@@ -33,7 +33,7 @@ use Rattle.next_message.specs.Next.{nextIn}
 use Rattle.next_message.proofs.InRow.{next-absent}
 use Rattle.step_classes.proofs.EachClass.{step-is, message-is}
 use Rattle.channel.specs.Steps.{SaysIn}
-use Rattle.channel.proofs.StepTests.{allowed-inside}
+use Rattle.model.proofs.Rules.{allowed-inside}
 use Rattle.next_step.specs.Search.{classAt, OfRuns, fits, Fits, Lowest, ChosenIn}
 use Rattle.next_step.proofs.Skipped.{no-candidate}
 

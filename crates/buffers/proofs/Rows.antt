@@ -1,6 +1,6 @@
--- The buffers of a run in rows, a row a board: laid out row by row, changed step by step, and read. Assumes nothing.
-use mathlib.Core.Path.{_≡_, refl, sym, ap, _∙_, subst⁻¹}
-use mathlib.Core.Bool.{false, or-false, and-true}
+-- The buffers of a run in rows, a row a board: all laid out, one laid anew, and read. Assumes nothing.
+use mathlib.Core.Path.{_≡_, sym, ap, _∙_}
+use mathlib.Core.Bool.{false}
 use mathlib.Core.List.{List, []}
 use Prim.Native.Nat.{ℕ, _+_, _*_, _/_, _%_, _<_, _≤_}
 use native.Mathlib.Nat.{not-suc-le-zero}
@@ -8,25 +8,18 @@ use native.Mathlib.Decide.{ℕ-discrete, decLt}
 use native.Mathlib.Omega.{arith}
 use lib.ListN.{length, getD, set, replicate, length-set, List·getD-eq-default}
 use lib.Seq.{getD-set-same, getD-set-other}
-use borrow.Author.Tests.{eq-eqb, ne-eqb}
-use Rattle.model.specs.Limits.{messagesMost}
 use Rattle.model.proofs.Lists.{replicate-at}
 use Rattle.relation.specs.Width.{width, wordBits}
-use Rattle.relation.specs.Rows.{has, holds, marked, unmarked}
+use Rattle.relation.specs.Rows.{has, holds}
 use Rattle.relation.proofs.Bits.{has-zero}
-use Rattle.relation.proofs.Marked.{length-marked, length-unmarked, holds-marked, holds-unmarked}
 use Rattle.joined_rows.proofs.Joined.{copied-row, copied-other}
 use Rattle.run.specs.declared.Buffer.{Buffer}
 use Rattle.run.specs.declared.Run.{Run}
 use Rattle.board.specs.Boards.{boardsMost}
-use Rattle.step.specs.declared.Step.{Step}
-use Rattle.step.specs.declared.Step.the-variants.{Send, Deliver, Consume}
-use Rattle.step.specs.Steps.{messageIn}
 use Rattle.run.specs.State.{inRow, bufferOf, startRun}
 use Rattle.run.proofs.States.{starts, zero-buffers}
-use Rattle.next_state.specs.Behind.{HeldBehind}
 use Rattle.relation.proofs.Words.{alone-row}
-use Rattle.buffers.specs.Held.{HeldIn, LaysRow, RowsBehind}
+use Rattle.buffers.specs.Held.{HeldIn, LaysRow}
 
 -- What the loop over the buffers keeps: those passed are laid out.
 pub record Laid (run : Run) (rows : List ℕ) (b : ℕ) : Type 0 where
@@ -72,51 +65,18 @@ module _ (run : Run) (b : ℕ) (own : List ℕ) where
   pub buffer-kept : (a : ℕ) → (a ≡ b → ⊥) → changed a ≡ bufferOf run a
   buffer-kept a n = getD-set-other (run .buffers) b a (record { held = own }) (record { held = [] }) n
 
--- the run behind a step, with own as what the buffer of its receiver, board b, holds then: the rows behind the step are its buffers
-module _ (run : Run) (rows now own : List ℕ) (b : ℕ) (done way : List ℕ) (p : HeldIn run rows) (few : b < boardsMost) (long : length rows ≡ boardsMost * width) where
-  abbrev last : Run
-  last = record { done = done; way = way; buffers = set (run .buffers) b (record { held = own }) }
+-- and its row laid anew: the rows are those of the run with that buffer, whatever else changed
+pub set-laid : (run : Run) (rows now own : List ℕ) (b : ℕ) (done way : List ℕ) → HeldIn run rows → b < boardsMost → LaysRow rows b own now
+    → HeldIn (record { done = done; way = way; buffers = set (run .buffers) b (record { held = own }) }) now
+set-laid run rows now own b done way p few j =
+    record { boards = length-set (run .buffers) b _ ∙ p .boards; same = λ a k g l. go a k g l (ℕ-discrete a b) }
+  where
+    room : b * width + width ≤ length rows
+    room = omega (arith, j .room)
 
-  -- row b changed, and that board's buffer with it
-  row-laid : ((k : ℕ) → k < wordBits * width → inRow own k ≡ holds width now b k)
-      → ((a k : ℕ) → k < wordBits * width → (a ≡ b → ⊥) → holds width rows a k ≡ holds width now a k) → HeldIn last now
-  row-laid here there =
-      record { boards = length-set (run .buffers) b _ ∙ p .boards; same = λ a k g l. go a k g l (ℕ-discrete a b) }
-    where
-      go : (a k : ℕ) → a < boardsMost → k < wordBits * width → Dec (a ≡ b) → inRow (bufferOf last a .held) k ≡ holds width now a k
-      go a k g l (yes e) = rw (e, buffer-set run b own (omega (arith, p .boards))) (here k l)
-      go a k g l (no n) = rw (buffer-kept run b own a n) (p .same a k g l ∙ there a k l n)
-
-  room : b * width + width ≤ length rows
-  room = omega (arith, long)
-
-  pub step-laid : (s : Step) → RowsBehind rows b s now → HeldBehind (bufferOf run b .held) s own → messageIn s < messagesMost → HeldIn last now
-  step-laid (Send m) e o h = row-laid (λ k l. rw (o, e) (p .same b k few l)) (λ a k l n. rw e)
-  step-laid (Deliver m) e o h =
-      row-laid
-      (λ k l. o k ∙ rw (e, holds-marked width rows b (2 * m) b k room (omega arith) l, eq-eqb b b refl, p .same b k few l))
-      (λ a k l n. rw (e, holds-marked width rows b (2 * m) a k room (omega arith) l, ne-eqb a b n, or-false))
-  step-laid (Consume m) e o h =
-      row-laid
-      (λ k l. o k ∙ rw (e, holds-unmarked width rows b (2 * m) b k room (omega arith) l, eq-eqb b b refl, p .same b k few l))
-      (λ a k l n. rw (e, holds-unmarked width rows b (2 * m) a k room (omega arith) l, ne-eqb a b n, and-true))
-
--- and there are as many words as before
-pub rows-kept : (rows now : List ℕ) (b : ℕ) (s : Step) → RowsBehind rows b s now → length now ≡ length rows
-rows-kept rows now b (Send m) e = ap length e
-rows-kept rows now b (Deliver m) e = ap length e ∙ length-marked width rows b (2 * m)
-rows-kept rows now b (Consume m) e = ap length e ∙ length-unmarked width rows b (2 * m)
-
--- What each return of `rows_behind` is to show.
-module _ (s : Step) (n : ℕ) (rows : List ℕ) (b : ℕ) where
-  pub kept-sent : s ≡ Send n → RowsBehind rows b s rows
-  kept-sent i = subst⁻¹ (λ t. RowsBehind rows b t rows) i refl
-
-  pub marked-delivered : (m : ℕ) (now : List ℕ) → m ≡ messageIn s → s ≡ Deliver n → now ≡ marked width rows b (2 * m) → RowsBehind rows b s now
-  marked-delivered m now message i e = subst⁻¹ (λ t. RowsBehind rows b t now) i (e ∙ ap (λ (k : ℕ). marked width rows b (2 * k)) (message ∙ ap messageIn i))
-
-  pub unmarked-consumed : (m : ℕ) (now : List ℕ) → m ≡ messageIn s → s ≡ Consume n → now ≡ unmarked width rows b (2 * m) → RowsBehind rows b s now
-  unmarked-consumed m now message i e = subst⁻¹ (λ t. RowsBehind rows b t now) i (e ∙ ap (λ (k : ℕ). unmarked width rows b (2 * k)) (message ∙ ap messageIn i))
+    go : (a k : ℕ) → a < boardsMost → k < wordBits * width → Dec (a ≡ b) → inRow (changed run b own a .held) k ≡ holds width now a k
+    go a k g l (yes e) = rw (j .put, copied-row width rows b own 0 a k room l e, e, buffer-set run b own (omega (arith, p .boards)))
+    go a k g l (no n) = rw (j .put, copied-other width rows b own 0 a k room l n, buffer-kept run b own a n) (p .same a k g l)
 
 -- an event in none of the rows is in no buffer; beyond the last board there is none
 pub in-no-buffer : (run : Run) (rows : List ℕ) (k : ℕ) → HeldIn run rows → k < wordBits * width

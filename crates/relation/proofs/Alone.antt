@@ -30,14 +30,14 @@ module _ (W : ℕ) (row : List ℕ) (x : ℕ) (inside : x / wordBits < length ro
       and-both (eqb (k / wordBits) (x / wordBits)) (eqb (k % wordBits) (x % wordBits)) (eq-eqb _ _ (ap (λ (n : ℕ). n / wordBits) same))
       (eq-eqb _ _ (ap (λ (n : ℕ). n % wordBits) same)))
 
-  with-bit : (k : ℕ) → holds W (set row (x / wordBits) (bitOr (getD row (x / wordBits) 0) (2 ^ (x % wordBits)))) 0 k
+  pub with-bit : (k : ℕ) → holds W (set row (x / wordBits) (bitOr (getD row (x / wordBits) 0) (2 ^ (x % wordBits)))) 0 k
       ≡ (holds W row 0 k || eqb k x)
   with-bit k =
       alone-row W (set row (x / wordBits) (bitOr (getD row (x / wordBits) 0) (2 ^ (x % wordBits)))) k
       ∙ bit-set row (x / wordBits) (x % wordBits) inside (k / wordBits) (k % wordBits)
       ∙ rw (one-event k, alone-row W row k)
 
-  without-bit : (k : ℕ)
+  pub without-bit : (k : ℕ)
       → holds W (set row (x / wordBits) (bitAnd (getD row (x / wordBits) 0) (2 ^ wordBits - 1 - 2 ^ (x % wordBits)))) 0 k
       ≡ (holds W row 0 k && not (eqb k x))
   without-bit k =

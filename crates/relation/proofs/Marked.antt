@@ -1,7 +1,7 @@
--- What `marked` and `unmarked` mean: row y has event x besides, or has it no more, and no other row or event is touched. Neither changes how many words
--- there are. Assumes nothing.
+-- What `marked` means: row y has event x besides, and no other row or event is touched. Neither it nor `unmarked` changes how many words there are.
+-- Assumes nothing.
 use mathlib.Core.Path.{_≡_, ap, ap₂, _∙_}
-use mathlib.Core.Bool.{Bool, not, _&&_, _||_}
+use mathlib.Core.Bool.{Bool, _&&_, _||_}
 use mathlib.Core.List.{List}
 use Prim.Native.Nat.{ℕ, _+_, _-_, _*_, _%_, _^_, _<_, _≤_}
 use native.Mathlib.Omega.{arith}
@@ -14,7 +14,7 @@ use Rattle.relation.specs.Width.{wordBits}
 use Rattle.relation.specs.Rows.{has, holds, marked, unmarked, wordOf, bitOf}
 use Rattle.relation.proofs.Tests.{both-ways}
 use Rattle.relation.proofs.Bits.{mask-power}
-use Rattle.relation.proofs.OneBit.{bit-set, bit-cleared}
+use Rattle.relation.proofs.OneBit.{bit-set}
 use Rattle.relation.proofs.Place.{column-lt, place-row, place-event}
 
 pub length-marked : (W : ℕ) (l : List ℕ) (y x : ℕ) → length (marked W l y x) ≡ length l
@@ -51,10 +51,3 @@ unfolding holds marked
 holds-marked W l y x b a room hx ha =
     bit-set l (wordOf W y x) (bitOf x) (omega (arith, column-lt W x hx)) (wordOf W b a) (bitOf a)
     ∙ ap (λ (t : Bool). has (getD l (wordOf W b a) 0) (bitOf a) || t) (same-place W y x b a hx ha)
-
-pub holds-unmarked : (W : ℕ) (l : List ℕ) (y x b a : ℕ) → y * W + W ≤ length l → x < wordBits * W → a < wordBits * W
-    → holds W (unmarked W l y x) b a ≡ (holds W l b a && not (eqb b y && eqb a x))
-unfolding holds unmarked
-holds-unmarked W l y x b a room hx ha =
-    bit-cleared l (wordOf W y x) (bitOf x) (omega (arith, column-lt W x hx)) (omega arith) (wordOf W b a) (bitOf a) (omega arith)
-    ∙ ap (λ (t : Bool). has (getD l (wordOf W b a) 0) (bitOf a) && not t) (same-place W y x b a hx ha)

@@ -4,7 +4,7 @@ use mathlib.Core.List.{List, [], _∷_, _++_, append-assoc, append-nil}
 use mathlib.Core.Option.{Option, none, some}
 use Prim.Native.Nat.{ℕ, suc, _+_, _*_, _-_, _<_, _≤_}
 use native.Mathlib.Omega.{arith}
-use lib.ListN.{length, getD, drop, set, replicate, length-append, length-drop, length-set, length-replicate}
+use lib.ListN.{length, getD, drop, set, replicate, length-append, length-drop, length-set}
 use lib.Seq.{set-at, drop-drop, append-snoc}
 use mir.Val.{Fits}
 use mir.Syntax.{w64}
@@ -31,8 +31,8 @@ use Rattle.run.specs.State.{inRow, bufferOf, stateOf, startRun, Starts, Reaches
 use Rattle.run.proofs.States.{getD-inside, starts, zero-buffers, reaches}
 use Rattle.next_state.specs.Behind.{DoneBehind, WayBehind, HeldBehind, Follows}
 use Rattle.next_state.proofs.Behind.{next-follows, boards-kept}
-use Rattle.buffers.specs.Held.{HeldIn, RowsBehind, HeldAnywhere}
-use Rattle.buffers.proofs.Rows.{start-laid, step-laid, rows-kept}
+use Rattle.buffers.specs.Held.{HeldIn, LaysRow, HeldAnywhere}
+use Rattle.buffers.proofs.Rows.{start-laid, set-laid}
 use Rattle.next_step.specs.Search.{ChosenIn}
 use Rattle.next_step.proofs.Searching.{chosen-inside}
 use Rattle.schedule.specs.Schedule.{Scheduled}
@@ -154,7 +154,6 @@ module _ (count : ℕ) (boards words masks : List ℕ) (c : channel.Channel) (e 
     pub within : i ≤ end
     pub wide : length (run .buffers) ≡ boardsMost
     pub laid : HeldIn run rows
-    pub long : length rows ≡ boardsMost * width
     pub gathered : Gathered boards run held
     pub anywhere : HeldAnywhere rows held
     pub room : 2 * (3 * count) ≤ length now
@@ -171,7 +170,6 @@ module _ (count : ℕ) (boards words masks : List ℕ) (c : channel.Channel) (e 
         within = omega arith;
         wide = starts .boards;
         laid = start-laid;
-        long = length-replicate {A = ℕ} (boardsMost * width) 0;
         gathered = nothing;
         anywhere = gathered-anywhere boards startRun (replicate (boardsMost * width) 0) (replicate width 0) nothing start-laid;
         room = l;
@@ -206,15 +204,15 @@ module _ (count : ℕ) (boards words masks : List ℕ) (c : channel.Channel) (e 
 
       pub goes-on : (later : List ℕ) (b : ℕ) (other : Buffer) (done way own rows-now held-now : List ℕ)
           → later ≡ set (set now (2 * k) (kindOf (stepIn s))) (2 * k + 1) (messageIn s)
-          → TargetOf boards s b → DoneBehind (run .done) s done → WayBehind (run .way) s way → HeldBehind (getD (run .buffers) b other .held) s own
-          → RowsBehind rows b s rows-now → HeldBehind held s held-now → k < end
+          → TargetOf boards s b → DoneBehind (run .done) s done → WayBehind (run .way) s way → HeldBehind held s held-now
+          → HeldBehind (getD (run .buffers) b other .held) s own → LaysRow rows b own rows-now → k < end
           → Goes end later (record { done = done; way = way; buffers = set (run .buffers) b (record { held = own }) }) rows-now held-now (k + 1)
-      goes-on later b other done way own rows-now held-now w target p q h′ o g l =
+      goes-on later b other done way own rows-now held-now w target p q g h′ o l =
           let last : Run = record { done = done; way = way; buffers = set (run .buffers) b (record { held = own }) } in
           let inside : b < length (run .buffers) = omega (arith, target .below, G .wide) in
           let own-behind : HeldBehind (bufferOf run b .held) s own =
           subst (λ (u : Buffer). HeldBehind (u .held) s own) (getD-inside (run .buffers) b other (record { held = [] }) inside) h′ in
-          let laid : HeldIn last rows-now = step-laid run rows rows-now own b done way (G .laid) (target .below) (G .long) s o own-behind step-few in
+          let laid : HeldIn last rows-now = set-laid run rows rows-now own b done way (G .laid) (target .below) o in
           let v : Follows boards run (stepIn s) last = next-follows run s boards b other done way own p q h′ target (G .wide) in
           let R = running-goes-on S (channelIn c) e trace (stateOf run) k now (stepIn s) (G .running) taken (omega (arith, G .whole)) in
           let kept : length later ≡ length now = ap length w ∙ simp length-set in
@@ -225,7 +223,6 @@ module _ (count : ℕ) (boards words masks : List ℕ) (c : channel.Channel) (e 
             within = omega arith;
             wide = boards-kept run b (record { held = own }) (G .wide);
             laid = laid;
-            long = rows-kept rows rows-now b s o ∙ G .long;
             gathered = gathered;
             anywhere = gathered-anywhere boards last rows-now held-now gathered laid;
             room = omega (arith, G .room);

@@ -10,7 +10,7 @@ ghost use Rattle.board.specs.Masks.{Standing};
 ghost use Rattle.step.specs.Steps.{stepIn, messageIn};
 ghost use Rattle.schedule.specs.Schedule.{Scheduled};
 use buffers::HELD_WORDS;
-use buffers::rows_behind;
+use buffers::lay_row;
 use channel_table::Channel;
 use next_state::done_behind;
 use next_state::held_behind;
@@ -36,7 +36,8 @@ fn write_step(trace: &mut [u8], i: usize, step: Step)
 }
 
 // The schedule for e on a channel, written into the trace: the number of its steps. Three steps a message are always enough. The run is one
-// value, and each step changes it in place. Beside it stands what the search reads of its buffers: their rows, and what they hold together.
+// value, and each step changes it in place. Beside it stands what the search reads of its buffers: a row for each, laid from it, and what they hold
+// together.
 pub fn schedule(
     words: &[u64],
     masks: &[u64],
@@ -75,10 +76,10 @@ pub fn schedule(
         let mut buffer = run.buffers[target];
         done_behind(&mut run.done, step);
         way_behind(&mut run.way, step);
+        held_behind(&mut held, step);
         held_behind(&mut buffer.held, step);
         run.buffers[target] = buffer;
-        rows_behind(&mut rows, target, step);
-        held_behind(&mut held, step);
+        lay_row(&mut rows, target, buffer);
     }
     3 * count
 }

@@ -66,26 +66,21 @@ held-behind-requires c κs =
     let turn = k .before .before .before .before .before .before in
     step-few _ _ _ _ _ _ _ _ _ _ _ _ _ (turn .before .loop .inv) (k .choose .result) _ (k .choose .ensures) (picked .chosen .given .1)
 
-mul-t26 : tie.Need-mul-t26 Inv-loop μ-loop
-mul-t26 c = search needs
-
-element-set-from-run : tie.Need-element-set-from-run Inv-loop μ-loop
-element-set-from-run c = search needs
-
-rows-behind-requires : tie.Need-rows-behind-requires Inv-loop μ-loop
-rows-behind-requires c κs =
-    let to = c .before .before .before .before .before .before .before .before in
-    let picked = to .before .before .before .before .before .before in
-    let k = picked .before .before in
-    let turn = k .before .before .before .before .before .before in
-    (omega (arith, to .target-of .ensures .below), step-few _ _ _ _ _ _ _ _ _ _ _ _ _ (turn .before .loop .inv) (k .choose .result) _ (k .choose .ensures) (picked .chosen .given .1))
-
 held-behind-requires-2 : tie.Need-held-behind-requires-2 Inv-loop μ-loop
 held-behind-requires-2 c κs =
-    let picked = c .before .before .before .before .before .before .before .before .before .before .before .before .before .before .before .before in
+    let picked = c .before .before .before .before .before .before .before .before .before .before .before .before .before .before in
     let k = picked .before .before in
     let turn = k .before .before .before .before .before .before in
     step-few _ _ _ _ _ _ _ _ _ _ _ _ _ (turn .before .loop .inv) (k .choose .result) _ (k .choose .ensures) (picked .chosen .given .1)
+
+mul-lay-row : tie.Need-mul-lay-row Inv-loop μ-loop
+mul-lay-row c = search needs
+
+element-set-from-lay-row : tie.Need-element-set-from-lay-row Inv-loop μ-loop
+element-set-from-lay-row c = search needs
+
+lay-row-requires : tie.Need-lay-row-requires Inv-loop μ-loop
+lay-row-requires c κs = omega (arith, c .before .before .before .before .before .before .before .before .before .before .target-of .ensures .below)
 
 add-i : tie.Need-add-i Inv-loop μ-loop
 add-i c =
@@ -97,9 +92,9 @@ loop-less c = search needs
 
 loop-again : tie.Need-loop-again Inv-loop μ-loop
 loop-again c =
-    let rows = c .before .before in
-    let own = rows .before .before in
-    let way = own .before .before in
+    let own = c .before .before in
+    let held = own .before .before in
+    let way = held .before .before in
     let done = way .before .before in
     let to = done .before .before .before in
     let written = to .before .before .before in
@@ -107,7 +102,7 @@ loop-again c =
     let k = picked .before .before in
     let turn = k .before .before .before .before .before .before in
     goes-on _ _ _ _ _ _ _ _ _ _ _ _ _ (turn .before .loop .inv) (k .choose .result) _ (k .choose .ensures) (picked .chosen .given .1) _ _ _ _ _ _ _ _
-    (written .write-step .ensures) (to .target-of .ensures) (done .done-behind .ensures) (way .way-behind .ensures) (own .held-behind .ensures) (rows .rows-behind .ensures) (c .held-behind2 .ensures) (turn .loop-test .taken)
+    (written .write-step .ensures) (to .target-of .ensures) (done .done-behind .ensures) (way .way-behind .ensures) (held .held-behind .ensures) (own .held-behind2 .ensures) (c .lay-row .ensures) (turn .loop-test .taken)
 
 mul-result : tie.Need-mul-result Inv-loop μ-loop
 mul-result c = search needs
@@ -139,10 +134,10 @@ schedule-spec =
     done-behind-requires
     way-behind-requires
     held-behind-requires
-    mul-t26
-    element-set-from-run
-    rows-behind-requires
     held-behind-requires-2
+    mul-lay-row
+    element-set-from-lay-row
+    lay-row-requires
     add-i
     loop-less
     loop-again

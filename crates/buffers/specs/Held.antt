@@ -2,8 +2,8 @@
 use mathlib.Core.Path.{_≡_}
 use mathlib.Core.Bool.{false}
 use mathlib.Core.List.{List}
-use Prim.Native.Nat.{ℕ, _*_, _<_}
-use lib.ListN.{length}
+use Prim.Native.Nat.{ℕ, _+_, _*_, _<_}
+use lib.ListN.{length, getD}
 use Rattle.relation.specs.Width.{width, wordBits}
 use Rattle.relation.specs.Rows.{holds}
 use Rattle.joined_rows.specs.Joins.{copiedFrom}
@@ -11,10 +11,11 @@ use Rattle.board.specs.Boards.{boardsMost}
 use Rattle.run.specs.declared.Run.{Run}
 use Rattle.run.specs.State.{inRow, bufferOf}
 
--- the rows are what the run's buffers hold, a row a board, event by event
+-- the rows are the run's buffers, a row a board
 pub record HeldIn (run : Run) (rows : List ℕ) : Type 0 where
   pub boards : length (run .buffers) ≡ boardsMost
-  pub same : (b k : ℕ) → b < boardsMost → k < wordBits * width → inRow (bufferOf run b .held) k ≡ holds width rows b k
+  pub long : (b : ℕ) → b < boardsMost → length (bufferOf run b .held) ≡ width
+  pub words : (b i : ℕ) → b < boardsMost → i < width → getD rows (b * width + i) 0 ≡ getD (bufferOf run b .held) i 0
 
 -- row b becomes the row held
 pub record LaysRow (rows : List ℕ) (b : ℕ) (held behind : List ℕ) : Type 0 where

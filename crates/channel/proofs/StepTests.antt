@@ -14,6 +14,7 @@ use Rattle.run.specs.declared.Run.{Run}
 use Rattle.step.specs.declared.Step.{Step}
 use Rattle.step.specs.Steps.{stepIn, messageIn}
 use Rattle.run.specs.State.{inRow, stateOf, BoardAt}
+use Rattle.buffers.proofs.Rows.{row-holds}
 use Rattle.rules.specs.Rules.{BufferRow}
 use Rattle.step_rules.specs.Steps.{heldUp, Says, SaysRow}
 use Rattle.step_rules.proofs.StepKinds.{never}
@@ -26,7 +27,7 @@ module _ (count : ℕ) (on words : List ℕ) (c : Channel) (done way : List ℕ)
 
   pub by-rows : (r : Bool) (rows : List ℕ) (b : ℕ) → SaysRow count on words c done way rows b t r → BoardAt on t b → SaysIn count on words c done way rows t r
   by-rows r rows b says at run d w h =
-      says run d w (subst (λ (a : ℕ). BufferRow run a rows b) (at .place) (λ k l. h .same b k (at .below) l))
+      says run d w (subst (λ (a : ℕ). BufferRow run a rows b) (at .place) (λ k l. row-holds run rows b k h (at .below) l))
 
   module _ (masks : List ℕ) (standing : Standing count on words masks) (u : Bool) (up : u ≡ true) where
     pub never-with : (buffer : Buffer) → u ≡ heldUp (c .eager) masks (buffer .held) 0 t → SaysStep count on words c done way buffer t false

@@ -90,6 +90,17 @@ module _ (W : ℕ) (l : List ℕ) (to : ℕ) (other : List ℕ) (from b a : ℕ)
   unfolding copiedFrom
   copied-other = merged-other W theirs (λ own other. other) (λ u v k. refl) l to other from b a room ha
 
+-- the words of a row that is copied, and a word that is none of it
+pub copied-at : (W : ℕ) (l : List ℕ) (to : ℕ) (other : List ℕ) (from i : ℕ) → i < W → to * W + W ≤ length l
+    → getD (copiedFrom W l to other from) (to * W + i) 0 ≡ getD other (from * W + i) 0
+unfolding copiedFrom
+copied-at W l to other from i h room = merged-at theirs l (to * W) other (from * W) W i h room
+
+pub copied-outside : (W : ℕ) (l : List ℕ) (to : ℕ) (other : List ℕ) (from k : ℕ) → ((i : ℕ) → i < W → k ≡ to * W + i → ⊥)
+    → getD (copiedFrom W l to other from) k 0 ≡ getD l k 0
+unfolding copiedFrom
+copied-outside W l to other from k out = merged-outside theirs l (to * W) other (from * W) W k out
+
 pub length-joined : (W : ℕ) (l : List ℕ) (to from : ℕ) → length (joined W l to from) ≡ length l
 unfolding joined
 length-joined W l to from = length-joined-from W l to l from

@@ -17,7 +17,7 @@ use Rattle.run.specs.declared.Run.{Run}
 use Rattle.run.specs.State.{inRow, bufferOf, TargetOf}
 use Rattle.next_state.specs.Behind.{HeldBehind}
 use Rattle.buffers.specs.Held.{HeldIn, HeldAnywhere}
-use Rattle.buffers.proofs.Rows.{buffer-set, buffer-kept}
+use Rattle.buffers.proofs.Rows.{buffer-set, buffer-kept, row-holds}
 
 -- each event that a buffer holds is in the row, and the event behind it, its receive, is on that board
 pub record Gathered (on : List ℕ) (run : Run) (held : List ℕ) : Type 0 where
@@ -25,7 +25,7 @@ pub record Gathered (on : List ℕ) (run : Run) (held : List ℕ) : Type 0 where
   pub all : (a k : ℕ) → inRow (bufferOf run a .held) k ≡ true → inRow held k ≡ true
 
 pub gathered-anywhere : (on : List ℕ) (run : Run) (rows held : List ℕ) → Gathered on run held → HeldIn run rows → HeldAnywhere rows held
-gathered-anywhere on run rows held G p k h clear b l = sym (p .same b k l h) ∙ go (which (inRow (bufferOf run b .held) k))
+gathered-anywhere on run rows held G p k h clear b l = sym (row-holds run rows b k p l h) ∙ go (which (inRow (bufferOf run b .held) k))
   where
     go : (inRow (bufferOf run b .held) k ≡ true) ⊎ (inRow (bufferOf run b .held) k ≡ false) → inRow (bufferOf run b .held) k ≡ false
     go (inl t) = not-both (inRow held k) (G .all b k t) clear

@@ -324,8 +324,9 @@ typedef struct {
  *
  * Proved over every list of calls from dispatcher_empty, each taking the dispatcher that the last call left: the queue, the places, the numbers
  * and the answers are as said; a job not cancelled is answered within DISPATCHER_TURNS unrefused turns of its admission; and, while every call is
- * lent its words as the last call left them, its answer is exactly channel_check's for the sheet and the channel that it was admitted with: the
- * word, the three numbers and the bytes of the trace. Of any other dispatcher or words the refusals, what is unchanged and what is zero are proved.
+ * lent its words as the last call left them, calls refused with 1 or 2 not counted, its answer is exactly channel_check's for the sheet and the
+ * channel that it was admitted with: the word, the three numbers and the bytes of the trace. Of any other dispatcher or words the refusals, what
+ * is unchanged and what is zero are proved.
  */
 dispatcher dispatcher_empty(void);
 dispatcher_answer dispatcher_admit(dispatcher state, const uint8_t *sheets, size_t sheets_len, const uint32_t *lengths, size_t lengths_len,

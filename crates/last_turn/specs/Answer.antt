@@ -37,7 +37,7 @@ conclusion count on words code race =
     (model.locked (race .message) (race .event) (schedule (scenarioIn count on words) (channelOf code) (race .message)))
     model.free
 
--- its numbers, and the trace behind it
+-- its numbers, and the trace after it
 pub record Concludes (count : ℕ) (on words : List ℕ) (code : ℕ) (race : Race) (trace exit : List ℕ) (r : model.Numbers) : Type 0 where
   pub numbers : r ≡ numbersOf (conclusion count on words code race)
   pub traceLeft : exit ≡ traceAfter (conclusion count on words code race) trace

@@ -74,7 +74,7 @@ module _ (boards : List ℕ) (board from to : ℕ) where
           rw (le-ltb (x + b) to (omega arith), le-ltb (from + b) to (omega arith))
       go b (no k) = let same : x ≡ from = omega arith in rw same
 
--- ---- a word cut behind the last event
+-- ---- a word cut after the last event
 module _ (word w events : ℕ) where
   pub within-all : wordBits * w + wordBits ≤ events → Within word w events word
   within-all h = record { bits = λ b l. sym (rw (lt-ltb (eventAt w b) events (omega arith)) (and-true (has word b))) }

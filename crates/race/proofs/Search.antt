@@ -42,7 +42,7 @@ module _ (count : ℕ) (boards words : List ℕ) (r : RaceRule) (e from : ℕ) w
     not-here : (b : ℕ) → b < wordBits → wordBits * w + b < 2 * count → has word b ≡ false → racesAt (wordBits * w + b) ≡ false
     not-here b h k f = sym (R b h ∙ rw (lt-ltb (wordBits * w + b) (2 * count) k)) ∙ f
 
-    -- an event at or behind the word's first is one of its bits
+    -- an event at or after the word's first is one of its bits
     at-bit : (x : ℕ) → wordBits * w ≤ x → x < wordBits * w + wordBits → x < 2 * count → has word (x - wordBits * w) ≡ false → racesAt x ≡ false
     at-bit x g h k f =
         let at : wordBits * w + (x - wordBits * w) ≡ x = omega arith in

@@ -83,7 +83,7 @@ fn on_board(boards: &[u8], board: usize, from: usize, to: usize) -> u64
     on
 }
 
-// A word without the bits behind the last event.
+// A word without the bits of events after the last.
 fn within(word: u64, w: usize, events: usize) -> u64
     requires { ⌜ w < width ⌝ }
     ensures { λ r. ⌜ Within word w events r ⌝ }

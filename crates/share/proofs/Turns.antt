@@ -52,11 +52,11 @@ module _ (count : ℕ) (boards words : List ℕ) (code t : ℕ) (so-far : Race) 
   abbrev theShare : Option ℕ
   theShare = shareOf (scenarioIn count boards words) (raceRuleOf code) t
 
-  abbrev behind : Race
-  behind = lookedFrom count boards words code t so-far
+  abbrev after : Race
+  after = lookedFrom count boards words code t so-far
 
   -- a race found stays
-  stays : (so-far .found ≡ 0 → ⊥) → behind ≡ so-far
+  stays : (so-far .found ≡ 0 → ⊥) → after ≡ so-far
   unfolding lookedFrom
   stays n = rw (ne-eqb (so-far .found) 0 n)
 
@@ -82,11 +82,11 @@ module _ (count : ℕ) (boards words : List ℕ) (code t : ℕ) (so-far : Race) 
 
   -- a job's turn
   module _ (z : so-far .found ≡ 0) (few : count ≤ messagesMost) (known : code < channels) (l : t < 2 * count) where
-    nothing : theShare ≡ none → behind ≡ so-far
+    nothing : theShare ≡ none → after ≡ so-far
     unfolding lookedFrom canBeHeld
     nothing s = rw (eq-eqb (so-far .found) 0 z, le-leb count messagesMost few, lt-ltb code channels known, lt-ltb t (2 * count) l, s)
 
-    event-found : (x : ℕ) → theShare ≡ some x → behind ≡ record { found = 1; message = t / 2; event = x }
+    event-found : (x : ℕ) → theShare ≡ some x → after ≡ record { found = 1; message = t / 2; event = x }
     unfolding lookedFrom canBeHeld
     event-found x s = rw (eq-eqb (so-far .found) 0 z, le-leb count messagesMost few, lt-ltb code channels known, lt-ltb t (2 * count) l, s)
 
@@ -106,7 +106,7 @@ module _ (count : ℕ) (boards words : List ℕ) (code t : ℕ) (so-far : Race) 
       → raceIn r ≡ searched (scenarioIn count boards words) (raceRuleOf code) (suc t)
   looks-on r L few known l e = ap raceIn (L .exact) ∙ go (ℕ-discrete (so-far .found) 0) theShare refl
     where
-      go : Dec (so-far .found ≡ 0) → (o : Option ℕ) → theShare ≡ o → raceIn behind ≡ searched (scenarioIn count boards words) (raceRuleOf code) (suc t)
+      go : Dec (so-far .found ≡ 0) → (o : Option ℕ) → theShare ≡ o → raceIn after ≡ searched (scenarioIn count boards words) (raceRuleOf code) (suc t)
       go (no n) o s =
           let is : raceIn so-far ≡ some (so-far .message, so-far .event) = rw (ne-eqb (so-far .found) 0 n) in
           ap raceIn (stays n) ∙ is ∙ sym (searched-stays _ _ t (so-far .message, so-far .event) (sym e ∙ is))

@@ -49,7 +49,7 @@ raceIn race = cond (eqb (race .found) 0) none (some (race .message, race .event)
 unfoldable pub canBeHeld : ℕ → ℕ → ℕ → Bool
 canBeHeld count code t = leb count messagesMost && ltb code channels && ltb t (2 * count)
 
--- What stands in a place behind a turn, whatever stood there: a race found stays, and what no job can hold is left as it is.
+-- What stands in a place after a turn, whatever stood there: a race found stays, and what no job can hold is left as it is.
 unfoldable pub lookedFrom : ℕ → List ℕ → List ℕ → ℕ → ℕ → Race → Race
 lookedFrom count boards words code t earlier =
     cond (eqb (earlier .found) 0 && canBeHeld count code t)

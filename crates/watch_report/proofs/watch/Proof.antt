@@ -1,9 +1,9 @@
--- `follow_steps` is safe and ends. Assumes nothing.
+-- `watch` is safe and ends. Assumes nothing.
 use native.Mathlib.Omega.{arith}
 use lib.ListN.{length-take}
 use borrow.Author.Needs.{needs}
-use Rattle.watch_report.proofs.follow_steps.Statement.{statement}
-use Rattle.watch_report.proofs.follow_steps.Tie as tie
+use Rattle.watch_report.proofs.watch.Statement.{statement}
+use Rattle.watch_report.proofs.watch.Tie as tie
 
 slice-aggregate-arg : tie.Need-slice-aggregate-arg
 slice-aggregate-arg c = search needs
@@ -11,17 +11,14 @@ slice-aggregate-arg c = search needs
 arg-requires : tie.Need-arg-requires
 arg-requires c κs = search needs
 
-follow-requires : tie.Need-follow-requires
-follow-requires c κs = search needs
+watch-lines-requires : tie.Need-watch-lines-requires
+watch-lines-requires c κs = search needs
 
 returns : tie.Need-returns
 returns c = search needs
 
 slice-aggregate-read-file : tie.Need-slice-aggregate-read-file
 slice-aggregate-read-file c = search needs
-
-slice-aggregate-read-file-2 : tie.Need-slice-aggregate-read-file-2
-slice-aggregate-read-file-2 c = search needs
 
 read-file-requires : tie.Need-read-file-requires
 read-file-requires c κs = search needs
@@ -38,11 +35,11 @@ rem-end c = search needs
 array-share-prefix-trace : tie.Need-array-share-prefix-trace
 array-share-prefix-trace c = search needs
 
-slice-aggregate-follow-trace : tie.Need-slice-aggregate-follow-trace
-slice-aggregate-follow-trace c = simp length-take (omega arith)
+slice-aggregate-watch-trace : tie.Need-slice-aggregate-watch-trace
+slice-aggregate-watch-trace c = simp length-take (omega arith)
 
-follow-trace-requires : tie.Need-follow-trace-requires
-follow-trace-requires c κs = search needs
+watch-trace-requires : tie.Need-watch-trace-requires
+watch-trace-requires c κs = search needs
 
 enum-told : tie.Need-enum-told
 enum-told c = search needs
@@ -53,23 +50,22 @@ returns-2 c = search needs
 returns-3 : tie.Need-returns-3
 returns-3 c = search needs
 
-pub follow-steps-spec : {M : Type 1} → statement M
-follow-steps-spec =
+pub watch-spec : {M : Type 1} → statement M
+watch-spec =
     tie.close
     (tie.spec
     slice-aggregate-arg
     arg-requires
-    follow-requires
+    watch-lines-requires
     returns
     slice-aggregate-read-file
-    slice-aggregate-read-file-2
     read-file-requires
     enum-known-n
     add-end
     rem-end
     array-share-prefix-trace
-    slice-aggregate-follow-trace
-    follow-trace-requires
+    slice-aggregate-watch-trace
+    watch-trace-requires
     enum-told
     returns-2
     returns-3)

@@ -1,6 +1,7 @@
 // What several commands of the technician's program share: an event and a step that is not allowed in words, a refusal, the steps of an
 // answer, a number's digits, and bytes from a file.
-ghost use Prim.Native.Nat.{_*_, _≤_};
+ghost use mathlib.Core.Path.{_≡_};
+ghost use Prim.Native.Nat.{_*_, _/_, _≤_, min};
 ghost use lib.ListN.{length};
 use input::Input;
 
@@ -58,6 +59,7 @@ pub fn print_refusal(output: i32, number: u32, line: u32) {
 // As many steps as the trace has, at most.
 pub fn steps_in(trace: &[u8], steps: u32) -> usize
     ensures { λ r. ⌜ 2 * r ≤ length (now (trace .entry)) ⌝ }
+    ensures { λ r. ⌜ r ≡ min steps (length (now (trace .entry)) / 2) ⌝ }
 {
     let all = trace.len() / 2;
     let counted = steps as usize;

@@ -48,7 +48,7 @@ fn input_of(last: Part, at: usize) -> Input
 }
 
 // Reads to the end of the input, or as far as there is room.
-pub fn read(descriptor: i32, bytes: &mut [u8]) -> Input
+fn read(descriptor: i32, bytes: &mut [u8]) -> Input
     ensures { λ r. ⌜ Handed r (now (bytes .exit)) ⌝ }
 {
     let mut at = 0;

@@ -179,7 +179,8 @@ choice_check_answer choice_check(const uint8_t *text, size_t text_len, uint32_t 
 /* ------------------------------------------------------------------ a live monitor */
 
 /* The state of one run, a value that is handed in and handed back: the events done (event x is bit x % 64 of word x / 64), the messages under way,
- * as bits of their sends, each board's buffer in the same form, and the channel code in force. */
+ * as bits of their sends, each board's buffer in the same form, and the channel code in force. No other bit is set: not one of a receive under way or in
+ * a buffer, and none after the sheet's last message. */
 #define MONITOR_ROW_WORDS CHANNEL_CHECK_ROW_WORDS
 typedef struct {
     uint64_t held[MONITOR_ROW_WORDS];
@@ -205,14 +206,15 @@ typedef struct {
 
 /* Each call is lent the sheet's text and scratch again; both are as channel_check's, and so is the scratch at exit.
  *
- * monitor_open    a run at its start, on a channel.
+ * monitor_open    a run at its start, on a channel: all zeros but for the code.
  * monitor_step    a step by its code, `kind`, and message, under the channel in force.
  * monitor_switch  another channel; the state passes over whole. Refusal 14: to an eager one while some board holds two messages or more, or to the
  *                 token ring while two or more are under way.
  *
- * Proved over every list of steps and switches from an opened monitor, each call with that same text: the state held is that of the step
- * rules, each step under the code in force, and so are the answers; without a switch it is that of an allowed order, of which channel_check's
- * verdict speaks. Whether a run with a switch can lock is not claimed. Of any other monitor or text only the refusals and the scratch are.
+ * Proved over every list of steps and switches from an opened monitor, each call with that same text: the monitor handed back is that of the step
+ * rules, every bit of it, each step under the code in force, and so are the answers. Where no switch to another code was taken (refused ones do not count), the
+ * steps answered MONITOR_TAKEN, in their order, are an allowed order on that channel: trace_check says of them where the run stands, and channel_check's verdict
+ * speaks of it. Whether a run with such a switch can lock is not claimed. Of any other monitor or text only the refusals and the scratch are.
  */
 monitor_answer monitor_open(const uint8_t *text, size_t text_len, uint32_t code, uint64_t *scratch, size_t scratch_len);
 monitor_answer monitor_step(monitor state, uint32_t kind, uint32_t message, const uint8_t *text, size_t text_len, uint64_t *scratch,
@@ -324,8 +326,9 @@ typedef struct {
  *
  * Proved over every list of calls from dispatcher_empty, each taking the dispatcher that the last call left: the queue, the places, the numbers
  * and the answers are as said; a job not cancelled is answered within DISPATCHER_TURNS unrefused turns of its admission; and, while every call is
- * lent its words as the last call left them, its answer is exactly channel_check's for the sheet and the channel that it was admitted with: the
- * word, the three numbers and the bytes of the trace. Of any other dispatcher or words the refusals, what is unchanged and what is zero are proved.
+ * lent its words as the last call left them, calls refused with 1 or 2 not counted, its answer is exactly channel_check's for the sheet and the
+ * channel that it was admitted with: the word, the three numbers and the bytes of the trace. Of any other dispatcher or words the refusals, what
+ * is unchanged and what is zero are proved.
  */
 dispatcher dispatcher_empty(void);
 dispatcher_answer dispatcher_admit(dispatcher state, const uint8_t *sheets, size_t sheets_len, const uint32_t *lengths, size_t lengths_len,

@@ -78,13 +78,15 @@ extern "C" {
     ) -> Told;
 }
 
-/// What was seen: calls by word, refusals by number, jobs answered free and locked, calls with a held job's words changed, forged values.
+/// What was seen: calls by word, refusals by number, jobs answered free and locked, calls with a held job's words changed, calls refused with 2 that were
+/// lent any words, forged values.
 #[derive(Default)]
 pub struct Seen {
     words: [u64; 6],
     refused: [u64; 18],
     answered: [u64; 2],
     changed: u64,
+    other: u64,
     forged: u64,
 }
 
@@ -95,18 +97,19 @@ impl Seen {
         sums(&mut self.refused, &o.refused);
         sums(&mut self.answered, &o.answered);
         self.changed += o.changed;
+        self.other += o.other;
         self.forged += o.forged;
     }
 
     pub fn print(&self) {
         println!("dispatcher admitted, idle, taken, answered, cancelled, refused: {:?}, answered free, locked: {:?}", self.words, self.answered);
-        println!("dispatcher refused by number 1 to 17: {:?}, a held job's words changed {}, forged {}", &self.refused[1..], self.changed, self.forged);
+        println!("dispatcher refused by number 1 to 17: {:?}, a held job's words changed {}, any words lent to a refused call {}, forged {}", &self.refused[1..], self.changed, self.other, self.forged);
     }
 
     pub fn whole(&self) -> bool {
         let some = |all: &[u64]| all.iter().all(|n| *n > 0);
         let refusals = [1, 2, 3, 4, 5, 6, 16, 17].iter().all(|n| self.refused[*n] > 0);
-        some(&self.words) && some(&self.answered) && refusals && self.changed * self.forged > 0
+        some(&self.words) && some(&self.answered) && refusals && self.changed * self.other * self.forged > 0
     }
 }
 
@@ -118,7 +121,7 @@ struct Held {
     count: usize,
     turns: usize,
     answer: Answer,
-    /// its words as the last call left them, and whether every call was lent them so
+    /// its words as the last call left them, and whether every call that was not refused with 1 or 2 was lent them so
     words: Vec<u64>,
     kept: bool,
 }
@@ -267,7 +270,7 @@ impl Counter {
         self.judged(seen, answered, &told, &l, &trace);
         self.left(&told, &before, &l, &words);
         self.state = told.next;
-        if l.words.len() >= WORDS {
+        if told.word != 5 || told.one > 2 {
             self.last = l.words[..WORDS].to_vec();
         }
     }
@@ -395,12 +398,17 @@ pub fn try_dispatcher(r: &mut Random, seen: &mut Seen) {
     let mut c = Counter::new();
     for _ in 0..100 {
         let text = if r.one_in(2) { r.pick(&SHORT).to_vec() } else { texts::text(r) };
-        let l = lent(r, seen, &mut c, &text);
+        let mut l = lent(r, seen, &mut c, &text);
         let call = match r.below(12) {
             0..=3 => Call::Admit,
             4 => Call::Cancel(if r.one_in(3) { r.next() as u32 } else { c.queue.get(r.below(PLACES)).map_or(c.given, |j| j.number) }),
             _ => Call::Turn,
         };
+        let short = l.words.len() < WORDS || matches!(call, Call::Turn) && l.trace.len() < TRACE_LEAST;
+        if short && !c.queue.is_empty() {
+            l.words.iter_mut().for_each(|w| *w = r.next());
+            seen.other += 1;
+        }
         c.call(seen, call, l);
     }
     forge(r, seen);

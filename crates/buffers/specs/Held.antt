@@ -5,11 +5,9 @@ use mathlib.Core.List.{List}
 use Prim.Native.Nat.{ℕ, _+_, _*_, _<_}
 use lib.ListN.{length, getD}
 use Rattle.relation.specs.Width.{width, wordBits}
-use Rattle.relation.specs.Rows.{holds, marked, unmarked}
+use Rattle.relation.specs.Rows.{holds}
 use Rattle.joined_rows.specs.Joins.{copiedFrom}
 use Rattle.board.specs.Boards.{boardsMost}
-use Rattle.step.specs.declared.Step.{Step}
-use Rattle.step.specs.declared.Step.the-variants as step
 use Rattle.run.specs.declared.Run.{Run}
 use Rattle.run.specs.State.{inRow, bufferOf}
 
@@ -24,12 +22,6 @@ pub record LaysRow (rows : List ℕ) (b : ℕ) (held behind : List ℕ) : Type 0
   pub put : behind ≡ copiedFrom width rows b held 0
   pub long : length held ≡ width
   pub room : length rows ≡ boardsMost * width
-
--- the rows behind a step, whose receiver is board b: its row gains a message delivered, and loses one consumed
-abbrev pub RowsBehind : List ℕ → ℕ → Step → List ℕ → Type 0
-RowsBehind rows b (step.Send m) r = r ≡ rows
-RowsBehind rows b (step.Deliver m) r = r ≡ marked width rows b (2 * m)
-RowsBehind rows b (step.Consume m) r = r ≡ unmarked width rows b (2 * m)
 
 -- an event that is not in the row is in none of the buffers' rows
 abbrev pub HeldAnywhere : List ℕ → List ℕ → Type 0

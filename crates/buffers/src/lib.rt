@@ -1,19 +1,16 @@
 // The buffers of a run in rows of words, a row a board: what the search for a step reads without a copy of the run.
 ghost use Prim.Native.Nat.{_<_};
-ghost use Rattle.model.specs.Limits.{messagesMost};
 ghost use Rattle.board.specs.Boards.{boardsMost};
-ghost use Rattle.step.specs.Steps.{messageIn};
-ghost use Rattle.buffers.specs.Held.{HeldIn, LaysRow, RowsBehind};
+ghost use Rattle.buffers.specs.Held.{HeldIn, LaysRow};
 use relation::WIDTH;
 use run::Buffer;
 use run::Run;
-use step::Step;
 
 // The words of all buffers, a row a board.
 pub const HELD_WORDS: usize = model::BOARDS * WIDTH;
 
 // A board's row becomes its buffer's.
-fn lay_row(rows: &mut [u64; HELD_WORDS], board: usize, buffer: Buffer)
+pub fn lay_row(rows: &mut [u64; HELD_WORDS], board: usize, buffer: Buffer)
     requires { ⌜ board < boardsMost ⌝ }
     ensures { λ _. ⌜ LaysRow (now (rows .entry)) board (buffer .held) (now (rows .exit)) ⌝ }
 {
@@ -27,19 +24,5 @@ pub fn lay_rows(rows: &mut [u64; HELD_WORDS], run: Run)
     for board in 0..model::BOARDS {
         let buffer = run.buffers[board];
         lay_row(rows, board, buffer);
-    }
-}
-
-// The rows, as a step leaves them: that of the board it goes to gains a message delivered, and loses one consumed.
-pub fn rows_behind(rows: &mut [u64; HELD_WORDS], target: usize, step: Step)
-    requires { ⌜ target < boardsMost ⌝ }
-    requires { ⌜ messageIn step < messagesMost ⌝ }
-    ensures { λ _. ⌜ RowsBehind (now (rows .entry)) target step (now (rows .exit)) ⌝ }
-{
-    let send = 2 * step.message();
-    match step {
-        Step::Send(_) => {}
-        Step::Deliver(_) => relation::mark(rows, target, send),
-        Step::Consume(_) => relation::unmark(rows, target, send),
     }
 }

@@ -1,56 +1,42 @@
--- The candidates of a class: what the search may pass over. Assumes nothing.
+-- The candidates of a class, event by event. Assumes nothing.
 use mathlib.Core.Path.{_≡_}
-use mathlib.Core.Bool.{Bool, true, false, _&&_, _||_}
+use mathlib.Core.Bool.{Bool, not, _&&_, _||_}
 use mathlib.Core.List.{List}
-use Prim.Native.Nat.{ℕ, _+_, _*_, _<_}
+use Prim.Native.Nat.{ℕ, _+_, _*_, _%_, _<_}
 use lib.Dec.{eqb}
-use Rattle.model.specs.Limits.{messagesMost}
-use Rattle.model.specs.Run.{allowed}
+use lib.ListN.{getD}
 use Rattle.relation.specs.Width.{width, wordBits}
-use Rattle.relation.specs.Rows.{holds}
-use Rattle.relation.specs.Scenario.{scenarioIn}
-use Rattle.channel_table.specs.declared.Channel.{Channel}
-use Rattle.channel_table.specs.Table.{channelIn}
-use Rattle.run.specs.declared.Run.{Run}
-use Rattle.run.specs.State.{inRow, stateOf}
-use Rattle.buffers.specs.Held.{HeldIn, HeldAnywhere}
+use Rattle.relation.specs.Rows.{has, holds, wordOf, bitOf}
+use Rattle.run.specs.State.{inRow}
 use Rattle.step_classes.specs.declared.Class.{Class}
-use Rattle.step_classes.specs.Classes.{classIn}
+use Rattle.step_classes.specs.declared.Class.the-variants.{AnyConsume, DeliveryOf, NeededDelivery, NeededSend, AnyDelivery, AnySend}
 
--- message m is of the class, and its step is allowed
-abbrev pub fits : ℕ → List ℕ → List ℕ → Channel → Run → ℕ → Class → ℕ → Bool
-fits count boards words c run e class m =
-    (classIn (scenarioIn count boards words) e class) .takes m
-    && allowed (scenarioIn count boards words) (channelIn c) (stateOf run) ((classIn (scenarioIn count boards words) e class) .step m)
+-- a row has exactly the events that pass the test
+pub record Exactly (test : ℕ → Bool) (row : List ℕ) : Type 0 where
+  pub events : (k : ℕ) → k < wordBits * width → inRow row k ≡ test k
 
--- a send that is not in the row is done
-abbrev pub Unsent : List ℕ → List ℕ → Type 0
-Unsent done row = (m : ℕ) → m < messagesMost → inRow row (2 * m) ≡ false → inRow done (2 * m) ≡ true
+-- a send that is not done
+unfoldable pub isUnsent : List ℕ → ℕ → Bool
+isUnsent done k = not (inRow done k) && eqb (k % 2) 0
 
--- an event that is not in the row kept was not in the row, or is neither e's send nor before it
-abbrev pub Needed : List ℕ → ℕ → List ℕ → List ℕ → Type 0
-Needed words e row kept =
-    (k : ℕ) → k < wordBits * width → inRow kept k ≡ false → (inRow row k && (eqb k (2 * e) || holds width words (2 * e) k)) ≡ false
+-- an event of the row that is e's send or before it
+unfoldable pub isNeeded : List ℕ → ℕ → List ℕ → ℕ → Bool
+isNeeded words e row k = inRow row k && (eqb k (2 * e) || holds width words (2 * e) k)
 
--- a message that is not in the row is not under way, or its receive is not before e's send
-abbrev pub NeededDeliveries : List ℕ → ℕ → List ℕ → List ℕ → Type 0
-NeededDeliveries words e way row =
-    (m : ℕ) → m < messagesMost → inRow row (2 * m) ≡ false → (inRow way (2 * m) && holds width words (2 * e) (2 * m + 1)) ≡ false
+-- one under way whose next event, the bit after its own in the word, is before e's send: of a message, its receive
+unfoldable pub isNeededDelivery : List ℕ → ℕ → List ℕ → ℕ → Bool
+isNeededDelivery words e way k = inRow way k && has (getD words (wordOf width (2 * e) k) 0) (bitOf k + 1)
 
--- e is not under way if it is not in the row
-abbrev pub OwnDelivery : List ℕ → ℕ → List ℕ → Type 0
-OwnDelivery way e row = inRow row (2 * e) ≡ false → inRow way (2 * e) ≡ false
+-- e's send, where it is under way
+unfoldable pub isOwn : List ℕ → ℕ → ℕ → Bool
+isOwn way e k = inRow way k && eqb k (2 * e)
 
--- what holds of every run with these parts: what is done, what is under way, and the rows of the buffers
-abbrev pub OfRuns : List ℕ → List ℕ → List ℕ → (Run → Type 0) → Type 0
-OfRuns done way rows P = (run : Run) → run .done ≡ done → run .way ≡ way → HeldIn run rows → P run
-
--- a message that is not in the row has no allowed step of the class
-abbrev pub Candidates : List ℕ → List ℕ → List ℕ → List ℕ → ℕ → Class → List ℕ → Type 0
-Candidates words done way rows e class row =
-    (m : ℕ) → m < messagesMost → inRow row (2 * m) ≡ false
-    → OfRuns done way rows (λ run. (count : ℕ) (boards : List ℕ) (c : Channel) → fits count boards words c run e class m ≡ false)
-
--- so in every run of whose buffers these are all the messages held
-abbrev pub CandidatesIn : List ℕ → List ℕ → List ℕ → List ℕ → ℕ → Class → List ℕ → Type 0
-CandidatesIn words done way held e class row = (rows : List ℕ) → HeldAnywhere rows held → Candidates words done way rows e class row
+-- Event k is a candidate of the class, in the schedule for e. A message is the bit of its send, 2 m. The receives' bits are said as well: of a consume or
+-- a delivery they are at most those of the row held or of that under way, which has none in a run, and of a send none.
+abbrev pub isCandidate : List ℕ → List ℕ → List ℕ → List ℕ → ℕ → Class → ℕ → Bool
+isCandidate words done way held e AnyConsume k = inRow held k
+isCandidate words done way held e DeliveryOf k = isOwn way e k
+isCandidate words done way held e NeededDelivery k = isNeededDelivery words e way k
+isCandidate words done way held e NeededSend k = isUnsent done k && (eqb k (2 * e) || holds width words (2 * e) k)
+isCandidate words done way held e AnyDelivery k = inRow way k
+isCandidate words done way held e AnySend k = isUnsent done k

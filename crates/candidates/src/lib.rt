@@ -3,14 +3,14 @@ ghost use Prim.Native.Nat.{_+_, _*_, _<_, _≤_};
 ghost use lib.ListN.{length};
 ghost use Rattle.model.specs.Limits.{messagesMost};
 ghost use Rattle.relation.specs.Width.{width};
-ghost use Rattle.candidates.specs.Candidates.{Unsent, Needed, NeededDeliveries, OwnDelivery, CandidatesIn};
+ghost use Rattle.candidates.specs.Candidates.{Exactly, isUnsent, isNeeded, isNeededDelivery, isOwn, isCandidate};
 use relation::SENDS;
 use relation::WIDTH;
 use step_classes::Class;
 
 // The sends that are not done.
 fn unsent(done: [u64; WIDTH]) -> [u64; WIDTH]
-    ensures { λ r. ⌜ Unsent done r ⌝ }
+    ensures { λ r. ⌜ Exactly (isUnsent done) r ⌝ }
 {
     let mut rest = done;
     for i in 0..WIDTH {
@@ -22,7 +22,7 @@ fn unsent(done: [u64; WIDTH]) -> [u64; WIDTH]
 // The events of a row that are e's send or before it.
 fn needed(words: &[u64], e: usize, row: [u64; WIDTH]) -> [u64; WIDTH]
     requires { ⌜ (e < messagesMost) × (2 * e * width + width ≤ length (now words)) ⌝ }
-    ensures { λ r. ⌜ Needed (now (words .entry)) e row r ⌝ }
+    ensures { λ r. ⌜ Exactly (isNeeded (now (words .entry)) e row) r ⌝ }
 {
     let send = 2 * e;
     let from = send * WIDTH;
@@ -40,7 +40,7 @@ fn needed(words: &[u64], e: usize, row: [u64; WIDTH]) -> [u64; WIDTH]
 // Of the messages under way, those whose receive is before e's send.
 fn needed_deliveries(words: &[u64], e: usize, way: [u64; WIDTH]) -> [u64; WIDTH]
     requires { ⌜ (e < messagesMost) × (2 * e * width + width ≤ length (now words)) ⌝ }
-    ensures { λ r. ⌜ NeededDeliveries (now (words .entry)) e way r ⌝ }
+    ensures { λ r. ⌜ Exactly (isNeededDelivery (now (words .entry)) e way) r ⌝ }
 {
     let from = 2 * e * WIDTH;
     let mut kept = way;
@@ -54,7 +54,7 @@ fn needed_deliveries(words: &[u64], e: usize, way: [u64; WIDTH]) -> [u64; WIDTH]
 // Message e, if it is under way.
 fn own_delivery(way: &[u64; WIDTH], e: usize) -> [u64; WIDTH]
     requires { ⌜ e < messagesMost ⌝ }
-    ensures { λ r. ⌜ OwnDelivery (now (way .entry)) e r ⌝ }
+    ensures { λ r. ⌜ Exactly (isOwn (now (way .entry)) e) r ⌝ }
 {
     let send = 2 * e;
     let mut own = [0u64; WIDTH];
@@ -64,8 +64,7 @@ fn own_delivery(way: &[u64; WIDTH], e: usize) -> [u64; WIDTH]
     own
 }
 
-// The messages whose step of the class can be allowed at all, as bits of their sends: in a buffer, under way, or not yet sent. What is held are
-// those that some buffer has, or more.
+// The messages whose step of the class can be allowed at all, as bits of their sends: in a buffer, under way, or not yet sent.
 pub fn candidates<'a>(
     words: &[u64],
     done: &'a [u64; WIDTH],
@@ -75,7 +74,7 @@ pub fn candidates<'a>(
     class: Class,
 ) -> [u64; WIDTH]
     requires { ⌜ (e < messagesMost) × (2 * e * width + width ≤ length (now words)) ⌝ }
-    ensures { λ r. ⌜ CandidatesIn (now (words .entry)) (now (done .entry)) (now (way .entry)) (now (held .entry)) e class r ⌝ }
+    ensures { λ r. ⌜ Exactly (isCandidate (now (words .entry)) (now (done .entry)) (now (way .entry)) (now (held .entry)) e class) r ⌝ }
 {
     match class {
         Class::AnyConsume => *held,

@@ -3,15 +3,8 @@ use mathlib.Core.Path.{_≡_, sym, _∙_, ap, subst}
 use mathlib.Core.Bool.{Bool, true, false}
 use mathlib.Core.List.{List}
 use Prim.Native.Nat.{ℕ, _<_, _≤_}
-use native.Mathlib.Decide.{decLt}
 use native.Mathlib.Omega.{arith}
-use borrow.Author.Tests.{le-ltb}
-use Rattle.model.specs.Order.{Scenario}
-use Rattle.model.specs.Channel as model
-use Rattle.model.specs.Run as model-run
-use Rattle.model.specs.Run.{State, send, deliver, consume, allowed}
-use Rattle.model.specs.Schedule.{messageOfStep}
-use Rattle.model.proofs.Bounded.{not-both}
+use Rattle.model.proofs.Rules.{unknown-step}
 use Rattle.relation.specs.Scenario.{scenarioIn}
 use Rattle.channel_table.specs.declared.Channel.{Channel}
 use Rattle.channel_table.specs.Table.{channelIn}
@@ -46,21 +39,6 @@ module _ (count : ℕ) (on words : List ℕ) (c : Channel) (done way : List ℕ)
 -- its message, as it is read
 pub known : (step : Step) (m count : ℕ) → m ≡ messageIn step → m < count → messageIn step < count
 known step m count e h = omega arith
-
--- no step on a message that the scenario has not is allowed
-pub unknown-step : (S : Scenario) (c : model.Channel) (s : State) (t : model-run.Step) → S .count ≤ messageOfStep t → false ≡ allowed S c s t
-unfolding allowed
-unknown-step S c s (send m) h = rw (le-ltb m (S .count) h)
-unknown-step S c s (deliver m) h = rw (le-ltb m (S .count) h)
-unknown-step S c s (consume m) h = rw (le-ltb m (S .count) h)
-
--- so a step that is allowed is on a message of the scenario
-pub allowed-inside : (S : Scenario) (c : model.Channel) (s : State) (t : model-run.Step) → allowed S c s t ≡ true → messageOfStep t < S .count
-allowed-inside S c s t a = go (decLt (messageOfStep t) (S .count))
-  where
-    go : Dec (messageOfStep t < S .count) → messageOfStep t < S .count
-    go (yes l) = l
-    go (no g) = not-both (allowed S c s t) a (sym (unknown-step S c s t (omega arith)))
 
 pub unknown : (count : ℕ) (on words : List ℕ) (c : Channel) (run : Run) (step : Step) (m : ℕ) → m ≡ messageIn step → count ≤ m
     → Says count on words c run step false

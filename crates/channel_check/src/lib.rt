@@ -14,7 +14,7 @@ ghost use Rattle.model.specs.Taps.{TapsChecked};
 ghost use Rattle.choice_answer.specs.Bridge as chosen;
 ghost use Rattle.dispatcher.specs.Bridge as bridge;
 ghost use Rattle.dispatcher.specs.Bridge.{dispatcherIn, Holds, emptied, lent};
-ghost use Rattle.monitor.specs.Bridge.{heldIn, zeros, answerIn};
+ghost use Rattle.monitor.specs.Bridge.{heldIn, monitorOf, zeros, answerIn};
 ghost use Rattle.trace_answer.specs.Numbers as replayed;
 ghost use Rattle.answers.specs.Numbers.{numbersIn};
 ghost use Rattle.answers.specs.Cures as cured;
@@ -74,7 +74,7 @@ pub extern "C" fn choice_check(
 // A monitor of a run is opened: any text, any channel code, any length.
 #[no_mangle]
 pub extern "C" fn monitor_open(text: &[u8], code: u32, scratch: &mut [u64]) -> MonitorAnswer
-    ensures { λ r. ⌜ Opened heldIn zeros (now (text .entry)) code (now (scratch .entry)) (now (scratch .exit)) (answerIn r) × WholeLists heldIn zeros ⌝ }
+    ensures { λ r. ⌜ Opened heldIn monitorOf zeros (now (text .entry)) code (now (scratch .entry)) (now (scratch .exit)) (answerIn r) × WholeLists heldIn monitorOf zeros ⌝ }
 {
     Monitor::open(text, code, scratch)
 }
@@ -88,7 +88,7 @@ pub extern "C" fn monitor_step(
     text: &[u8],
     scratch: &mut [u64],
 ) -> MonitorAnswer
-    ensures { λ r. ⌜ Stepped heldIn state kind message (now (text .entry)) (now (scratch .entry)) (now (scratch .exit)) (answerIn r) × WholeLists heldIn zeros ⌝ }
+    ensures { λ r. ⌜ Stepped heldIn monitorOf zeros state kind message (now (text .entry)) (now (scratch .entry)) (now (scratch .exit)) (answerIn r) × WholeLists heldIn monitorOf zeros ⌝ }
 {
     state.step(kind, message, text, scratch)
 }
@@ -101,7 +101,7 @@ pub extern "C" fn monitor_switch(
     text: &[u8],
     scratch: &mut [u64],
 ) -> MonitorAnswer
-    ensures { λ r. ⌜ Switched heldIn state code (now (text .entry)) (now (scratch .entry)) (now (scratch .exit)) (answerIn r) × WholeLists heldIn zeros ⌝ }
+    ensures { λ r. ⌜ Switched heldIn monitorOf zeros state code (now (text .entry)) (now (scratch .entry)) (now (scratch .exit)) (answerIn r) × WholeLists heldIn monitorOf zeros ⌝ }
 {
     state.switch(code, text, scratch)
 }

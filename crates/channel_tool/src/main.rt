@@ -5,7 +5,7 @@ use arguments::ChannelCommand;
 use arguments::Code;
 use arguments::Command;
 use commands::INPUT_MOST;
-use libc::STDIN_FILENO;
+use input::Input;
 
 // A command on a sheet and a channel.
 fn answer_on_channel(command: ChannelCommand, text: &[u8], code: u32) {
@@ -32,8 +32,9 @@ fn answer_on(command: ChannelCommand, code: u32) {
         | ChannelCommand::Permitted
         | ChannelCommand::Chart => {
             let mut text = [0u8; INPUT_MOST];
-            let n = io::read_full(STDIN_FILENO, &mut text);
-            answer_on_channel(command, &text[..n], code);
+            if let Input::Read(n) = input::read_standard(&mut text) {
+                answer_on_channel(command, &text[..n], code);
+            }
         }
     }
 }
@@ -47,15 +48,19 @@ fn answer_with_code(word: &[u8]) {
 }
 
 // A command on a sheet alone.
-fn answer_sheet(command: Command) {
-    let mut text = [0u8; INPUT_MOST];
-    let n = io::read_full(STDIN_FILENO, &mut text);
-    let sheet = &text[..n];
+fn answer_on_sheet(command: Command, sheet: &[u8]) {
     match command {
-        Command::Check => channel_report::print_channels(sheet),
+        Command::Check => printing::conclude(channel_report::print_channels(sheet)),
         Command::Cure => cures::write(sheet),
         Command::Taps => tap_report::print_taps(sheet),
         Command::Counter | Command::Senders | Command::Other => {}
+    }
+}
+
+fn answer_sheet(command: Command) {
+    let mut text = [0u8; INPUT_MOST];
+    if let Input::Read(n) = input::read_standard(&mut text) {
+        answer_on_sheet(command, &text[..n]);
     }
 }
 

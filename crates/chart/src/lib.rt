@@ -324,7 +324,7 @@ pub fn write(text: &[u8], code: u32) {
         return;
     }
     let mut trace = [0u8; commands::TRACE_MOST];
-    if let File::Read(n) = commands::read_file(3, b"the trace's", &mut trace) {
+    if let File::Read(n) = commands::read_file(3, &mut trace) {
         let end = n % (commands::TRACE_MOST + 1);
         draw_trace(text, code, &trace[..end]);
     }

@@ -10,7 +10,7 @@ pub enum Verdict {
     NotAllowed(u8, u8),
 }
 
-fn print_verdict(verdict: Verdict) {
+fn print_verdict(verdict: Verdict) -> bool {
     match verdict {
         Verdict::Free => printing::print(b"free"),
         Verdict::Locked(_, _) => printing::print(b"locked"),

@@ -45,7 +45,7 @@ fn judge(text: &[u8], code: usize, words: &mut [u64], trace: &mut [u8]) -> Choic
 }
 
 // The call: refusals 1 and 2 touch nothing; behind every other answer the scratch is cleared.
-pub fn check(text: &[u8], code: u32, scratch: &mut [u64], trace: &mut [u8]) -> Choice
+fn check(text: &[u8], code: u32, scratch: &mut [u64], trace: &mut [u8]) -> Choice
     ensures { λ r. ⌜ ChoiceChecked (now (text .entry)) code (now (scratch .entry)) (now (scratch .exit)) (now (trace .entry)) (now (trace .exit)) (numbersFor r) ⌝ }
 {
     let channel = code as usize;

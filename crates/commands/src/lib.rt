@@ -1,8 +1,9 @@
 // What several commands of the technician's program share: an event and a step that is not allowed in words, a refusal, the steps of an
 // answer, a number's digits, and bytes from a file.
-ghost use Prim.Native.Nat.{_*_, _≤_};
+ghost use mathlib.Core.Path.{_≡_};
+ghost use Prim.Native.Nat.{_*_, _/_, _≤_, min};
 ghost use lib.ListN.{length};
-use libc::STDERR_FILENO;
+use input::Input;
 
 // One byte more than a text may have: a longer input is then seen to be too long.
 pub const INPUT_MOST: usize = model::TEXT_MOST + 1;
@@ -13,7 +14,7 @@ pub const TRACE_MOST: usize = model::TRACE_LEAST + 1;
 // Room for a file's name.
 pub const NAME_MOST: usize = 4096;
 
-// So many bytes of a file, or none that could be opened.
+// So many bytes of a file, or one that could not be read to its end.
 pub enum File {
     Read(usize),
     Missing,
@@ -58,6 +59,7 @@ pub fn print_refusal(output: i32, number: u32, line: u32) {
 // As many steps as the trace has, at most.
 pub fn steps_in(trace: &[u8], steps: u32) -> usize
     ensures { λ r. ⌜ 2 * r ≤ length (now (trace .entry)) ⌝ }
+    ensures { λ r. ⌜ r ≡ min steps (length (now (trace .entry)) / 2) ⌝ }
 {
     let all = trace.len() / 2;
     let counted = steps as usize;
@@ -70,17 +72,12 @@ pub fn grown(value: u16, digit: u8) -> u16 {
     if next < 65535 { next as u16 } else { 65535 }
 }
 
-// The bytes of the file that argument i names. `whose` says in the message on standard error which file cannot be opened.
-pub fn read_file(i: usize, whose: &[u8], bytes: &mut [u8]) -> File {
+// The bytes of the file that argument i names. Where it cannot be read to its end, a line on standard error says so.
+pub fn read_file(i: usize, bytes: &mut [u8]) -> File {
     let mut name = [0u8; NAME_MOST];
     let length = os::arg(i, &mut name);
-    let file = os::open_read(&name[..length]);
-    if file < 0 {
-        io::write_all(STDERR_FILENO, whose);
-        io::write_all(STDERR_FILENO, b" file cannot be opened\n");
-        return File::Missing;
+    match input::read_file(&name[..length], bytes) {
+        Input::Read(n) => File::Read(n),
+        Input::Failed => File::Missing,
     }
-    let n = io::read_full(file, bytes);
-    libc::close(file);
-    File::Read(n)
 }

@@ -1,20 +1,34 @@
 // The sheets that `counter` admits, each read from its file into the place that its admission takes.
 use dispatcher::Dispatcher;
-use libc::STDERR_FILENO;
+use input::Input;
 use model::JOBS_MOST;
 use model::TEXT_MOST;
 
-// Reads the sheet's file into its place. Of one that is too long a byte more is counted: the dispatcher then refuses it.
-fn read_sheet(file: i32, slot: &mut [u8]) -> u32 {
+// So many bytes of a sheet, or a file that could not be read to its end.
+enum Sheet {
+    Bytes(u32),
+    Unread,
+}
+
+// What is behind the bytes of a place is counted as one byte: the dispatcher then refuses the sheet as too long.
+fn with_more(file: i32, name: &[u8], n: usize) -> Sheet {
     let mut more = [0u8; 1];
-    let n = io::read_full(file, slot);
-    let behind = io::read_full(file, &mut more);
-    libc::close(file);
-    (n % (TEXT_MOST + 1) + behind % 2) as u32
+    match input::read_told(file, name, &mut more) {
+        Input::Read(behind) => Sheet::Bytes((n % (TEXT_MOST + 1) + behind % 2) as u32),
+        Input::Failed => Sheet::Unread,
+    }
+}
+
+// Reads the sheet's file into its place.
+fn read_sheet(file: i32, name: &[u8], slot: &mut [u8]) -> Sheet {
+    match input::read_told(file, name, slot) {
+        Input::Read(n) => with_more(file, name, n),
+        Input::Failed => Sheet::Unread,
+    }
 }
 
 // The file is read into the place that its admission takes: while no job has left, the one behind those held. With no place free it is not
-// read, since there is no sheet to judge then. False where it cannot be opened.
+// read, since there is no sheet to judge then. False where it cannot be read.
 pub fn lend(
     state: Dispatcher,
     name: &[u8],
@@ -32,10 +46,15 @@ pub fn lend(
     }
     let file = os::open_read(name);
     if file < 0 {
-        io::write_all(STDERR_FILENO, b"a sheet's file cannot be opened\n");
+        os::fail(name);
         return false;
     }
-    lengths[place] = read_sheet(file, &mut sheets[from..to]);
+    let sheet = read_sheet(file, name, &mut sheets[from..to]);
+    libc::close(file);
+    let Sheet::Bytes(n) = sheet else {
+        return false;
+    };
+    lengths[place] = n;
     codes[place] = code;
     true
 }

@@ -24,10 +24,11 @@ use Rattle.queue.specs.declared.Queue.{Queue}
 use Rattle.queue.specs.Bridge.{jobIn, queueIn, headOf}
 use Rattle.share.specs.declared.Race.{Race}
 use Rattle.share.specs.Search.{raceIn, searched, Looks}
-use Rattle.share.proofs.Turns.{searched-all}
+use Rattle.share.proofs.Turns.{looks-on, searched-all}
 use Rattle.places.specs.Words.{FreeCleared}
 use Rattle.places.proofs.Parts.{from, to, part-is}
 use Rattle.last_turn.specs.Answer.{Concludes}
+use Rattle.last_turn.proofs.Answers.{concludes-word, concludes-kept, concludes-locked, concludes-check}
 use Rattle.held_jobs.specs.Held.{Held, dispatcherOf, boardsAt, raceAt, HoldsIn, HoldsJob}
 use Rattle.held_jobs.proofs.Members.{member-last, one-job, place-below, place-apart, place-held}
 use Rattle.held_jobs.proofs.Cases.{Case, turn-taken, turn-answered}
@@ -111,7 +112,7 @@ module _ (d : Held) (job : Job) (words : List ℕ) (head : headOf (queueIn (d .q
           isScenario = I .isScenario;
           isChannel = I .isChannel;
           turnsMost = omega arith;
-          found = looks .on (I .fit .few) (I .isChannel) (omega arith) (I .found);
+          found = looks-on (job .count) on part (job .code) (job .turns) race found looks (I .fit .few) (I .isChannel) (omega arith) (I .found);
         })))
 
     module _ (l : Lent) (same : l .words ≡ words) (trace : List ℕ) (t : traceLeast ≤ length trace) where
@@ -191,7 +192,7 @@ module _ (d : Held) (job : Job) (words : List ℕ) (head : headOf (queueIn (d .q
         let named : raceIn race ≡ lowestRace (scenarioIn (job .count) on part) (raceRuleOf (job .code)) =
         I .found ∙ ap (searched (scenarioIn (job .count) on part) (raceRuleOf (job .code))) all
         ∙ searched-all (scenarioIn (job .count) on part) (raceRuleOf (job .code)) (omega arith) in
-        subst (λ (T : Scenario). AsTheCheck T (job .code) trace traceExit answer) (I .isScenario) (K .answers (I .fit) (I .isChannel) named)
+        subst (λ (T : Scenario). AsTheCheck T (job .code) trace traceExit answer) (I .isScenario) (concludes-check (job .count) on part (job .code) race trace traceExit answer K (I .fit) (I .isChannel) named)
 
     module _ (l : Lent) (same : l .words ≡ words) (t : traceLeast ≤ length trace) where
       abbrev last : Call
@@ -220,9 +221,9 @@ module _ (d : Held) (job : Job) (words : List ℕ) (head : headOf (queueIn (d .q
             next = rest-is;
             leftAlone = λ u. not-both (leavesAll (outcomeOf (dispatcherOf d) last)) u (ap leavesAll (D .outcome));
             wordsLeft = lasting;
-            freeOrLocked = K .freeOrLocked;
-            traceKept = K .kept;
-            traceLocked = K .locked;
+            freeOrLocked = concludes-word (job .count) on part (job .code) race trace traceExit answer K;
+            traceKept = concludes-kept (job .count) on part (job .code) race trace traceExit answer K;
+            traceLocked = concludes-locked (job .count) on part (job .code) race trace traceExit answer K t;
             admits = λ m p S i f a. let z : _≡_ {A = ℕ} 0 1 = cc in absurd (omega arith);
             keeps = λ o j k S a b m H.
                 let u : Member k js = subst (λ (q : DispatcherState). Member k (q .queue)) (D .leaves) b in

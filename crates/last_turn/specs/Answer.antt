@@ -1,21 +1,18 @@
 -- The answer of a job's last turn. Assumes nothing.
 use mathlib.Core.Path.{_≡_}
-use mathlib.Core.Logic.{_⊎_}
-use mathlib.Core.Bool.{Bool}
+use mathlib.Core.Bool.{Bool, not, cond, _&&_}
 use mathlib.Core.List.{List}
-use Prim.Native.Nat.{ℕ, _*_, _<_, _≤_}
-use lib.Dec.{ltb}
-use lib.ListN.{length, getD, drop}
-use Rattle.model.specs.Limits.{boards, channels}
+use Prim.Native.Nat.{ℕ, _*_}
+use lib.Dec.{eqb, ltb, leb}
+use lib.ListN.{getD}
+use Rattle.model.specs.Limits.{boards, channels, messagesMost}
 use Rattle.model.specs.Bounded.{every}
-use Rattle.model.specs.Race.{raceRuleOf, lowestRace}
+use Rattle.model.specs.Channel.{channelOf}
+use Rattle.model.specs.Schedule.{schedule}
 use Rattle.model.specs.Answer as model
-use Rattle.model.specs.Answer.{lockedWord}
-use Rattle.model.specs.Dispatcher.{noAnswer, AsTheCheck}
+use Rattle.model.specs.Answer.{numbersOf, traceAfter}
 use Rattle.relation.specs.Scenario.{scenarioIn}
-use Rattle.scenario.specs.Contract.{Fit}
 use Rattle.share.specs.declared.Race.{Race}
-use Rattle.share.specs.Search.{raceIn}
 use Rattle.last_turn.specs.declared.Numbers.{Numbers}
 
 -- the events of the first `count` messages are on boards of the paper
@@ -28,11 +25,19 @@ numbersIn r = record { word = r .word; one = r .one; two = r .two; three = r .th
 abbrev pub zeros : Numbers
 zeros = record { word = 0; one = 0; two = 0; three = 0 }
 
--- Of any race, words and boards: free or locked is said, and the trace changes only on "locked", in the bytes of the steps counted. Where they
--- are a job's, with the race named of its scenario, the answer is the check's.
+-- a race was found that a job can hold: so many messages, this code, the race's message among them, and every event on a board of the paper
+unfoldable pub canLock : ℕ → List ℕ → ℕ → Race → Bool
+canLock count on code race = not (eqb (race .found) 0) && leb count messagesMost && ltb code channels && ltb (race .message) count && allOnBoards on count
+
+-- What a last turn answers, whatever race, words and boards it takes: locked, with the schedule for the race's message; else, of what no job can
+-- hold too, free.
+unfoldable pub conclusion : ℕ → List ℕ → List ℕ → ℕ → Race → model.Answer
+conclusion count on words code race =
+    cond (canLock count on code race)
+    (model.locked (race .message) (race .event) (schedule (scenarioIn count on words) (channelOf code) (race .message)))
+    model.free
+
+-- its numbers, and the trace after it
 pub record Concludes (count : ℕ) (on words : List ℕ) (code : ℕ) (race : Race) (trace exit : List ℕ) (r : model.Numbers) : Type 0 where
-  pub freeOrLocked : (r ≡ noAnswer) ⊎ (r .word ≡ lockedWord)
-  pub kept : (r .word ≡ lockedWord → ⊥) → exit ≡ trace
-  pub locked : r .word ≡ lockedWord → (2 * r .three ≤ length trace) × (length exit ≡ length trace) × (drop (2 * r .three) exit ≡ drop (2 * r .three) trace)
-  pub answers : Fit count on words → code < channels → raceIn race ≡ lowestRace (scenarioIn count on words) (raceRuleOf code)
-      → AsTheCheck (scenarioIn count on words) code trace exit r
+  pub numbers : r ≡ numbersOf (conclusion count on words code race)
+  pub traceLeft : exit ≡ traceAfter (conclusion count on words code race) trace

@@ -143,9 +143,11 @@ cured-holds text S e fits =
       inside = λ x y p. cured-old S C x y (cured-exact S C x y .1 p);
       sheet = scenarioOf (met S C few low);
       read = read;
+      causalOrder = sheet-meets (curedText S) _ read;
       messages = cured-messages S C few low;
       exact = λ x y. ((λ h. cured-exact S C x y .0 (same x y .0 h)), (λ p. same x y .1 (cured-exact S C x y .1 p)));
       free = λ code l. free-without-races (curedText S) _ read code l (nothing-races S C _ same (raceRuleOf code));
+      otherOrder = sheet-meets;
       loosest = λ other T f messages free within x y h.
           cured-exact S C x y .0
           (inside-cured S C T (sheet-causal other T f) (no-race-when-free other T f 0 (omega arith) free) (messages .counts) within x y h);

@@ -62,9 +62,10 @@ module _ {M : Type 0} (stateIn : M → DispatcherState) (Holds : M → List ℕ 
         isChannel = m .parts .codeKnown;
         lastTurn = λ mid e rest i. last-turn stateIn Holds n p code (S .count) next (a .words) mid e rest last (at mid e rest i);
         leaves = λ mid e rest i. leaves stateIn Holds n p code (S .count) next (a .words) mid e rest last (at mid e rest i);
-        within = λ quiet enough.
-            answered-within stateIn Holds n p code (S .count) after next last 0 (length (stateIn d .queue)) (2 * S .count) r o′ stands (omega arith) quiet
-            (omega (arith, most, enough));
+        within = λ part rest i quiet enough.
+            let parts = ran-split stateIn Holds part rest next last (subst (λ (es : List Entry). Ran stateIn Holds next es last) i r) in
+            answered-within stateIn Holds n p code (S .count) part next (parts .0) 0 (length (stateIn d .queue)) (2 * S .count) (parts .1) o′ stands
+            (omega arith) quiet (omega (arith, most, enough));
         answer = λ mid e rest i answers kept scratch enough.
             let t = answered-as stateIn Holds n p code (S .count) next (a .words) mid e rest last (at mid e rest i) answers kept S admits in
             check-answer (sheetAt (lentTo (a .call)) p) code (length scratch) (traceTo (e .call)) (e .trace) (e .told .answer) S

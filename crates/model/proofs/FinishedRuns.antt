@@ -23,7 +23,7 @@ use Rattle.model.proofs.Accepted.{accepted-parts, sheet-causal, sheet-m
 use Rattle.model.proofs.Phases.{doneAt}
 use Rattle.model.proofs.Rules.{everyEvent-at}
 use Rattle.model.proofs.Occurrences.{occurrences-append, two-a-message}
-use Rattle.model.proofs.WiredChoices.{list-causal}
+use Rattle.model.proofs.WiredChoices.{list-causal, list-meets}
 use Rattle.model.proofs.Orders.{reached-from-start}
 
 -- 1 for an event that is done, 0 for one that is not
@@ -163,6 +163,7 @@ finished-runs text code scratchLength traceLength =
     record {
       causalOrder = λ S e. sheet-meets text S (sheet S e);
       finishedRun = λ S e ts E. rearranged S (sheet-causal text S (sheet S e)) (channelOf code) ts E;
+      orderOnList = λ file l S f e. list-meets text scratchLength traceLength code file f l S e;
       finishedOnList = λ file l S f e ts E. rearranged S (list-causal text scratchLength traceLength code file f l S e) (channelOf code) ts E;
     }
   where

@@ -1,9 +1,11 @@
 -- The sheet check with a table of permitted senders: the check's outcome with a sound table, unless a message is forbidden. Assumes nothing.
 use Prim.Native.Nat.{ℕ, _+_, _*_, _<_, _≤_}
 use mathlib.Core.Path.{_≡_, refl, sym, _∙_, ap, subst, subst⁻¹}
+use mathlib.Core.Logic.{_↔_}
 use mathlib.Core.Bool.{Bool, true, false, cond, _&&_, _||_}
 use mathlib.Core.List.{List, []}
 use mathlib.Core.Option.{Option, none, some}
+use native.Mathlib.Omega.{arith}
 use borrow.Author.Tests.{lt-ltb, le-ltb, le-leb}
 use lib.Dec.{leb, ltb}
 use lib.ListN.{length, getD}
@@ -13,16 +15,16 @@ use Rattle.model.specs.Refusal.{Out, ok, refusal, andThen, channelRefusa
 use Rattle.model.specs.Text.{linesOf}
 use Rattle.model.specs.Place.{bodyOf, readWith}
 use Rattle.model.specs.Expansion.{Progress, expand}
-use Rattle.model.specs.Order.{Met, Scenario, exchangeOf, scenarioOf}
+use Rattle.model.specs.Order.{Met, sendOf, receiveOf, boardOf, Scenario, exchangeOf, scenarioOf}
 use Rattle.model.specs.Answer.{refused, Numbers, sheetOf, acceptedOf, answerFor, answerOf, numbersOf, scratchBehind, traceAfter}
 use Rattle.model.specs.Verdict.{Meets, Verdict}
-use Rattle.model.specs.Senders.{Rule, soundTable, isForbidden, withLines, lineOps, linesMet, permitted, permittedOf, MessageRow, FirstForbidden, PermittedCheck}
+use Rattle.model.specs.Senders.{Rule, pairOf, noRule, InOne, soundTable, isForbidden, withLines, lineOps, linesMet, permitted, permittedOf, MessageRow, FirstForbidden, PermittedCheck}
 use Rattle.model.proofs.Bounded.{lowest-hit}
 use Rattle.model.proofs.Refusal.{not-refused, and-then-ok, cond-ok, cond-refused}
-use Rattle.model.proofs.Accepted.{SheetParts, sheet-parts, accepted-parts, sheet-meets}
+use Rattle.model.proofs.Accepted.{SheetParts, sheet-parts, accepted-parts, sheet-boards, sheet-meets}
 use Rattle.model.proofs.PointThree.{point-three}
 use Rattle.model.proofs.MessageLines.{AtRow, Both, expand-alike}
-use Rattle.model.proofs.Senders.{none-of}
+use Rattle.model.proofs.Senders.{none-of, sound-table, forbidden-by}
 
 -- a sheet of another length than 1 to 8,192 bytes is refused, 3
 abbrev fits : List ℕ → Bool
@@ -107,22 +109,22 @@ module _ (text : List ℕ) (code scratchLength traceLength : ℕ) (table : List 
       outcome-is S e ∙ rw s (rw (n, permitted))
 
 -- the line of a message of the walk is that of its M row
-pub line-met : (text : List ℕ) (S : Scenario) → sheetOf text ≡ ok S → (m : ℕ) → m < S .count → MessageRow text (getD (linesMet text) m 0) (S .source m) (S .target m)
+pub line-met : (text : List ℕ) (S : Scenario) → sheetOf text ≡ ok S → (m : ℕ) → m < S .count → MessageRow text m (getD (linesMet text) m 0) (S .source m) (S .target m)
 unfolding linesMet andThen scenarioOf exchangeOf
 line-met text S e m l =
     let a = sheet-parts text S e in
     go a (expand lineOps [] (withLines 0 (a .rows)) []) refl (subst (λ (o : Out (Progress Met)). Both (a .rows) o (expand lineOps [] (withLines 0 (a .rows)) [])) (a .parts .expanded) (expand-alike (a .rows)))
   where
     go : (a : SheetParts text S) (o : Out (Progress (List ℕ))) → expand lineOps [] (withLines 0 (a .rows)) [] ≡ o → Both (a .rows) (ok (a .parts .walked)) o
-        → MessageRow text (getD (linesMet text) m 0) (S .source m) (S .target m)
+        → MessageRow text m (getD (linesMet text) m 0) (S .source m) (S .target m)
     go a (refusal number line) f k = absurd k
     go a (ok q) f k =
         let lines : linesMet text ≡ q .kept = rw (a .read, f, linesMet) in
         let same : scenarioOf (exchangeOf (a .parts .walked)) ≡ S = a .parts .scenario in
         let r : AtRow (a .rows) (getD (q .kept) m 0) (getD (a .parts .walked .kept .events) (2 * m) 0) (getD (a .parts .walked .kept .events) (2 * m + 1) 0) =
         k .rows m (subst⁻¹ (λ (T : Scenario). m < T .count) same l) in
-        rw lines (subst (λ (T : Scenario). MessageRow text (getD (q .kept) m 0) (T .source m) (T .target m)) same
-        (record { file = a .rows; read = a .read; row = r .row; atLine = r .atLine; isMessage = r .isMessage }))
+        rw lines (subst (λ (T : Scenario). MessageRow text m (getD (q .kept) m 0) (T .source m) (T .target m)) same
+        (record { file = a .rows; read = a .read; own = ap (λ (l : List ℕ). getD l m 0) (sym lines); row = r .row; atLine = r .atLine; isMessage = r .isMessage }))
 
 -- What is answered and left in the buffers, as the outcome says: then the whole promise holds.
 pub permitted-check : (text : List ℕ) (code : ℕ) (scratch scratchExit trace traceExit table : List ℕ) (r : Numbers)
@@ -130,19 +132,29 @@ pub permitted-check : (text : List ℕ) (code : ℕ) (scratch scratchExit trace 
     → scratchExit ≡ scratchBehind (permittedOf text code (length scratch) (length trace) table) scratch
     → traceExit ≡ traceAfter (answerFor (permittedOf text code (length scratch) (length trace) table) code) trace
     → PermittedCheck text code scratch scratchExit trace traceExit table r
-unfolding answerFor answerOf
+unfolding answerFor answerOf boardOf
 permitted-check text code scratch scratchExit trace traceExit table r a s t =
     record {
       answer = a;
       scratchLeft = s;
       traceLeft = t;
       accepted = λ S e. accepted S e (permitted-accepted text code (length scratch) (length trace) table S e);
+      soundWhen = sound-table table;
+      byItsRule = λ rules S m u e. by-its-rule rules S m u e;
       asTheCheck = λ rules u h. permitted-same text code (length scratch) (length trace) table rules u h;
       forbidden = λ rules S m u e f. forbidden S m (permitted-forbidden text code (length scratch) (length trace) table rules S m u e f)
           (line-met text S (accepted-parts text code (length scratch) (length trace) S e .sheet) m (f .met));
       unsound = λ line u c w l h i. a ∙ ap (λ (o : Out Scenario). numbersOf (answerFor o code)) (permitted-unsound text code (length scratch) (length trace) table line u c w l h i);
     }
   where
+    by-its-rule : (rules : List Rule) (S : Scenario) (m : ℕ) → soundTable table ≡ ok rules → sheetOf text ≡ ok S
+        → (o : InOne rules (pairOf (S .source m) (S .target m))) × ((isForbidden rules S m ≡ false) ↔ ((getD rules (o .rule) noRule) .verdict ≡ 1))
+    by-its-rule rules S m u e =
+        let from = sheet-boards text S e (sendOf m) in
+        let to = sheet-boards text S e (receiveOf m) in
+        let o = sound-table table rules .0 u .1 (pairOf (S .source m) (S .target m)) (omega arith) in
+        (o, forbidden-by rules (pairOf (S .source m) (S .target m)) o)
+
     accepted : (S : Scenario) → permittedOf text code (length scratch) (length trace) table ≡ ok S → acceptedOf text code (length scratch) (length trace) ≡ ok S
         → (acceptedOf text code (length scratch) (length trace) ≡ ok S) × Meets text S × Verdict S code r traceExit
     accepted S e c =
@@ -156,8 +168,8 @@ permitted-check text code scratch scratchExit trace traceExit table r a s t =
         )
 
     forbidden : (S : Scenario) (m : ℕ) → permittedOf text code (length scratch) (length trace) table ≡ refusal forbiddenRefusal (getD (linesMet text) m 0)
-        → MessageRow text (getD (linesMet text) m 0) (S .source m) (S .target m)
-        → (r ≡ numbersOf (refused forbiddenRefusal (r .two))) × MessageRow text (r .two) (S .source m) (S .target m)
+        → MessageRow text m (getD (linesMet text) m 0) (S .source m) (S .target m)
+        → (r ≡ numbersOf (refused forbiddenRefusal (r .two))) × MessageRow text m (r .two) (S .source m) (S .target m)
     forbidden S m e w =
         let n : r ≡ numbersOf (refused forbiddenRefusal (getD (linesMet text) m 0)) = a ∙ ap (λ (o : Out Scenario). numbersOf (answerFor o code)) e in
         let two : r .two ≡ getD (linesMet text) m 0 = ap (λ (x : Numbers). x .two) n in

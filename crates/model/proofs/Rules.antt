@@ -3,7 +3,9 @@ use Prim.Native.Nat.{ℕ, _<_, _≤_}
 use mathlib.Core.Path.{_≡_, refl, sym}
 use mathlib.Core.Logic.{_⊎_, inl, inr, ⊎-elim}
 use mathlib.Core.Bool.{Bool, true, false, not, _&&_, _||_}
-use borrow.Author.Tests.{eqb-true, leb-true, ltb-true, lt-ltb, eq-eqb, not-true}
+use native.Mathlib.Decide.{decLt}
+use native.Mathlib.Omega.{arith}
+use borrow.Author.Tests.{le-ltb, eqb-true, leb-true, ltb-true, lt-ltb, eq-eqb, not-true}
 use lib.Dec.{eqb, ltb}
 use Rattle.model.specs.Bounded.{every}
 use Rattle.model.specs.Order.{Event, sendOf, receiveOf, messageOf, Scenario, board}
@@ -344,3 +346,18 @@ stuck-forbids S φ c C h t a = not-both (allowed S c (view S φ) t) a (not-true 
     each (send m) p = and-left (on (send m)) (on (deliver m)) (and-left (on (send m) && on (deliver m)) (on (consume m)) p)
     each (deliver m) p = and-right (on (send m)) (on (deliver m)) (and-left (on (send m) && on (deliver m)) (on (consume m)) p)
     each (consume m) p = and-right (on (send m) && on (deliver m)) (on (consume m)) p
+
+-- no step on a message that the scenario has not is allowed
+pub unknown-step : (S : Scenario) (c : Channel) (s : State) (t : Step) → S .count ≤ messageOfStep t → false ≡ allowed S c s t
+unfolding allowed
+unknown-step S c s (send m) h = rw (le-ltb m (S .count) h)
+unknown-step S c s (deliver m) h = rw (le-ltb m (S .count) h)
+unknown-step S c s (consume m) h = rw (le-ltb m (S .count) h)
+
+-- so a step that is allowed is on a message of the scenario
+pub allowed-inside : (S : Scenario) (c : Channel) (s : State) (t : Step) → allowed S c s t ≡ true → messageOfStep t < S .count
+allowed-inside S c s t a = go (decLt (messageOfStep t) (S .count))
+  where
+    go : Dec (messageOfStep t < S .count) → messageOfStep t < S .count
+    go (yes l) = l
+    go (no g) = not-both (allowed S c s t) a (sym (unknown-step S c s t (omega arith)))

@@ -3,22 +3,22 @@
 use Prim.Native.Nat.{ℕ, zero, suc, _+_, _-_, _<_, _≤_}
 use native.Mathlib.Nat.{add-zero, zero-add}
 use native.Mathlib.Omega.{arith}
-use mathlib.Core.Path.{_≡_, refl, sym, subst}
+use mathlib.Core.Path.{_≡_, refl, sym, _∙_, ap, subst, subst⁻¹}
 use mathlib.Core.Logic.{_↔_, ⊎-elim}
 use mathlib.Core.Bool.{Bool, true, false, not, cond, _&&_}
 use mathlib.Core.List.{List, [], _∷_}
 use mathlib.Core.Option.{Option, none, some}
-use borrow.Author.Tests.{eqb-true, eqb-false, ltb-true, not-true, not-false}
+use borrow.Author.Tests.{eqb-true, eqb-false, eq-eqb, ltb-true, not-true, not-false}
 use lib.Dec.{eqb, leb, ltb}
 use lib.ListN.{length, getD, drop, length-drop}
 use lib.Seq.{getD-drop}
 use Rattle.model.specs.Limits.{textMost, rulesMost, pairs}
 use Rattle.model.specs.Bounded.{every, lowest}
-use Rattle.model.specs.Refusal.{Out, ok, refusal, senderTableRefusal}
+use Rattle.model.specs.Refusal.{Out, ok, refusal, andThen, senderTableRefusal}
 use Rattle.model.specs.Text.{Line, linesOf}
 use Rattle.model.specs.Place.{lineOf}
 use Rattle.model.specs.Answer.{Numbers}
-use Rattle.model.specs.Senders.{Rule, isNamesLine, ruleOf, aheadOfRule, rulesFrom, rulesBehind, rulesOf, covers, rulesWith, isFaulty, Soundness, sound, gap, clash, malformed, faultOf, soundnessOf, judgedTable, tableAnswer, soundWord, gapWord, clashWord, tableRefusedWord, tableNumbers, noRule, isIn, InOne, NoneLower, Gap, Clash, TableJudged, soundRules, permits}
+use Rattle.model.specs.Senders.{Rule, isNamesLine, ruleOf, aheadOfRule, rulesFrom, rulesBehind, rulesOf, covers, rulesWith, isFaulty, Soundness, sound, gap, clash, malformed, faultOf, soundnessOf, judgedTable, tableAnswer, soundWord, gapWord, clashWord, tableRefusedWord, tableNumbers, noRule, isIn, InOne, NoneLower, Gap, Clash, TableJudged, soundBy, soundRules, soundTable, permits}
 use Rattle.model.proofs.Bounded.{not-both, apart, Found, lowest-found, every-at, every-from, not-is-true, which}
 use Rattle.model.proofs.Refusal.{not-refused}
 
@@ -285,31 +285,44 @@ Agrees rules (gap q) = soundRules rules ≡ refusal senderTableRefusal 0
 Agrees rules (clash q a b) = soundRules rules ≡ refusal senderTableRefusal 0
 Agrees rules (malformed number line) = ⊥
 
-module _ (rules : List Rule) where
-  unsound : (pair : ℕ) → pair < pairs → isFaulty rules pair ≡ true → soundRules rules ≡ refusal senderTableRefusal 0
-  unfolding soundRules
-  unsound pair l h = go (every pairs (λ q. not (isFaulty rules q))) refl
-    where
-      go : (b : Bool) → every pairs (λ q. not (isFaulty rules q)) ≡ b → cond b (ok rules) (refusal senderTableRefusal 0) ≡ refusal senderTableRefusal 0
-      go true e = not-both (isFaulty rules pair) h (not-true (isFaulty rules pair) (every-at pairs (λ q. not (isFaulty rules q)) e pair l))
-      go false e = refl
+pub agrees : (rules : List Rule) → Agrees rules (soundnessOf rules)
+unfolding soundRules soundBy
+agrees rules = go (soundnessOf rules) refl (judged rules)
+  where
+    go : (s : Soundness) → soundnessOf rules ≡ s → Judged rules s → Agrees rules s
+    go sound e h = rw e
+    go (gap q) e h = rw e
+    go (clash q a b) e h = rw e
+    go (malformed number line) e h = absurd h
 
-  fault-agrees : (pair : ℕ) (ks : List ℕ) → soundRules rules ≡ refusal senderTableRefusal 0 → (length ks ≡ 1 → ⊥) → Agrees rules (faultOf pair ks)
-  unfolding faultOf
-  fault-agrees pair [] e n = e
-  fault-agrees pair (i ∷ []) e n = absurd (n refl)
-  fault-agrees pair (i ∷ j ∷ ks) e n = e
+-- A table is sound exactly if each pair is in exactly one of its rules.
+sound-rules : (rules ks : List Rule) → (soundRules rules ≡ ok ks) ↔ ((rules ≡ ks) × ((pair : ℕ) → pair < pairs → InOne ks pair))
+unfolding soundRules soundBy
+sound-rules rules ks = go (soundnessOf rules) refl (judged rules)
+  where
+    gap-unsound : {q : ℕ} → Gap rules q → InOne rules q → ⊥
+    gap-unsound g o = g (o .rule) (o .there) (o .inIt)
 
-  pub agrees : Agrees rules (soundnessOf rules)
-  unfolding soundnessOf soundRules isFaulty
-  agrees = go (lowest pairs (isFaulty rules)) (lowest-found pairs (isFaulty rules))
-    where
-      go : (o : Option ℕ) → Found pairs (isFaulty rules) o
-          → Agrees rules (elim o [ none ↦ sound | some pair ↦ faultOf pair (rulesWith pair 0 rules) ])
-      go none f = rw (every-from pairs (λ q. not (isFaulty rules q)) (λ q l. not-is-true (isFaulty rules q) (f q l)))
-      go (some pair) f =
-          fault-agrees pair (rulesWith pair 0 rules) (unsound pair (f .below) (f .passes))
-          (eqb-false (length (rulesWith pair 0 rules)) 1 (not-true (eqb (length (rulesWith pair 0 rules)) 1) (f .passes)))
+    clash-unsound : {q a b : ℕ} → Clash rules q a b → InOne rules q → ⊥
+    clash-unsound c o =
+        let one : c .first ≡ o .rule = o .alone (c .first) (omega (arith, c .inOrder)) (c .inBoth .0) in
+        let two : c .second ≡ o .rule = o .alone (c .second) (c .inOrder .1) (c .inBoth .1) in
+        omega (arith, c .inOrder)
+
+    go : (s : Soundness) → soundnessOf rules ≡ s → Judged rules s
+        → (soundBy s rules ≡ ok ks) ↔ ((rules ≡ ks) × ((pair : ℕ) → pair < pairs → InOne ks pair))
+    go sound e h = ((λ i. let same : rules ≡ ks = cc in (same, subst (λ rs. (pair : ℕ) → pair < pairs → InOne rs pair) same h)), (λ p. ap ok (p .0)))
+    go (gap q) e h = ((λ i. not-refused i), (λ p. absurd (gap-unsound (h .1) (subst⁻¹ (λ rs. InOne rs q) (p .0) (p .1 q (h .0 .0))))))
+    go (clash q a b) e h = ((λ i. not-refused i), (λ p. absurd (clash-unsound (h .1) (subst⁻¹ (λ rs. InOne rs q) (p .0) (p .1 q (h .0 .0))))))
+    go (malformed number line) e h = absurd h
+
+pub sound-table : (table : List ℕ) (ks : List Rule) → (soundTable table ≡ ok ks) ↔ ((rulesOf table ≡ ok ks) × ((pair : ℕ) → pair < pairs → InOne ks pair))
+unfolding soundTable andThen
+sound-table table ks = go (rulesOf table)
+  where
+    go : (o : Out (List Rule)) → (andThen o soundRules ≡ ok ks) ↔ ((o ≡ ok ks) × ((pair : ℕ) → pair < pairs → InOne ks pair))
+    go (ok rules) = ((λ i. let p = sound-rules rules ks .0 i in (ap ok (p .0), p .1)), (λ p. sound-rules rules ks .1 (cc (p .0), p .1)))
+    go (refusal number line) = ((λ i. not-refused i), (λ p. not-refused (p .0)))
 
 -- In a sound table a pair is permitted as the one rule says that it is in.
 permits-first : (rs : List Rule) (pair k : ℕ) → k < length rs → isIn rs pair k → ((j : ℕ) → j < k → isIn rs pair j → ⊥)
@@ -324,3 +337,13 @@ permits-first (r ∷ rs) pair (suc k) l h before =
 pub permits-rule : (rules : List Rule) (pair : ℕ) (o : InOne rules pair) → permits rules pair ≡ eqb ((getD rules (o .rule) noRule) .verdict) 1
 permits-rule rules pair o =
     permits-first rules pair (o .rule) (o .there) (o .inIt) (λ j l g. let e : j ≡ o .rule = o .alone j (omega (arith, o .there)) g in omega arith)
+
+-- and it is not forbidden exactly if that rule says 1
+pub forbidden-by : (rules : List Rule) (pair : ℕ) (o : InOne rules pair)
+    → (not (permits rules pair) ≡ false) ↔ ((getD rules (o .rule) noRule) .verdict ≡ 1)
+forbidden-by rules pair o =
+    let e = permits-rule rules pair o in
+    let v = (getD rules (o .rule) noRule) .verdict in (
+      (λ f. eqb-true v 1 (sym e ∙ not-false (permits rules pair) f)),
+      (λ i. ap not (e ∙ eq-eqb v 1 i)),
+    )

@@ -5,14 +5,15 @@ use mathlib.Core.Path.{_≡_, refl, sym, _∙_, ap, subst, subst⁻¹}
 use mathlib.Core.Logic.{_⊎_, inl, inr, ⊎-elim}
 use mathlib.Core.Bool.{Bool, true, false, cond, _&&_, _||_}
 use mathlib.Core.List.{List, [], _∷_, _++_}
-use lib.Dec.{eqb}
+use lib.Dec.{eqb, leb}
 use lib.ListN.{length, length-append}
-use borrow.Author.Tests.{eq-eqb, ne-eqb}
+use borrow.Author.Tests.{eq-eqb, eqb-true, ne-eqb}
 use Rattle.model.specs.Limits.{traceLeast, jobsMost}
+use Rattle.model.specs.Refusal.{benchRefusal}
 use Rattle.model.specs.Order.{Scenario}
 use Rattle.model.specs.Answer.{Numbers}
-use Rattle.model.specs.Dispatcher.{placeWords, Job, DispatcherState, lentTo, traceTo, Outcome, admitted, idle, taken, answered, cancelled, refused, outcomeOf, behind, takenWord, answeredWord, cancelledWord, idleWord, Told, toldAs, Member, Entry, says, isTurnOf, counted, isUnrefusedTurn, KeptFrom, AsTheCheck}
-use Rattle.model.proofs.Bounded.{not-both}
+use Rattle.model.specs.Dispatcher.{placeWords, Job, DispatcherState, lentTo, traceTo, Outcome, admitted, idle, taken, answered, cancelled, refused, outcomeOf, behind, takenWord, answeredWord, cancelledWord, idleWord, refusedWord, Told, toldAs, leavesAll, Member, Entry, says, isTurnOf, counted, isUnrefusedTurn, touchedNothing, lastLeft, KeptFrom, AsTheCheck}
+use Rattle.model.proofs.Bounded.{and-left, not-both}
 use Rattle.model.proofs.Queue.{OneEach, orderly-of, jobs-most}
 use Rattle.model.proofs.Jobs.{names, isUnrefused, jobAt, Stands, Gone, Moved, stays, goesOn, isAnswered, isCancelled, one-call, gone-call}
 use Rattle.model.proofs.Calls.{trace-enough, Called, Ran, ran-split, told-as, called-one-each, ran-one-each}
@@ -57,18 +58,40 @@ unrefused-says (answered m) a = refl
 unrefused-says (cancelled m) a = refl
 unrefused-says (refused number line) a = refl
 
+-- the entry with another answer
+abbrev tellingAs : Entry → Told → Entry
+tellingAs e t = record { call = e .call; told = t; words = e .words; trace = e .trace }
+
+-- a call refused with 1 or 2 leaves the dispatcher as it was, and is no turn of the job
+untouched-says : (n : ℕ) (e : Entry) (o : Outcome) (a : Numbers) → touchedNothing (tellingAs e (toldAs o a)) ≡ true
+    → (leavesAll o ≡ true) × Says n (toldAs o a) false false false
+unfolding leavesAll touchedNothing
+untouched-says n e (admitted m p) a h = not-both false h refl
+untouched-says n e idle a h = not-both false h refl
+untouched-says n e (taken m) a h = not-both false h refl
+untouched-says n e (answered m) a h = not-both false h refl
+untouched-says n e (cancelled m) a h = not-both false h refl
+untouched-says n e (refused number line) a h = (refl, record { turns = refl; answers = refl; cancels = refl })
+
+-- an answer is no refusal
+answer-touches : (n : ℕ) (t : Told) → (eqb (t .word) answeredWord && eqb (t .one) n) ≡ true → (eqb (t .word) refusedWord && leb (t .one) benchRefusal) ≡ false
+answer-touches n t e =
+    let word : t .word ≡ answeredWord = eqb-true (t .word) answeredWord (and-left (eqb (t .word) answeredWord) (eqb (t .one) n) e) in
+    rw (ne-eqb (t .word) refusedWord (λ i. omega arith))
+
 -- ---- one job through the calls behind its admission
 
--- the words that the last of the calls left, or those before them
+-- the words as the last of the calls left them, or those before them
 abbrev pub leftBy : List ℕ → List Entry → List ℕ
 leftBy left [] = left
-leftBy left (e ∷ es) = leftBy (e .words) es
+leftBy left (e ∷ es) = leftBy (lastLeft left e) es
 
--- lent as they were left, up to a last call
-kept-split : (p : ℕ) (mid : List Entry) (left : List ℕ) (e : Entry) → KeptFrom p left (mid ++ (e ∷ []))
+-- lent as they were left, up to a last call that is not so refused
+kept-split : (p : ℕ) (mid : List Entry) (left : List ℕ) (e : Entry) → KeptFrom p left (mid ++ (e ∷ [])) → touchedNothing e ≡ false
     → KeptFrom p left mid × (placeWords p (lentTo (e .call) .words) ≡ placeWords p (leftBy left mid))
-kept-split p [] left e k = (tt, k .0)
-kept-split p (f ∷ mid) left e k = let r = kept-split p mid (f .words) e (k .1) in ((k .0, r .0), r .1)
+kept-split p [] left e k touches = (tt, k .0 touches)
+kept-split p (f ∷ mid) left e k touches =
+    let r = kept-split p mid (lastLeft left f) e (k .1) touches in ((k .0, r .0), r .1)
 
 member-of : (ahead : List Job) (j : Job) (rest : List Job) → Member j (ahead ++ (j ∷ rest))
 member-of [] j rest = inl refl
@@ -167,6 +190,31 @@ module _ {M : Type 0} (stateIn : M → DispatcherState) (Holds : M → List ℕ 
       (subst (λ (k : DispatcherState). Member (job u) (k .queue)) (c .serves .next) (is-member (c .result .next) u y s′))
       refl (subst⁻¹ (λ (w : List ℕ). Holds d w (job t) S) same h)
 
+  -- a call refused with 1 or 2, whatever it is lent: the words that were left still hold it
+  untouched-keeps : (d : M) (t u : ℕ) (e : Entry) (c : Called stateIn Holds d e) → u ≡ t + cond (isTurnOf n e) 1 0 → touchedNothing e ≡ true
+      → (words : List ℕ) (S : Scenario) → Holds d words (job t) S → Holds (c .result .next) words (job u) S
+  unfolding isTurnOf says
+  untouched-keeps d t u e c turned untouched words S h =
+      let isTold = told-as stateIn Holds d e c in
+      let q = untouched-says n e (outcomeOf (stateIn d) (e .call)) (e .told .answer)
+      (subst (λ (k : Told). touchedNothing (tellingAs e k) ≡ true) isTold untouched) in
+      let told : Says n (e .told) false false false = subst⁻¹ (λ (k : Told). Says n k false false false) isTold (q .1) in
+      let same : u ≡ t + 0 = rw (told .turns) at turned in
+      let sameTurns : u ≡ t = omega arith in
+      subst⁻¹ (λ (m : M). Holds m words (job u) S) (c .serves .leftAlone (q .0)) (subst⁻¹ (λ (k : ℕ). Holds d words (job k) S) sameTurns h)
+
+  -- a call that is lent them as they were left, or is refused with 1 or 2
+  lent-keeps : (d : M) (t x u y : ℕ) (e : Entry) (c : Called stateIn Holds d e) → OneEach (stateIn d) → Held d t x → Held (c .result .next) u y
+      → u ≡ t + cond (isTurnOf n e) 1 0 → (left : List ℕ) (S : Scenario) → Holds d (placeWords p left) (job t) S
+      → (touchedNothing e ≡ false → placeWords p (lentTo (e .call) .words) ≡ placeWords p left)
+      → Holds (c .result .next) (placeWords p (lastLeft left e)) (job u) S
+  unfolding lastLeft
+  lent-keeps d t x u y e c o s s′ turned left S h same = go (touchedNothing e) refl
+    where
+      go : (b : Bool) → touchedNothing e ≡ b → Holds (c .result .next) (placeWords p (lastLeft left e)) (job u) S
+      go true i = rw i (untouched-keeps d t u e c turned i (placeWords p left) S h)
+      go false i = rw i (call-keeps d t x u y e c o s s′ left S h (same i))
+
   -- The job still held behind some calls: its turns counted, at most those it needs, and its words.
   pub record Followed (d : M) (left : List ℕ) (t : ℕ) (mid : List Entry) (last : M) : Type 0 where
     turns : ℕ
@@ -179,7 +227,8 @@ module _ {M : Type 0} (stateIn : M → DispatcherState) (Holds : M → List ℕ 
   -- one call ahead of them
   followed-more : (d : M) (left : List ℕ) (t x u y : ℕ) (e : Entry) (c : Called stateIn Holds d e) (mid : List Entry) (last : M)
       → OneEach (stateIn d) → Held d t x → Held (c .result .next) u y → u ≡ t + cond (isTurnOf n e) 1 0
-      → Followed (c .result .next) (e .words) u mid last ⊎ Gone n (stateIn last) → Followed d left t (e ∷ mid) last ⊎ Gone n (stateIn last)
+      → Followed (c .result .next) (lastLeft left e) u mid last ⊎ Gone n (stateIn last)
+      → Followed d left t (e ∷ mid) last ⊎ Gone n (stateIn last)
   unfolding counted
   followed-more d left t x u y e c mid last o s s′ turned (inr g) = inr g
   followed-more d left t x u y e c mid last o s s′ turned (inl f) =
@@ -190,7 +239,7 @@ module _ {M : Type 0} (stateIn : M → DispatcherState) (Holds : M → List ℕ 
         areCounted = omega (arith, f .areCounted);
         notPast = f .notPast;
         stands = f .stands;
-        holds = λ S h k. f .holds S (call-keeps d t x u y e c o s s′ left S h (k .0)) (k .1);
+        holds = λ S h k. f .holds S (lent-keeps d t x u y e c o s s′ turned left S h (k .0)) (k .1);
       })
 
   -- behind the calls it is held, or gone
@@ -201,7 +250,7 @@ module _ {M : Type 0} (stateIn : M → DispatcherState) (Holds : M → List ℕ 
       subst (λ (m : M). Followed d left t [] m ⊎ Gone n (stateIn m)) r
       (inl (record { turns = t; position = x; areCounted = omega arith; notPast = le; stands = s; holds = λ S h k. h }))
   follow (e ∷ mid) d last left t x r o s le =
-      go (met d t x e c o s) (λ u y s′ b. follow mid next last (e .words) u y (r .1) (called-one-each stateIn Holds d e c o) s′ b)
+      go (met d t x e c o s) (λ u y s′ b. follow mid next last (lastLeft left e) u y (r .1) (called-one-each stateIn Holds d e c o) s′ b)
     where
       c : Called stateIn Holds d e
       c = r .0
@@ -209,7 +258,7 @@ module _ {M : Type 0} (stateIn : M → DispatcherState) (Holds : M → List ℕ 
       next : M
       next = c .result .next
 
-      go : Met d t x e next → ((u y : ℕ) → Held next u y → u ≤ 2 * count → Followed next (e .words) u mid last ⊎ Gone n (stateIn last))
+      go : Met d t x e next → ((u y : ℕ) → Held next u y → u ≤ 2 * count → Followed next (lastLeft left e) u mid last ⊎ Gone n (stateIn last))
           → Followed d left t (e ∷ mid) last ⊎ Gone n (stateIn last)
       go (waits {y = y} s′ most fewer says′) more =
           followed-more d left t x t y e c mid last o s s′ (rw (says′ .turns) (omega arith)) (more t y s′ le)
@@ -359,7 +408,7 @@ module _ {M : Type 0} (stateIn : M → DispatcherState) (Holds : M → List ℕ 
     -- the answer is the check's, where the words hold the scenario and are lent as they were left
     pub answered-as : says answeredWord n e ≡ true → KeptFrom p left (mid ++ (e ∷ [])) → (S : Scenario) → Holds d (placeWords p left) (job 0) S
         → AsTheCheck S code (traceTo (e .call)) (e .trace) (e .told .answer) × (traceLeast ≤ length (traceTo (e .call)))
-    unfolding says
+    unfolding says touchedNothing
     answered-as answers kept S h = go (r .fate)
       where
         never : (turning cancelling : Bool) → Says n (e .told) turning false cancelling
@@ -371,7 +420,7 @@ module _ {M : Type 0} (stateIn : M → DispatcherState) (Holds : M → List ℕ 
         go (stillHeld f (waits s most fewer s′)) = never _ _ s′
         go (stillHeld f (hasTurn s b u s′)) = never _ _ s′
         go (stillHeld f (hasAnswer g first b i s′)) =
-            let k = kept-split p mid left e kept in
+            let k = kept-split p mid left e kept (answer-touches n (e .told) answers) in
             let held = subst⁻¹ (λ (w : List ℕ). Holds (r .before) w (job (f .turns)) S) (k .1) (f .holds S h (k .0)) in
             let c = r .call .serves .answers (orderly-of (stateIn (r .before)) (r .oneEach)) (job (f .turns)) (f .stands .rest) S
             (head-of (r .before) (f .turns) (f .position) (f .stands) first) i held in (

@@ -13,13 +13,14 @@ use Rattle.model.specs.Refusal.{Out, ok, refusal}
 use Rattle.model.specs.Rows.{Row}
 use Rattle.model.specs.Order.{Scenario}
 use Rattle.model.specs.Run.{Step}
-use Rattle.model.specs.Answer.{Answer, free, locked, refused, freeWord, lockedWord, refusedWord, expandedWith, answerFor, numbersOf}
+use Rattle.model.specs.Answer.{Answer, free, locked, refused, freeWord, lockedWord, refusedWord, expandedWith, exchangeWith, answerFor, numbersOf}
+use Rattle.model.specs.Verdict.{IsMet}
 use Rattle.model.specs.Choice.{Among, InOrder, listsOf, ChoiceAnswer, eachFree, firstLocked, firstRefused, refusalIn, lockIn, judgedOver, choosable, choiceAnswerFor, choiceAnswerOf, choiceNumbers}
 use Rattle.model.specs.Wired.{IsWired, SameVerdict, LockedNoHigher, SameChoiceVerdict, LockedNoLater, OneChoiceVerdict}
 use Rattle.model.proofs.Causal.{Causal}
 use Rattle.model.proofs.Standing.{read-fits}
 use Rattle.model.proofs.Clean.{read-clean}
-use Rattle.model.proofs.Accepted.{walk-causal}
+use Rattle.model.proofs.Accepted.{walk-causal, walk-meets}
 use Rattle.model.proofs.Choices.{choosable-parts}
 use Rattle.model.proofs.ChoiceLists.{all-lists}
 use Rattle.model.proofs.Wired.{wired-known, same-answer, locked-answer}
@@ -168,6 +169,13 @@ module _ (text : List ℕ) (scratchLength traceLength : ℕ) where
   list-causal code file e l S w =
       let a = choosable-parts text code scratchLength traceLength file e in
       walk-causal l file (read-fits true text file (a .read)) S w (read-clean true text file (a .read))
+
+  -- and its "before" is the paper's relation
+  pub list-meets : (code : ℕ) (file : List Row) → fileOn code ≡ ok file → (l : List Bool) (S : Scenario) → expandedWith l file ≡ ok S
+      → IsMet (exchangeWith l file) S
+  list-meets code file e l S w =
+      let a = choosable-parts text code scratchLength traceLength file e in
+      walk-meets l file (read-fits true text file (a .read)) S w
 
   -- One verdict over choice lists, for every text and lengths of the buffers lent.
   pub one-choice-verdict : OneChoiceVerdict text scratchLength traceLength

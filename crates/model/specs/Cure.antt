@@ -146,11 +146,14 @@ pub record CuredSheet (S : Scenario) (written : List ℕ) : Type 0 where
   -- reading the text yields the same messages and exactly the cured order
   pub sheet : Scenario
   pub read : sheetOf written ≡ ok sheet
+  pub causalOrder : Meets written sheet
   pub messages : SameMessages S sheet
   pub exact : (x y : Event) → (sheet .before x y ≡ true) ↔ Cured S x y
   -- it is free on all six codes
   pub free : (code : ℕ) → code < channels → FreeOn sheet code
-  -- and the loosest: every sheet of the same messages that is accepted, free on code 0 and ordered inside the old order is ordered inside it
+  -- and the loosest: every sheet of the same messages that is accepted, free on code 0 and ordered inside the old order is ordered inside it;
+  -- its "before" is the paper's relation too
+  pub otherOrder : (other : List ℕ) (T : Scenario) → sheetOf other ≡ ok T → Meets other T
   pub loosest : (other : List ℕ) (T : Scenario) → sheetOf other ≡ ok T → SameMessages S T → FreeOn T 0
       → ((x y : Event) → T .before x y ≡ true → S .before x y ≡ true) → (x y : Event) → T .before x y ≡ true → Cured S x y
 

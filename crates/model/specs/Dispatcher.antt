@@ -334,10 +334,19 @@ unfoldable pub givenOut : List Entry → List ℕ
 givenOut [] = []
 givenOut (e ∷ es) = cond (eqb (e .told .word) admittedWord) (e .told .one ∷ givenOut es) (givenOut es)
 
--- every call is lent the words of place p as the last call left them
+-- refused with 1 or 2, which touches nothing
+unfoldable pub touchedNothing : Entry → Bool
+touchedNothing e = eqb (e .told .word) refusedWord && leb (e .told .one) benchRefusal
+
+-- The words as the last call left them, which were `left` before the call e. One refused with 1 or 2 wrote none, and may have been lent others.
+unfoldable pub lastLeft : List ℕ → Entry → List ℕ
+lastLeft left e = cond (touchedNothing e) left (e .words)
+
+-- every call, but one refused with 1 or 2, is lent the words of place p as the last call left them
 abbrev pub KeptFrom : ℕ → List ℕ → List Entry → Type 0
 KeptFrom p left [] = Unit {0}
-KeptFrom p left (e ∷ es) = (placeWords p (lentTo (e .call) .words) ≡ placeWords p left) × KeptFrom p (e .words) es
+KeptFrom p left (e ∷ es) =
+    (touchedNothing e ≡ false → placeWords p (lentTo (e .call) .words) ≡ placeWords p left) × KeptFrom p (lastLeft left e) es
 
 -- What is so of the job n that call a admitted into place p, in the calls behind it.
 pub record JobServed (a : Entry) (n p : ℕ) (after : List Entry) : Type 0 where
@@ -352,8 +361,9 @@ pub record JobServed (a : Entry) (n p : ℕ) (after : List Entry) : Type 0 where
   -- answered or cancelled it leaves
   pub leaves : (mid : List Entry) (e : Entry) (rest : List Entry) → after ≡ mid ++ (e ∷ rest)
       → (says answeredWord n e || says cancelledWord n e) ≡ true → counted (isTurnOf n) rest + counted (says cancelledWord n) rest ≡ 0
-  -- not cancelled, it is answered within `turnsMost` unrefused turns
-  pub within : counted (says cancelledWord n) after ≡ 0 → turnsMost ≤ counted isUnrefusedTurn after → counted (says answeredWord n) after ≡ 1
+  -- not cancelled, it is answered within `turnsMost` unrefused turns: in every part of the calls, from its admission on, that has so many
+  pub within : (part rest : List Entry) → after ≡ part ++ rest → counted (says cancelledWord n) part ≡ 0 → turnsMost ≤ counted isUnrefusedTurn part
+      → counted (says answeredWord n) part ≡ 1
   -- while its words are lent as the last call left them, the answer is exactly the check's: its numbers, the bytes of the trace, and point 3
   pub answer : (mid : List Entry) (e : Entry) (rest : List Entry) → after ≡ mid ++ (e ∷ rest) → says answeredWord n e ≡ true
       → KeptFrom p (a .words) (mid ++ (e ∷ []))

@@ -1,9 +1,9 @@
 -- "Sheets to try": the eight marked sheets, as texts, and the answer expected on each of the six channels.
 -- Assumes nothing.
-use Prim.Native.Nat.{ℕ, suc}
+use Prim.Native.Nat.{ℕ, zero, suc}
 use Prim.Native.String.{String}
 use mathlib.Core.List.{List, [], _∷_}
-use Rattle.model.specs.Limits.{scratchLeast, traceLeast}
+use Rattle.model.specs.Limits.{channels, scratchLeast, traceLeast}
 use Rattle.model.specs.Text.{ascii}
 use Rattle.model.specs.Run.{send, deliver, consume}
 use Rattle.model.specs.Answer.{Answer, free, locked, refused, answerOf}
@@ -48,11 +48,11 @@ marked =
     ∷ record { text = "kind one two\nS 0 0\nM 0 1\nM 1 0\nP 1 2\nP 3 0\n"; answers = everywhere (refused 11 6) }
     ∷ []
 
--- the answers that the definitions give, on the channels from the given code on, with the least buffers
-unfoldable pub answersFrom : ℕ → String → List Answer → List Answer
-answersFrom code text [] = []
-answersFrom code text (a ∷ as′) = answerOf (ascii text) code scratchLeast traceLeast ∷ answersFrom (suc code) text as′
+-- the answers that the definitions give, on so many channels from the given code on, with the least buffers
+unfoldable pub answersFrom : ℕ → ℕ → String → List Answer
+answersFrom zero code text = []
+answersFrom (suc left) code text = answerOf (ascii text) code scratchLeast traceLeast ∷ answersFrom left (suc code) text
 
 unfoldable pub computed : List Trial → List Trial
 computed [] = []
-computed (t ∷ ts) = record { text = t .text; answers = answersFrom 0 (t .text) (t .answers) } ∷ computed ts
+computed (t ∷ ts) = record { text = t .text; answers = answersFrom channels 0 (t .text) } ∷ computed ts

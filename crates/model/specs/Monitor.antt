@@ -2,6 +2,7 @@
 -- Assumes nothing.
 use Prim.Native.Nat.{ℕ, _<_}
 use mathlib.Core.Path.{_≡_}
+use mathlib.Core.Logic.{_↔_}
 use mathlib.Core.Bool.{Bool, true, false, not, cond, _&&_, _||_}
 use mathlib.Core.List.{List, [], _∷_, _++_}
 use mathlib.Core.Option.{Option, none, some}
@@ -11,10 +12,10 @@ use Rattle.model.specs.Limits.{boards, messagesMost, channels, scratchLe
 use Rattle.model.specs.Bounded.{any, howMany}
 use Rattle.model.specs.Refusal.{Out, ok, refusal, channelRefusal, benchRefusal, switchRefusal}
 use Rattle.model.specs.Order.{Scenario}
-use Rattle.model.specs.Channel.{channelOf}
-use Rattle.model.specs.Run.{State, start, Step, next, allowed, after, IsOrder}
+use Rattle.model.specs.Channel.{Channel, channelOf}
+use Rattle.model.specs.Run.{State, start, Step, next, allowed, isOrderFrom, after, finished, stuck, IsOrder, EndsStuck, EndsFinished, CanFinish}
 use Rattle.model.specs.Schedule.{stepTold}
-use Rattle.model.specs.Answer.{sheetOf, scratchBehind}
+use Rattle.model.specs.Answer.{free, sheetOf, verdictOf, scratchBehind}
 use Rattle.model.specs.Verdict.{Meets}
 
 -- What a monitor holds: a run's state, and the channel code in force.
@@ -99,11 +100,40 @@ module _ (S : Scenario) where
 abbrev pub fresh : ℕ → Held
 fresh code = record { state = start; code = code }
 
--- a list without a switch
-unfoldable pub stepsOnly : List Call → Bool
-stepsOnly [] = true
-stepsOnly (step kind m scratchLength ∷ cs) = stepsOnly cs
-stepsOnly (switch code scratchLength ∷ cs) = false
+-- What a log of calls and the words that they answered says: the steps that were taken, in their order ..
+unfoldable pub stepTaken : Call → ℕ → List Step
+stepTaken (step kind m scratchLength) word = elim (cond (eqb word takenWord) (stepTold kind m) none) [ none ↦ [] | some t ↦ t ∷ [] ]
+stepTaken (switch code scratchLength) word = []
+
+unfoldable pub stepsTaken : List Call → List ℕ → List Step
+stepsTaken [] words = []
+stepsTaken (c ∷ cs) [] = []
+stepsTaken (c ∷ cs) (word ∷ words) = stepTaken c word ++ stepsTaken cs words
+
+-- .. and whether no switch to another code was taken: one that was refused, or one to the code itself, is none
+unfoldable pub isSwitch : ℕ → Call → ℕ → Bool
+isSwitch code (step kind m scratchLength) word = false
+isSwitch code (switch other scratchLength) word = eqb word takenWord && not (eqb other code)
+
+unfoldable pub staysOn : ℕ → List Call → List ℕ → Bool
+staysOn code [] words = true
+staysOn code (c ∷ cs) [] = true
+staysOn code (c ∷ cs) (word ∷ words) = not (isSwitch code c word) && staysOn code cs words
+
+-- from a state allowed steps, none or more, consume all
+abbrev pub CanFinishFrom : Scenario → Channel → State → Type 0
+CanFinishFrom S c s = (more : List Step) × (isOrderFrom S c s more ≡ true) × (finished S (after S s more) ≡ true)
+
+-- What is held is the state of a run without a switch: the steps are an allowed order under the code, and point 3 speaks of it.
+pub record RunOf (S : Scenario) (code : ℕ) (ts : List Step) (h : Held) : Type 0 where
+  pub isOrder : IsOrder S (channelOf code) ts
+  pub reached : h ≡ record { state = after S start ts; code = code }
+  -- finished, stuck, or to be carried on until all is consumed, exactly if that order is
+  pub isFinished : (finished S (h .state) ≡ true) ↔ EndsFinished S (channelOf code) ts
+  pub isStuck : (stuck S (channelOf (h .code)) (h .state) ≡ true) ↔ EndsStuck S (channelOf code) ts
+  pub canFinish : CanFinishFrom S (channelOf (h .code)) (h .state) ↔ CanFinish S (channelOf code) ts
+  -- which it always can where the check says free
+  pub goesOn : verdictOf S code ≡ free → CanFinish S (channelOf code) ts
 
 -- What a call hands back: its word, the refusal's number and line where it is refused, and the monitor to go on with.
 pub record MonitorAnswer (M : Type 0) : Type 0 where
@@ -112,34 +142,38 @@ pub record MonitorAnswer (M : Type 0) : Type 0 where
   pub two : ℕ
   pub next : M
 
--- What the calls give, for monitors M whose state and code `held` reads.
-module _ {M : Type 0} (held : M → Held) where
-  -- An opening: a run at its start; refused, the monitor of all zeros.
-  pub record Opened (zero : M) (text : List ℕ) (code : ℕ) (scratch scratchExit : List ℕ) (r : MonitorAnswer M) : Type 0 where
+-- What the calls give, for monitors M: `held` reads the state and the code of one, `wordsOf` gives the one that C sees for them, bit by bit, and
+-- `zeros` the one of all zeros but for the code.
+module _ {M : Type 0} (held : M → Held) (wordsOf : Held → M) (zeros : ℕ → M) where
+  -- An opening: all zeros with the code; refused, with code 0.
+  pub record Opened (text : List ℕ) (code : ℕ) (scratch scratchExit : List ℕ) (r : MonitorAnswer M) : Type 0 where
     pub refusedWhen : (number line : ℕ) → watchable text code (length scratch) ≡ refusal number line
-        → r ≡ record { word = refusedWord; one = number; two = line; next = zero }
+        → r ≡ record { word = refusedWord; one = number; two = line; next = zeros 0 }
     pub openedWhen : (S : Scenario) → watchable text code (length scratch) ≡ ok S
-        → (r .word ≡ takenWord) × (r .one ≡ 0) × (r .two ≡ 0) × (held (r .next) ≡ fresh code) × Meets text S
+        → r ≡ record { word = takenWord; one = 0; two = 0; next = zeros code }
+    pub causalOrder : (S : Scenario) → watchable text code (length scratch) ≡ ok S → Meets text S
     pub scratchLeft : scratchExit ≡ scratchBehind (watchable text code (length scratch)) scratch
 
-  -- This answer, and the monitor handed back, are what the rules say of a call to a monitor.
-  pub record ByTheRules (S : Scenario) (m : M) (c : Call) (r : MonitorAnswer M) : Type 0 where
-    pub word : r .word ≡ wordTo S (held m) c
-    pub state : held (r .next) ≡ behind S (held m) c
+  -- This answer, and the monitor handed back, are what the rules say of a call to a monitor m that holds h.
+  pub record ByTheRules (S : Scenario) (h : Held) (m : M) (c : Call) (r : MonitorAnswer M) : Type 0 where
+    pub word : r .word ≡ wordTo S h c
+    -- the monitor is that of the state: every bit of it, those that stand for no message of the sheet too
+    pub monitor : r .next ≡ wordsOf (behind S h c)
     -- a call that is taken names no number
     pub taken : r .word ≡ takenWord → (r .one ≡ 0) × (r .two ≡ 0)
     -- a step that the rule forbids leaves the monitor as it was, bit for bit
     pub forbidden : r .word ≡ forbiddenWord → r ≡ record { word = forbiddenWord; one = 0; two = 0; next = m }
 
-  -- For any monitor and text the refusals and the scratch are claimed, and more only of a monitor that holds what some list of calls
-  -- with that text has left, from one opened under a code.
+  -- For any monitor and text the refusals and the scratch are claimed, and more only of a monitor that some list of calls with that text
+  -- has left, from one opened under a code.
   pub record Stepped (m : M) (kind message : ℕ) (text scratch scratchExit : List ℕ) (r : MonitorAnswer M) : Type 0 where
     pub refusedWhen : (number line : ℕ) → watchable text (held m .code) (length scratch) ≡ refusal number line
         → r ≡ record { word = refusedWord; one = number; two = line; next = m }
     pub refusedOnly : (S : Scenario) → watchable text (held m .code) (length scratch) ≡ ok S → r .word ≡ refusedWord → ⊥
     pub scratchLeft : scratchExit ≡ scratchBehind (watchable text (held m .code) (length scratch)) scratch
     pub byTheRules : (S : Scenario) (code : ℕ) (cs : List Call) → sheetOf text ≡ ok S → code < channels
-        → held m ≡ heldFrom S (fresh code) cs → ByTheRules S m (step kind message (length scratch)) r
+        → m ≡ wordsOf (heldFrom S (fresh code) cs)
+        → ByTheRules S (heldFrom S (fresh code) cs) m (step kind message (length scratch)) r
 
   pub record Switched (m : M) (code : ℕ) (text scratch scratchExit : List ℕ) (r : MonitorAnswer M) : Type 0 where
     pub refusedWhen : (number line : ℕ) → switchable text code (length scratch) (held m .state) ≡ refusal number line
@@ -147,32 +181,33 @@ module _ {M : Type 0} (held : M → Held) where
     pub refusedOnly : (S : Scenario) → switchable text code (length scratch) (held m .state) ≡ ok S → r .word ≡ refusedWord → ⊥
     pub scratchLeft : scratchExit ≡ scratchBehind (switchable text code (length scratch) (held m .state)) scratch
     pub byTheRules : (S : Scenario) (first : ℕ) (cs : List Call) → sheetOf text ≡ ok S → first < channels
-        → held m ≡ heldFrom S (fresh first) cs → ByTheRules S m (switch code (length scratch)) r
+        → m ≡ wordsOf (heldFrom S (fresh first) cs)
+        → ByTheRules S (heldFrom S (fresh first) cs) m (switch code (length scratch)) r
 
   -- A session: a monitor is opened with a text and a code, and then called with that same text, each time as the last call left it. The
   -- calls, and the words that they answered.
-  pub data Session (zero : M) (text : List ℕ) (code : ℕ) : List Call → List ℕ → M → Type 0 where
-    opening : {scratch scratchExit : List ℕ} {r : MonitorAnswer M} → Opened zero text code scratch scratchExit r → r .word ≡ takenWord
-        → Session zero text code [] [] (r .next)
+  pub data Session (text : List ℕ) (code : ℕ) : List Call → List ℕ → M → Type 0 where
+    opening : {scratch scratchExit : List ℕ} {r : MonitorAnswer M} → Opened text code scratch scratchExit r → r .word ≡ takenWord
+        → Session text code [] [] (r .next)
     stepping : {cs : List Call} {words : List ℕ} {m : M} {kind message : ℕ} {scratch scratchExit : List ℕ} {r : MonitorAnswer M}
-        → Session zero text code cs words m → Stepped m kind message text scratch scratchExit r
-        → Session zero text code (cs ++ (step kind message (length scratch) ∷ [])) (words ++ (r .word ∷ [])) (r .next)
+        → Session text code cs words m → Stepped m kind message text scratch scratchExit r
+        → Session text code (cs ++ (step kind message (length scratch) ∷ [])) (words ++ (r .word ∷ [])) (r .next)
     switching : {cs : List Call} {words : List ℕ} {m : M} {to : ℕ} {scratch scratchExit : List ℕ} {r : MonitorAnswer M}
-        → Session zero text code cs words m → Switched m to text scratch scratchExit r
-        → Session zero text code (cs ++ (switch to (length scratch) ∷ [])) (words ++ (r .word ∷ [])) (r .next)
+        → Session text code cs words m → Switched m to text scratch scratchExit r
+        → Session text code (cs ++ (switch to (length scratch) ∷ [])) (words ++ (r .word ∷ [])) (r .next)
 
   -- What is so of whole lists of calls.
   pub record WholeList (text : List ℕ) (code : ℕ) (S : Scenario) (cs : List Call) (words : List ℕ) (m : M) : Type 0 where
     pub isSheet : sheetOf text ≡ ok S
     pub causalOrder : Meets text S
-    -- the state held is that of the step rules, each step under the code in force, and so are the answers
+    -- the state held is that of the step rules, each step under the code in force, bit by bit, and so are the answers
     pub state : held m ≡ heldFrom S (fresh code) cs
+    pub monitor : m ≡ wordsOf (heldFrom S (fresh code) cs)
     pub answers : words ≡ wordsFrom S (fresh code) cs
-    -- without a switch it is that of an allowed order under that code, of which point 3 speaks
-    pub anOrder : stepsOnly cs ≡ true
-        → (ts : List Step) × IsOrder S (channelOf code) ts × (held m ≡ record { state = after S start ts; code = code })
+    -- where no switch to another code was taken, it is that of the steps answered "taken", an allowed order under that code
+    pub anOrder : staysOn code cs words ≡ true → RunOf S code (stepsTaken cs words) (held m)
 
 -- One theorem, of every list of steps and switches from an opened monitor with that same text.
-abbrev pub WholeLists : {M : Type 0} → (M → Held) → M → Type 0
-WholeLists {M} held zero = (text : List ℕ) (code : ℕ) (cs : List Call) (words : List ℕ) (m : M)
-    → Session held zero text code cs words m → (S : Scenario) × WholeList held text code S cs words m
+abbrev pub WholeLists : {M : Type 0} → (M → Held) → (Held → M) → (ℕ → M) → Type 0
+WholeLists {M} held wordsOf zeros = (text : List ℕ) (code : ℕ) (cs : List Call) (words : List ℕ) (m : M)
+    → Session held wordsOf zeros text code cs words m → (S : Scenario) × WholeList held wordsOf zeros text code S cs words m

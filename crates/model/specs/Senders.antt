@@ -9,7 +9,7 @@ use mathlib.Core.Option.{Option, none, some}
 use lib.Dec.{eqb, leb, ltb}
 use lib.ListN.{length, getD}
 use Rattle.model.specs.Limits.{textMost, boards, channels, scratchLeast, traceLeast, rulesMost, setMost, verdictMost, pairs}
-use Rattle.model.specs.Bounded.{every, lowest, same}
+use Rattle.model.specs.Bounded.{lowest, same}
 use Rattle.model.specs.Refusal.{Out, ok, refusal, andThen, channelRefusal, benchRefusal, lengthRefusal, senderTableRefusal, forbiddenRefusal}
 use Rattle.model.specs.Text.{ascii, Line, linesOf, fieldsOf, numberUpTo}
 use Rattle.model.specs.Rows.{Row, sheet, message, order, block, call, choice}
@@ -181,9 +181,15 @@ pub record TableJudged (table : List ℕ) (r : Numbers) : Type 0 where
   -- refused exactly if the table is malformed, with its first bad line
   pub refusedWhen : (r .word ≡ tableRefusedWord) ↔ (rulesOf table ≡ refusal senderTableRefusal (r .two))
 
--- The sheet check with a table. A table is sound if no pair is faulty; an unsound one is refused, 18, without a line.
+-- The sheet check with a table: one that is not judged sound is refused, 18, without a line.
+unfoldable pub soundBy : Soundness → List Rule → Out (List Rule)
+soundBy sound rules = ok rules
+soundBy (gap pair) rules = refusal senderTableRefusal 0
+soundBy (clash pair a b) rules = refusal senderTableRefusal 0
+soundBy (malformed number line) rules = refusal number line
+
 unfoldable pub soundRules : List Rule → Out (List Rule)
-soundRules rules = cond (every pairs (λ pair. not (isFaulty rules pair))) (ok rules) (refusal senderTableRefusal 0)
+soundRules rules = soundBy (soundnessOf rules) rules
 
 unfoldable pub soundTable : List ℕ → Out (List Rule)
 soundTable table = andThen (rulesOf table) soundRules
@@ -233,10 +239,11 @@ permittedOf text code scratchLength traceLength table =
     (refusal lengthRefusal 0)))
     (refusal channelRefusal 0)
 
--- The line is that of a row `M a b` of the text, row i.
-pub record MessageRow (text : List ℕ) (line a b : ℕ) : Type 0 where
+-- The line is that of message m's own row, the row of the text at which the walk meets m: a row `M a b`, row i.
+pub record MessageRow (text : List ℕ) (m line a b : ℕ) : Type 0 where
   pub file : List Row
   pub read : readOf text ≡ ok file
+  pub own : line ≡ getD (linesMet text) m 0
   pub row : ℕ
   pub atLine : line ≡ lineOf row
   pub isMessage : getD file row block ≡ message a b
@@ -255,14 +262,19 @@ pub record PermittedCheck (text : List ℕ) (code : ℕ) (scratch scratchExit tr
   -- a sheet that no refusal applies to, 18 and 19 among them, is accepted by the check too, and has point 3
   pub accepted : (S : Scenario) → permittedOf text code (length scratch) (length trace) table ≡ ok S
       → (acceptedOf text code (length scratch) (length trace) ≡ ok S) × Meets text S × Verdict S code r traceExit
+  -- a table is sound exactly if it is well formed and each of the 256 pairs is in exactly one rule
+  pub soundWhen : (rules : List Rule) → (soundTable table ≡ ok rules) ↔ ((rulesOf table ≡ ok rules) × ((pair : ℕ) → pair < pairs → InOne rules pair))
+  -- the sender and the receiver of a message are in exactly one of its rules, and the message is forbidden unless that rule says 1
+  pub byItsRule : (rules : List Rule) (S : Scenario) (m : ℕ) → soundTable table ≡ ok rules → sheetOf text ≡ ok S
+      → (o : InOne rules (pairOf (S .source m) (S .target m))) × ((isForbidden rules S m ≡ false) ↔ ((getD rules (o .rule) noRule) .verdict ≡ 1))
   -- with a sound table the outcome is the check's, unless a message met by the walk is forbidden
   pub asTheCheck : (rules : List Rule) → soundTable table ≡ ok rules
       → ((S : Scenario) → sheetOf text ≡ ok S → (m : ℕ) → m < S .count → isForbidden rules S m ≡ false)
       → permittedOf text code (length scratch) (length trace) table ≡ acceptedOf text code (length scratch) (length trace)
-  -- and then it is 19 for the first, with the line of its M row
+  -- and then it is 19 for the first, with the line of its own M row
   pub forbidden : (rules : List Rule) (S : Scenario) (m : ℕ) → soundTable table ≡ ok rules
       → acceptedOf text code (length scratch) (length trace) ≡ ok S → FirstForbidden rules S m
-      → (r ≡ numbersOf (refused forbiddenRefusal (r .two))) × MessageRow text (r .two) (S .source m) (S .target m)
+      → (r ≡ numbersOf (refused forbiddenRefusal (r .two))) × MessageRow text m (r .two) (S .source m) (S .target m)
   -- a table that is malformed or unsound is refused, 18, behind 1 to 3 and whatever the sheet: with the first bad line, 0 for its length or an
   -- unsound one
   pub unsound : (line : ℕ) → soundTable table ≡ refusal senderTableRefusal line → code < channels → scratchLeast ≤ length scratch → traceLeast ≤ length trace

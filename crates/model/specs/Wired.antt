@@ -13,8 +13,8 @@ use Rattle.model.specs.Rows.{Row}
 use Rattle.model.specs.Order.{Event, sendOf, receiveOf, number, messageOf, Scenario}
 use Rattle.model.specs.Channel.{channelOf}
 use Rattle.model.specs.Run.{Step, send, deliver, consume, EndsFinished}
-use Rattle.model.specs.Answer.{Numbers, freeWord, lockedWord, expandedWith, acceptedOf, answerOf, numbersOf}
-use Rattle.model.specs.Verdict.{Meets}
+use Rattle.model.specs.Answer.{Numbers, freeWord, lockedWord, expandedWith, exchangeWith, acceptedOf, answerOf, numbersOf}
+use Rattle.model.specs.Verdict.{IsMet, Meets}
 use Rattle.model.specs.Choice.{Ahead, ChoiceAnswer, firstLocked, choosable, choiceAnswerOf, ChoiceNumbers, choiceNumbers, firstFour}
 
 -- the wired models: FIFO, synchronous and token ring
@@ -115,5 +115,7 @@ pub record FinishedRuns (text : List ℕ) (code scratchLength traceLength : ℕ)
   pub finishedRun : (S : Scenario) → acceptedOf text code scratchLength traceLength ≡ ok S
       → (ts : List Step) → EndsFinished S (channelOf code) ts → Rearranged S ts
   -- and so on any list of options of a file with A rows
+  pub orderOnList : (file : List Row) (l : List Bool) (S : Scenario) → choosable text code scratchLength traceLength ≡ ok file
+      → expandedWith l file ≡ ok S → IsMet (exchangeWith l file) S
   pub finishedOnList : (file : List Row) (l : List Bool) (S : Scenario) → choosable text code scratchLength traceLength ≡ ok file
       → expandedWith l file ≡ ok S → (ts : List Step) → EndsFinished S (channelOf code) ts → Rearranged S ts

@@ -10,11 +10,12 @@ use Rattle.model.specs.Refusal.{Out, switchRefusal}
 use Rattle.model.specs.Place.{lineOf}
 use Rattle.model.specs.Order.{Scenario}
 use Rattle.model.specs.Channel.{channelOf}
-use Rattle.model.specs.Run.{start, next, allowed}
+use Rattle.model.specs.Run.{next, allowed}
 use Rattle.model.specs.Answer.{sheetOf}
 use Rattle.model.specs.Monitor as model
 use Rattle.model.specs.Monitor.{isBarred, mayTake, taking}
 use Rattle.model.proofs.Lines.{Well, sheet-well}
+use Rattle.model.proofs.Bounded.{not-both}
 use Rattle.relation.specs.Width.{width}
 use Rattle.relation.specs.Scenario.{scenarioIn}
 use Rattle.expansion.specs.declared.Expanded.{Expanded}
@@ -29,13 +30,15 @@ use Rattle.step.specs.declared.StepOrNone.{StepOrNone}
 use Rattle.step.specs.declared.StepOrNone.the-variants as told
 use Rattle.step.specs.Steps.{stepIn, stepOrNone}
 use Rattle.run.specs.declared.Run.{Run}
-use Rattle.run.specs.State.{stateOf, Reaches}
+use Rattle.run.specs.State.{stateOf, runOf, OnlySends, startRun, Reaches}
 use Rattle.run.proofs.States.{reaches}
-use Rattle.next_state.specs.Behind.{Follows}
-use Rattle.channel.proofs.StepTests.{allowed-inside}
+use Rattle.run.proofs.Typed.{Typed}
+use Rattle.run.proofs.Written.{run-back}
+use Rattle.next_state.specs.Behind.{NextRun}
+use Rattle.model.proofs.Rules.{allowed-inside}
 use Rattle.step_rules.specs.Steps.{Says}
 use Rattle.monitor.specs.declared.Monitor.{Monitor}
-use Rattle.monitor.specs.Bridge.{heldIn, zeros, refusedAs, forbiddenAs, takenAs, Fresh, Begins, Takes, Steps, Switches}
+use Rattle.monitor.specs.Bridge.{heldIn, monitorOf, zeros, refusedAs, forbiddenAs, takenAs, Begins, Takes, Steps, Switches}
 
 abbrev Reply : Type 0
 Reply = model.MonitorAnswer Monitor
@@ -47,7 +50,7 @@ module _ (text boards words : List ℕ) (v : Expanded) (p : SheetIn text boards 
       let w = subst (λ (o : Out Scenario). Well (lineOf rowsMost) o) (sheet-refused text boards words v p number line i) (sheet-well text) in
       omega (arith, w .within)
 
-  pub begin-refused : (number line code : ℕ) (m : Monitor) (r : Reply) → v ≡ expanded.Refused number line → m ≡ zeros → r ≡ refusedAs number line m
+  pub begin-refused : (number line code : ℕ) (m : Monitor) (r : Reply) → v ≡ expanded.Refused number line → m ≡ zeros 0 → r ≡ refusedAs number line m
       → Begins (sheetOf text) code r
   begin-refused number line code m r i z e =
       subst⁻¹ (λ (o : Out Scenario). Begins o code r) (sheet-refused text boards words v p number line i) (e ∙ ap (refusedAs number line) z)
@@ -63,11 +66,8 @@ module _ (text boards words : List ℕ) (v : Expanded) (p : SheetIn text boards 
       subst⁻¹ (λ (o : Out Scenario). Switches o m code r) (sheet-refused text boards words v p number line i) e
 
   module _ (count : ℕ) (i : v ≡ expanded.Messages count) where
-    pub begun : (code : ℕ) (run : Run) (r : Reply) → stateOf run ≡ start → r ≡ takenAs run code → Begins (sheetOf text) code r
-    begun code run r s e =
-        let opened : Fresh code (takenAs run code)
-        = record { word = refl; one = refl; two = refl; state = ap (λ q. record { state = q; code = code }) s } in
-        subst⁻¹ (λ (o : Out Scenario). Begins o code r) (sheet-is text boards words v p count i) (subst⁻¹ (Fresh code) e opened)
+    pub begun : (code : ℕ) (run : Run) (r : Reply) → run ≡ startRun → r ≡ takenAs run code → Begins (sheetOf text) code r
+    begun code run r z e = subst⁻¹ (λ (o : Out Scenario). Begins o code r) (sheet-is text boards words v p count i) (e ∙ ap (λ (q : Run). takenAs q code) z)
 
     pub stepped : (m : Monitor) (t : StepOrNone) (r : Reply) → Takes (scenarioIn count boards words) m (stepOrNone t) r
         → Steps (sheetOf text) m (stepOrNone t) r
@@ -91,7 +91,7 @@ module _ (count : ℕ) (on words : List ℕ) (m : Monitor) (t : StepOrNone) (r :
   S = scenarioIn count on words
 
   forbid : mayTake S (heldIn m) (stepOrNone t) ≡ false → r ≡ forbiddenAs m → Takes S m (stepOrNone t) r
-  forbid f e = record { taken = λ y. let z : true ≡ false = sym y ∙ f in let y : _≡_ {A = ℕ} 0 1 = cc in absurd (omega arith); forbidden = λ n. e }
+  forbid f e = record { taken = λ y. not-both (mayTake S (heldIn m) (stepOrNone t)) y f; monitor = λ y. not-both (mayTake S (heldIn m) (stepOrNone t)) y f; forbidden = λ n. e }
 
   pub none-told : t ≡ told.Nothing → r ≡ forbiddenAs m → Takes S m (stepOrNone t) r
   unfolding mayTake
@@ -108,15 +108,19 @@ module _ (count : ℕ) (on words : List ℕ) (m : Monitor) (t : StepOrNone) (r :
     pub step-forbidden : b ≡ false → r ≡ forbiddenAs m → Takes S m (stepOrNone t) r
     step-forbidden f e = forbid (may ∙ f) e
 
-    pub step-taken : (run : Run) → b ≡ true → Follows on (m .run) (stepIn s) run → r ≡ takenAs run (m .code) → Takes S m (stepOrNone t) r
+    pub step-taken : (run : Run) → b ≡ true → NextRun on (m .run) (stepIn s) run → Typed run → r ≡ takenAs run (m .code)
+        → Takes S m (stepOrNone t) r
     unfolding taking
-    step-taken run n follows e =
-        let here : _≡_ {A = model.Held} (record { state = stateOf run; code = m .code }) (taking S (heldIn m) (stepOrNone t))
-        = ap (λ q. record { state = q; code = m .code }) (follows count words)
-        ∙ ap (λ (u : StepOrNone). taking S (heldIn m) (stepOrNone u)) (sym i) in
+    step-taken run n follows typed e =
+        let told : taking S (heldIn m) (stepOrNone t) ≡ record { state = next S (stateOf (m .run)) (stepIn s); code = m .code }
+        = ap (λ (u : StepOrNone). taking S (heldIn m) (stepOrNone u)) i in
+        let words : OnlySends (m .run) → run ≡ runOf (next S (stateOf (m .run)) (stepIn s))
+        = λ only. run-back run typed (follows .sends only) ∙ ap runOf (follows .state count words) in
         record {
-          taken = λ y. (ap (λ (a : Reply). a .word) e, ap (λ (a : Reply). a .one) e, ap (λ (a : Reply). a .two) e, ap (λ (a : Reply). heldIn (a .next)) e ∙ here);
-          forbidden = λ f. let z : true ≡ false = sym (may ∙ n) ∙ f in let y : _≡_ {A = ℕ} 0 1 = cc in absurd (omega arith);
+          taken = λ y. (ap (λ (a : Reply). a .word) e, ap (λ (a : Reply). a .one) e, ap (λ (a : Reply). a .two) e);
+          monitor = λ y only.
+              ap (λ (a : Reply). a .next) e ∙ ap (λ (q : Run). record { run = q; code = m .code }) (words only) ∙ ap monitorOf (sym told);
+          forbidden = λ f. not-both true (sym (may ∙ n) ∙ may ∙ n) (sym (may ∙ n) ∙ f);
         }
 
 -- the masks beside what the way to the scenario handed on

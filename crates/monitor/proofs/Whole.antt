@@ -11,19 +11,22 @@ use Rattle.model.specs.Limits.{channels, scratchLeast}
 use Rattle.model.specs.Refusal.{Out, ok, refusal, channelRefusal, benchRefusal, switchRefusal}
 use Rattle.model.specs.Order.{Scenario}
 use Rattle.model.specs.Run as runs
+use Rattle.model.specs.Run.{State}
 use Rattle.model.specs.Schedule.{stepTold}
 use Rattle.model.specs.Answer.{sheetOf, scratchBehind}
 use Rattle.model.specs.Monitor as model
-use Rattle.model.specs.Monitor.{Held, takenWord, forbiddenWord, refusedWord, watchable, switchable, isBarred, Call, mayTake, taking, wordTo, leaving, behind, fresh, Opened, ByTheRules, Stepped, Switched, WholeLists}
+use Rattle.model.specs.Monitor.{Held, takenWord, forbiddenWord, refusedWord, watchable, switchable, isBarred, Call, mayTake, taking, wordTo, leaving, behind, heldFrom, fresh, Opened, ByTheRules, Stepped, Switched, WholeLists}
 use Rattle.model.proofs.Refusal.{not-refused}
 use Rattle.model.proofs.Accepted.{sheet-meets}
-use Rattle.model.proofs.Monitor.{held-code, whole-lists}
+use Rattle.model.proofs.Monitor.{Inside, list-inside, held-code, whole-lists}
 use Rattle.relation.specs.Rows.{cleared}
 use Rattle.relation.proofs.Cleared.{cleared-all}
 use Rattle.scenario.proofs.Laws.{scratch-behind}
-use Rattle.run.specs.State.{stateOf}
+use Rattle.run.specs.declared.Run.{Run}
+use Rattle.run.specs.State.{stateOf, OnlySends}
+use Rattle.run.proofs.Written.{start-zeros, state-back, only-sends}
 use Rattle.monitor.specs.declared.Monitor.{Monitor}
-use Rattle.monitor.specs.Bridge.{heldIn, zeros, refusedAs, Begins, Takes, Steps, Made, Switches}
+use Rattle.monitor.specs.Bridge.{heldIn, monitorOf, zeros, refusedAs, Begins, Takes, Steps, Made, Switches}
 
 abbrev Reply : Type 0
 Reply = model.MonitorAnswer Monitor
@@ -58,20 +61,41 @@ untouched : (number : ℕ) (words : List ℕ) (o : Out Scenario) → number ≤ 
 unfolding scratchBehind
 untouched number words o l e = sym (rw (e, le-leb number benchRefusal l))
 
+-- what is held inside the limits is read back, and the monitor opened is that of the fresh state
+read-back : (h : Held) → Inside h → heldIn (monitorOf h) ≡ h
+read-back h i = ap (λ (s : State). record { state = s; code = h .code }) (state-back (h .state) (i .done) (i .way) (i .boardsHold))
+
+all-lists : WholeLists heldIn monitorOf zeros
+all-lists = whole-lists heldIn monitorOf zeros (λ code. ap (λ (q : Run). record { run = q; code = code }) (sym start-zeros)) read-back
+
+-- What is known of a monitor that some list of calls has left: what it holds, that its words are those, and that none has a bit of a receive.
+record Left (m : Monitor) (h : Held) : Type 0 where
+  holds : heldIn m ≡ h
+  written : m ≡ monitorOf (heldIn m)
+  sends : OnlySends (m .run)
+
+left-by : (m : Monitor) (text : List ℕ) (S : Scenario) → sheetOf text ≡ ok S → (code : ℕ) (cs : List Call) → m ≡ monitorOf (heldFrom S (fresh code) cs)
+    → Left m (heldFrom S (fresh code) cs)
+left-by m text S e code cs i =
+    let h = heldFrom S (fresh code) cs in
+    let same : heldIn m ≡ h = ap heldIn i ∙ read-back h (list-inside text S e code cs) in
+    record { holds = same; written = i ∙ ap monitorOf (sym same); sends = subst⁻¹ (λ (q : Monitor). OnlySends (q .run)) i (only-sends (h .state)) }
+
 -- ---- opening
 
-module _ (text : List ℕ) (code : ℕ) (scratch : List ℕ) (m : Monitor) (r : Reply) (z : m ≡ zeros) where
+module _ (text : List ℕ) (code : ℕ) (scratch : List ℕ) (m : Monitor) (r : Reply) (z : m ≡ zeros 0) where
   abbrev Promise : List ℕ → Type 0
-  Promise scratchExit = Opened heldIn zeros text code scratch scratchExit r × WholeLists heldIn zeros
+  Promise scratchExit = Opened heldIn monitorOf zeros text code scratch scratchExit r × WholeLists heldIn monitorOf zeros
 
   refuses : (number : ℕ) → watchable text code (length scratch) ≡ refusal number 0 → r ≡ refusedAs number 0 m → number ≤ benchRefusal → Promise scratch
   refuses number w e l = (
     record {
-      refusedWhen = λ n k i. same-refusal number 0 n k zeros r (e ∙ ap (refusedAs number 0) z) (sym w ∙ i);
+      refusedWhen = λ n k i. same-refusal number 0 n k (zeros 0) r (e ∙ ap (refusedAs number 0) z) (sym w ∙ i);
       openedWhen = λ S i. not-refused (sym w ∙ i);
+      causalOrder = λ S i. not-refused (sym w ∙ i);
       scratchLeft = untouched number scratch (watchable text code (length scratch)) l w;
     },
-    whole-lists heldIn zeros,
+    all-lists,
   )
 
   pub open-unknown : channels ≤ code → r ≡ refusedAs channelRefusal 0 m → Promise scratch
@@ -82,17 +106,18 @@ module _ (text : List ℕ) (code : ℕ) (scratch : List ℕ) (m : Monitor) (r : 
 
 pub opens : (text : List ℕ) (code : ℕ) (scratch scratchExit used : List ℕ) (n : ℕ) (r : Reply) (k : ℕ) → code < channels → scratchLeast ≤ length scratch
     → length used ≡ n → n ≤ scratchLeast → scratchExit ≡ cleared k (used ++ drop n scratch) → k ≡ scratchLeast → Begins (sheetOf text) code r
-    → Opened heldIn zeros text code scratch scratchExit r × WholeLists heldIn zeros
+    → Opened heldIn monitorOf zeros text code scratch scratchExit r × WholeLists heldIn monitorOf zeros
 opens text code scratch scratchExit used n r k h l e m s all b =
     let w = lent text code (length scratch) h l in
     let at : (o : Out Scenario) → watchable text code (length scratch) ≡ o → Begins o code r
     = λ o i. subst (λ (q : Out Scenario). Begins q code r) (sym w ∙ i) b in (
       record {
         refusedWhen = λ number line i. at (refusal number line) i;
-        openedWhen = λ S i. let f = at (ok S) i in (f .word, f .one, f .two, f .state, sheet-meets text S (sym w ∙ i));
+        openedWhen = λ S i. at (ok S) i;
+        causalOrder = λ S i. sheet-meets text S (sym w ∙ i);
         scratchLeft = cleared-all scratchLeast k (used ++ drop n scratch) scratchExit s all ∙ scratch-behind text scratch used n e m ∙ ap (λ (o : Out Scenario). scratchBehind o scratch) (sym w);
       },
-      whole-lists heldIn zeros,
+      all-lists,
     )
 
 -- ---- a step
@@ -102,7 +127,7 @@ module _ (m : Monitor) (kind message : ℕ) (text scratch : List ℕ) (r : Reply
   asked = model.step kind message (length scratch)
 
   abbrev StepPromise : List ℕ → Type 0
-  StepPromise scratchExit = Stepped heldIn m kind message text scratch scratchExit r × WholeLists heldIn zeros
+  StepPromise scratchExit = Stepped heldIn monitorOf zeros m kind message text scratch scratchExit r × WholeLists heldIn monitorOf zeros
 
   step-refuses : (number : ℕ) → watchable text (m .code) (length scratch) ≡ refusal number 0 → r ≡ refusedAs number 0 m → number ≤ benchRefusal
       → ((S : Scenario) → m .code < channels → refusedWord ≡ wordTo S (heldIn m) asked) → StepPromise scratch
@@ -112,17 +137,20 @@ module _ (m : Monitor) (kind message : ℕ) (text scratch : List ℕ) (r : Reply
       refusedWhen = λ n k i. same-refusal number 0 n k m r e (sym w ∙ i);
       refusedOnly = λ S i u. not-refused (sym w ∙ i);
       scratchLeft = untouched number scratch (watchable text (m .code) (length scratch)) l w;
-      byTheRules = λ S code cs isSheet known held.
-          let inForce : m .code < channels = subst⁻¹ (λ (h : Held). h .code < channels) held (held-code S cs (fresh code) known) in
+      byTheRules = λ S code cs isSheet known left.
+          let l = left-by m text S isSheet code cs left in
+          let inForce : m .code < channels = subst⁻¹ (λ (h : Held). h .code < channels) (l .holds) (held-code S cs (fresh code) known) in
           let two = word S inForce in
-          record {
+          let same : behind S (heldIn m) asked ≡ heldIn m = rw (← two) in
+          subst (λ (h : Held). ByTheRules heldIn monitorOf zeros S h m asked r) (l .holds)
+          (record {
             word = ap (λ (a : Reply). a .word) e ∙ two;
-            state = ap (λ (a : Reply). heldIn (a .next)) e ∙ sym (rw (← two));
+            monitor = ap (λ (a : Reply). a .next) e ∙ l .written ∙ ap monitorOf (sym same);
             taken = λ f. let one : refusedWord ≡ takenWord = sym (ap (λ (a : Reply). a .word) e) ∙ f in absurd (omega (arith, one));
             forbidden = λ f. let one : refusedWord ≡ forbiddenWord = sym (ap (λ (a : Reply). a .word) e) ∙ f in absurd (omega (arith, one));
-          };
+          });
     },
-    whole-lists heldIn zeros,
+    all-lists,
   )
 
   pub step-unknown : channels ≤ m .code → r ≡ refusedAs channelRefusal 0 m → StepPromise scratch
@@ -149,16 +177,16 @@ module _ (m : Monitor) (kind message : ℕ) (text scratch : List ℕ) (r : Reply
   behind-same S w = rw w
 
   step-rules : (S : Scenario) (told : Option runs.Step) → told ≡ stepTold kind message → scratchLeast ≤ length scratch → Takes S m told r
-      → ByTheRules heldIn S m asked r
-  step-rules S told t l h = go (mayTake S (heldIn m) told) refl
+      → m ≡ monitorOf (heldIn m) → OnlySends (m .run) → ByTheRules heldIn monitorOf zeros S (heldIn m) m asked r
+  step-rules S told t l h written only = go (mayTake S (heldIn m) told) refl
     where
-      go : (b : Bool) → mayTake S (heldIn m) told ≡ b → ByTheRules heldIn S m asked r
+      go : (b : Bool) → mayTake S (heldIn m) told ≡ b → ByTheRules heldIn monitorOf zeros S (heldIn m) m asked r
       go true e =
           let w = word-is S told true t l e in
           let q = h .taken e in
           record {
             word = q .0 ∙ sym w;
-            state = q .3 ∙ ap (taking S (heldIn m)) t ∙ sym (behind-taken S w);
+            monitor = h .monitor e only ∙ ap (λ told. monitorOf (taking S (heldIn m) told)) t ∙ ap monitorOf (sym (behind-taken S w));
             taken = λ f. (q .1, q .2);
             forbidden = λ f. let z : takenWord ≡ forbiddenWord = sym (q .0) ∙ f in absurd (omega (arith, z));
           }
@@ -167,7 +195,7 @@ module _ (m : Monitor) (kind message : ℕ) (text scratch : List ℕ) (r : Reply
           let q = h .forbidden e in
           record {
             word = ap (λ (a : Reply). a .word) q ∙ sym w;
-            state = ap (λ (a : Reply). heldIn (a .next)) q ∙ sym (behind-same S w);
+            monitor = ap (λ (a : Reply). a .next) q ∙ written ∙ ap monitorOf (sym (behind-same S w));
             taken = λ f. let z : forbiddenWord ≡ takenWord = sym (ap (λ (a : Reply). a .word) q) ∙ f in absurd (omega (arith, z));
             forbidden = λ f. q;
           }
@@ -188,9 +216,12 @@ module _ (m : Monitor) (kind message : ℕ) (text scratch : List ℕ) (r : Reply
           refusedWhen = λ number line i. subst (λ (o : Out Scenario). Steps o m told r) (sym w ∙ i) b;
           refusedOnly = λ S i. step-unrefused S told (subst (λ (o : Out Scenario). Steps o m told r) (sym w ∙ i) b);
           scratchLeft = cleared-all scratchLeast k (used ++ drop n scratch) scratchExit s all ∙ scratch-behind text scratch used n e f ∙ ap (λ (o : Out Scenario). scratchBehind o scratch) (sym w);
-          byTheRules = λ S code cs isSheet known held. step-rules S told t l (subst (λ (o : Out Scenario). Steps o m told r) isSheet b);
+          byTheRules = λ S code cs isSheet known left.
+              let known = left-by m text S isSheet code cs left in
+              subst (λ (h : Held). ByTheRules heldIn monitorOf zeros S h m asked r) (known .holds)
+              (step-rules S told t l (subst (λ (o : Out Scenario). Steps o m told r) isSheet b) (known .written) (known .sends));
         },
-        whole-lists heldIn zeros,
+        all-lists,
       )
 
 -- ---- a switch
@@ -200,15 +231,17 @@ module _ (m : Monitor) (code : ℕ) (text scratch : List ℕ) (r : Reply) where
   wanted = model.switch code (length scratch)
 
   abbrev SwitchPromise : List ℕ → Type 0
-  SwitchPromise scratchExit = Switched heldIn m code text scratch scratchExit r × WholeLists heldIn zeros
+  SwitchPromise scratchExit = Switched heldIn monitorOf zeros m code text scratch scratchExit r × WholeLists heldIn monitorOf zeros
 
   -- a switch that is refused changes nothing
-  stays : (S : Scenario) → refusedWord ≡ wordTo S (heldIn m) wanted → (number : ℕ) → r ≡ refusedAs number 0 m → ByTheRules heldIn S m wanted r
+  stays : (S : Scenario) → refusedWord ≡ wordTo S (heldIn m) wanted → (number : ℕ) → r ≡ refusedAs number 0 m → m ≡ monitorOf (heldIn m)
+      → ByTheRules heldIn monitorOf zeros S (heldIn m) m wanted r
   unfolding behind
-  stays S two number e =
+  stays S two number e written =
+      let same : behind S (heldIn m) wanted ≡ heldIn m = rw (← two) in
       record {
         word = ap (λ (a : Reply). a .word) e ∙ two;
-        state = ap (λ (a : Reply). heldIn (a .next)) e ∙ sym (rw (← two));
+        monitor = ap (λ (a : Reply). a .next) e ∙ written ∙ ap monitorOf (sym same);
         taken = λ f. let one : refusedWord ≡ takenWord = sym (ap (λ (a : Reply). a .word) e) ∙ f in absurd (omega (arith, one));
         forbidden = λ f. let one : refusedWord ≡ forbiddenWord = sym (ap (λ (a : Reply). a .word) e) ∙ f in absurd (omega (arith, one));
       }
@@ -230,9 +263,11 @@ module _ (m : Monitor) (code : ℕ) (text scratch : List ℕ) (r : Reply) where
       refusedWhen = λ n k i. same-refusal number 0 n k m r e (sym (first number w) ∙ i);
       refusedOnly = λ S i u. not-refused (sym (first number w) ∙ i);
       scratchLeft = untouched number scratch (switchable text code (length scratch) (stateOf (m .run))) l (first number w);
-      byTheRules = λ S code cs isSheet known held. stays S (word S) number e;
+      byTheRules = λ S opened cs isSheet known left.
+          let l = left-by m text S isSheet opened cs left in
+          subst (λ (h : Held). ByTheRules heldIn monitorOf zeros S h m wanted r) (l .holds) (stays S (word S) number e (l .written));
     },
-    whole-lists heldIn zeros,
+    all-lists,
   )
 
   pub switch-unknown : channels ≤ code → r ≡ refusedAs channelRefusal 0 m → SwitchPromise scratch
@@ -256,17 +291,18 @@ module _ (m : Monitor) (code : ℕ) (text scratch : List ℕ) (r : Reply) where
   unfolding behind leaving
   passes S w = rw w
 
-  switch-rules : (S : Scenario) → code < channels → scratchLeast ≤ length scratch → Made m code r → ByTheRules heldIn S m wanted r
-  switch-rules S h l p = go (isBarred code (stateOf (m .run))) refl
+  switch-rules : (S : Scenario) → code < channels → scratchLeast ≤ length scratch → Made m code r → m ≡ monitorOf (heldIn m)
+      → ByTheRules heldIn monitorOf zeros S (heldIn m) m wanted r
+  switch-rules S h l p written = go (isBarred code (stateOf (m .run))) refl
     where
-      go : (b : Bool) → isBarred code (stateOf (m .run)) ≡ b → ByTheRules heldIn S m wanted r
-      go true e = stays S (sym (switch-word S true h l e)) switchRefusal (p .barred e)
+      go : (b : Bool) → isBarred code (stateOf (m .run)) ≡ b → ByTheRules heldIn monitorOf zeros S (heldIn m) m wanted r
+      go true e = stays S (sym (switch-word S true h l e)) switchRefusal (p .barred e) written
       go false e =
           let w = switch-word S false h l e in
           let q = p .made e in
           record {
             word = ap (λ (a : Reply). a .word) q ∙ sym w;
-            state = ap (λ (a : Reply). heldIn (a .next)) q ∙ sym (passes S w);
+            monitor = ap (λ (a : Reply). a .next) q ∙ ap (λ (n : Monitor). record { run = n .run; code = code }) written ∙ ap monitorOf (sym (passes S w));
             taken = λ f. (ap (λ (a : Reply). a .one) q, ap (λ (a : Reply). a .two) q);
             forbidden = λ f. let z : takenWord ≡ forbiddenWord = sym (ap (λ (a : Reply). a .word) q) ∙ f in absurd (omega (arith, z));
           }
@@ -312,7 +348,10 @@ module _ (m : Monitor) (code : ℕ) (text scratch : List ℕ) (r : Reply) where
           refusedWhen = λ number line i. judged-refused (sheetOf text) number line b (sym w ∙ i);
           refusedOnly = λ S i. judged-unrefused (sheetOf text) S b (sym w ∙ i);
           scratchLeft = cleared-all scratchLeast k (used ++ drop n scratch) scratchExit s all ∙ scratch-behind text scratch used n e f ∙ same-scratch (sheetOf text) ∙ ap (λ (o : Out Scenario). scratchBehind o scratch) (sym w);
-          byTheRules = λ S opened cs isSheet known held. switch-rules S h l (subst (λ (o : Out Scenario). Switches o m code r) isSheet b);
+          byTheRules = λ S opened cs isSheet known left.
+              let known = left-by m text S isSheet opened cs left in
+              subst (λ (q : Held). ByTheRules heldIn monitorOf zeros S q m wanted r) (known .holds)
+              (switch-rules S h l (subst (λ (o : Out Scenario). Switches o m code r) isSheet b) (known .written));
         },
-        whole-lists heldIn zeros,
+        all-lists,
       )

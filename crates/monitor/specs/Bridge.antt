@@ -3,29 +3,26 @@ use mathlib.Core.Path.{_≡_}
 use mathlib.Core.Bool.{true, false}
 use mathlib.Core.Option.{Option}
 use Prim.Native.Nat.{ℕ}
-use lib.ListN.{replicate}
-use Rattle.model.specs.Limits.{boards}
 use Rattle.model.specs.Refusal.{Out, ok, refusal, switchRefusal}
 use Rattle.model.specs.Order.{Scenario}
 use Rattle.model.specs.Run as runs
 use Rattle.model.specs.Monitor as model
-use Rattle.model.specs.Monitor.{Held, takenWord, forbiddenWord, refusedWord, isBarred, mayTake, taking, fresh}
-use Rattle.relation.specs.Width.{width}
+use Rattle.model.specs.Monitor.{Held, takenWord, forbiddenWord, refusedWord, isBarred, mayTake, taking}
 use Rattle.run.specs.declared.Run.{Run}
-use Rattle.run.specs.State.{stateOf}
+use Rattle.run.specs.State.{stateOf, runOf, OnlySends, startRun}
 use Rattle.monitor.specs.declared.Monitor.{Monitor}
 use Rattle.monitor.specs.declared.MonitorAnswer.{MonitorAnswer}
 
 abbrev pub heldIn : Monitor → Held
 heldIn m = record { state = stateOf (m .run); code = m .code }
 
--- all zeros
-abbrev pub zeros : Monitor
-zeros =
-    record {
-      run = record { done = replicate width 0; way = replicate width 0; buffers = replicate boards (record { held = replicate width 0 }) };
-      code = 0;
-    }
+-- the monitor of a state and a code, word by word
+abbrev pub monitorOf : Held → Monitor
+monitorOf h = record { run = runOf (h .state); code = h .code }
+
+-- all zeros but for the code
+abbrev pub zeros : ℕ → Monitor
+zeros code = record { run = startRun; code = code }
 
 abbrev pub answerIn : MonitorAnswer → model.MonitorAnswer Monitor
 answerIn r = record { word = r .word; one = r .one; two = r .two; next = r .next }
@@ -39,20 +36,15 @@ forbiddenAs m = record { word = forbiddenWord; one = 0; two = 0; next = m }
 abbrev pub takenAs : Run → ℕ → model.MonitorAnswer Monitor
 takenAs run code = record { word = takenWord; one = 0; two = 0; next = record { run = run; code = code } }
 
--- a run at its start, or the sheet's refusal
-pub record Fresh (code : ℕ) (r : model.MonitorAnswer Monitor) : Type 0 where
-  pub word : r .word ≡ takenWord
-  pub one : r .one ≡ 0
-  pub two : r .two ≡ 0
-  pub state : heldIn (r .next) ≡ fresh code
-
+-- all zeros with the code, or the sheet's refusal
 abbrev pub Begins : Out Scenario → ℕ → model.MonitorAnswer Monitor → Type 0
-Begins (ok S) code r = Fresh code r
-Begins (refusal number line) code r = r ≡ refusedAs number line zeros
+Begins (ok S) code r = r ≡ takenAs startRun code
+Begins (refusal number line) code r = r ≡ refusedAs number line (zeros 0)
 
 -- the step told is taken or forbidden by the rules, or the sheet is refused
 pub record Takes (S : Scenario) (m : Monitor) (told : Option runs.Step) (r : model.MonitorAnswer Monitor) : Type 0 where
-  pub taken : mayTake S (heldIn m) told ≡ true → (r .word ≡ takenWord) × (r .one ≡ 0) × (r .two ≡ 0) × (heldIn (r .next) ≡ taking S (heldIn m) told)
+  pub taken : mayTake S (heldIn m) told ≡ true → (r .word ≡ takenWord) × (r .one ≡ 0) × (r .two ≡ 0)
+  pub monitor : mayTake S (heldIn m) told ≡ true → OnlySends (m .run) → r .next ≡ monitorOf (taking S (heldIn m) told)
   pub forbidden : mayTake S (heldIn m) told ≡ false → r ≡ forbiddenAs m
 
 abbrev pub Steps : Out Scenario → Monitor → Option runs.Step → model.MonitorAnswer Monitor → Type 0

@@ -9,7 +9,7 @@ ghost use Rattle.relation.specs.Width.{width};
 ghost use Rattle.relation.specs.Scenario.{scenarioIn};
 ghost use Rattle.scenario.specs.Contract.{Fit};
 ghost use Rattle.step.specs.Steps.{stepOrNone};
-ghost use Rattle.monitor.specs.Bridge.{heldIn, zeros, answerIn, refusedAs, forbiddenAs, takenAs, Begins, Takes, Steps, Switches};
+ghost use Rattle.monitor.specs.Bridge.{heldIn, monitorOf, zeros, answerIn, refusedAs, forbiddenAs, takenAs, Begins, Takes, Steps, Switches};
 use expansion::Expanded;
 use relation::WIDTH;
 use run::Buffer;
@@ -62,17 +62,18 @@ fn forbidden(same: Monitor) -> MonitorAnswer
 fn taken(run: Run, code: u32) -> MonitorAnswer
     ensures { λ r. ⌜ answerIn r ≡ takenAs run code ⌝ }
 {
+    let next = Monitor { run, code };
     MonitorAnswer {
         word: 0,
         one: 0,
         two: 0,
-        next: Monitor { run, code },
+        next,
     }
 }
 
 // What a refused opening hands back: all zeros.
 fn zero() -> Monitor
-    ensures { λ r. ⌜ r ≡ zeros ⌝ }
+    ensures { λ r. ⌜ r ≡ zeros 0 ⌝ }
 {
     Monitor {
         run: Run {
@@ -154,7 +155,7 @@ impl Monitor {
 
     // Opens a monitor for a sheet on a channel. Refusals 1 and 2 touch nothing; behind every other answer the scratch is cleared.
     pub fn open(text: &[u8], code: u32, scratch: &mut [u64]) -> MonitorAnswer
-        ensures { λ r. ⌜ Opened heldIn zeros (now (text .entry)) code (now (scratch .entry)) (now (scratch .exit)) (answerIn r) × WholeLists heldIn zeros ⌝ }
+        ensures { λ r. ⌜ Opened heldIn monitorOf zeros (now (text .entry)) code (now (scratch .entry)) (now (scratch .exit)) (answerIn r) × WholeLists heldIn monitorOf zeros ⌝ }
     {
         if model::CHANNELS <= code as usize {
             return refused(zero(), model::CHANNEL, 0);
@@ -170,7 +171,7 @@ impl Monitor {
 
     // A step, by its code and message, with the sheet's text again.
     pub fn step(self, kind: u32, message: u32, text: &[u8], scratch: &mut [u64]) -> MonitorAnswer
-        ensures { λ r. ⌜ Stepped heldIn self kind message (now (text .entry)) (now (scratch .entry)) (now (scratch .exit)) (answerIn r) × WholeLists heldIn zeros ⌝ }
+        ensures { λ r. ⌜ Stepped heldIn monitorOf zeros self kind message (now (text .entry)) (now (scratch .entry)) (now (scratch .exit)) (answerIn r) × WholeLists heldIn monitorOf zeros ⌝ }
     {
         if model::CHANNELS <= self.code as usize {
             return refused(self, model::CHANNEL, 0);
@@ -187,7 +188,7 @@ impl Monitor {
 
     // A switch to a channel code, with the sheet's text again.
     pub fn switch(self, code: u32, text: &[u8], scratch: &mut [u64]) -> MonitorAnswer
-        ensures { λ r. ⌜ Switched heldIn self code (now (text .entry)) (now (scratch .entry)) (now (scratch .exit)) (answerIn r) × WholeLists heldIn zeros ⌝ }
+        ensures { λ r. ⌜ Switched heldIn monitorOf zeros self code (now (text .entry)) (now (scratch .entry)) (now (scratch .exit)) (answerIn r) × WholeLists heldIn monitorOf zeros ⌝ }
     {
         if model::CHANNELS <= code as usize {
             return refused(self, model::CHANNEL, 0);

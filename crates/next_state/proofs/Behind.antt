@@ -20,10 +20,10 @@ use Rattle.step.specs.declared.Step.the-variants.{Send, Deliver, Consume}
 use Rattle.step.specs.Steps.{stepIn, messageIn}
 use Rattle.run.specs.declared.Buffer.{Buffer}
 use Rattle.run.specs.declared.Run.{Run}
-use Rattle.run.specs.State.{inRow, With, Without, bufferOf, stateOf, TargetOf}
+use Rattle.run.specs.State.{inRow, With, Without, bufferOf, stateOf, OnlySends, TargetOf}
 use Rattle.run.proofs.Rows.{gains, loses}
 use Rattle.run.proofs.States.{getD-inside}
-use Rattle.next_state.specs.Behind.{DoneBehind, WayBehind, HeldBehind, Follows}
+use Rattle.next_state.specs.Behind.{DoneBehind, WayBehind, HeldBehind, Follows, NextRun}
 
 -- a message is the bit of its send
 same-message : (k m : ℕ) → eqb (2 * k) (2 * m) ≡ eqb k m
@@ -145,6 +145,43 @@ next-follows run (Consume n) on b other done way held p q h target long count wo
       underWay = stateOf run .underWay;
       holds = buffer-changed run b inside held n false (message-less (bufferOf run b .held) held n (subst (λ (l : List ℕ). Without l (2 * n) held) (there run b other inside) h)) i;
     })
+
+-- no bit of a receive comes in with a message's send, or when it leaves
+odd-more : (row r : List ℕ) (n m : ℕ) → With row (2 * n) r → inRow row (2 * m + 1) ≡ false → inRow r (2 * m + 1) ≡ false
+odd-more row r n m h e = h (2 * m + 1) ∙ rw (e, ne-eqb (2 * m + 1) (2 * n) (λ i. omega arith))
+
+odd-less : (row r : List ℕ) (n m : ℕ) → Without row (2 * n) r → inRow row (2 * m + 1) ≡ false → inRow r (2 * m + 1) ≡ false
+odd-less row r n m h e = h (2 * m + 1) ∙ rw e
+
+way-sends : (row : List ℕ) (s : Step) (r : List ℕ) (m : ℕ) → WayBehind row s r → inRow row (2 * m + 1) ≡ false → inRow r (2 * m + 1) ≡ false
+way-sends row (Send n) r m h e = odd-more row r n m h e
+way-sends row (Deliver n) r m h e = odd-less row r n m h e
+way-sends row (Consume n) r m h e = ap (λ (l : List ℕ). inRow l (2 * m + 1)) h ∙ e
+
+held-sends : (row : List ℕ) (s : Step) (r : List ℕ) (m : ℕ) → HeldBehind row s r → inRow row (2 * m + 1) ≡ false → inRow r (2 * m + 1) ≡ false
+held-sends row (Send n) r m h e = ap (λ (l : List ℕ). inRow l (2 * m + 1)) h ∙ e
+held-sends row (Deliver n) r m h e = odd-more row r n m h e
+held-sends row (Consume n) r m h e = odd-less row r n m h e
+
+pub next-run : (run : Run) (s : Step) (on : List ℕ) (b : ℕ) (other : Buffer) (done way held : List ℕ)
+    → DoneBehind (run .done) s done → WayBehind (run .way) s way → HeldBehind (getD (run .buffers) b other .held) s held
+    → TargetOf on s b → length (run .buffers) ≡ boards
+    → NextRun on run (stepIn s) (record { done = done; way = way; buffers = set (run .buffers) b (record { held = held }) })
+next-run run s on b other done way held p q h target long =
+    record {
+      state = next-follows run s on b other done way held p q h target long;
+      sends = λ only. record { way = λ m. way-sends (run .way) s way m q (only .way m); held = λ c m. on-board only c m (ℕ-discrete c b) };
+    }
+  where
+    inside : b < length (run .buffers)
+    inside = omega (arith, target .below)
+
+    on-board : OnlySends run → (c m : ℕ) → Dec (c ≡ b)
+        → inRow (getD (set (run .buffers) b (record { held = held })) c (record { held = [] }) .held) (2 * m + 1) ≡ false
+    on-board only c m (yes e) =
+        rw (e, getD-set-same (run .buffers) b (record { held = held }) (record { held = [] }) inside)
+        (held-sends (getD (run .buffers) b other .held) s held m h (ap (λ (l : List ℕ). inRow l (2 * m + 1)) (there run b other inside) ∙ only .held b m))
+    on-board only c m (no n) = rw (getD-set-other (run .buffers) b c (record { held = held }) (record { held = [] }) n) (only .held c m)
 
 -- and it has a buffer for each board, as before
 pub boards-kept : (run : Run) (b : ℕ) (buffer : Buffer) → length (run .buffers) ≡ boards → length (set (run .buffers) b buffer) ≡ boards

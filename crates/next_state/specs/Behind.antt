@@ -8,7 +8,7 @@ use Rattle.relation.specs.Scenario.{scenarioIn}
 use Rattle.step.specs.declared.Step.{Step}
 use Rattle.step.specs.declared.Step.the-variants as step
 use Rattle.run.specs.declared.Run.{Run}
-use Rattle.run.specs.State.{With, Without, stateOf}
+use Rattle.run.specs.State.{With, Without, stateOf, OnlySends}
 
 -- what the step makes of the events done, of the messages under way, and of what its receiver's buffer holds
 abbrev pub DoneBehind : List ℕ → Step → List ℕ → Type 0
@@ -30,3 +30,8 @@ HeldBehind row (step.Consume m) r = Without row (2 * m) r
 abbrev pub Follows : List ℕ → Run → model.Step → Run → Type 0
 Follows on run t behind =
     (count : ℕ) (words : List ℕ) → stateOf behind ≡ next (scenarioIn count on words) (stateOf run) t
+
+-- the run behind a step: its state, and no bits but those of sends in what is under way and held, where there were none
+pub record NextRun (on : List ℕ) (run : Run) (t : model.Step) (behind : Run) : Type 0 where
+  pub state : Follows on run t behind
+  pub sends : OnlySends run → OnlySends behind

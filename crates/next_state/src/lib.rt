@@ -3,7 +3,7 @@ ghost use Prim.Native.Nat.{_<_};
 ghost use Rattle.model.specs.Limits.{messagesMost};
 ghost use Rattle.step.specs.Steps.{stepIn, messageIn};
 ghost use Rattle.run.specs.State.{Reaches};
-ghost use Rattle.next_state.specs.Behind.{DoneBehind, WayBehind, HeldBehind, Follows};
+ghost use Rattle.next_state.specs.Behind.{DoneBehind, WayBehind, HeldBehind, NextRun};
 use relation::WIDTH;
 use run::Run;
 use run::target_of;
@@ -52,7 +52,7 @@ pub fn held_behind(held: &mut [u64; WIDTH], step: Step)
 // The run behind a step. For single use: each call copies the run. Where one step follows another, the same lines stand in place.
 pub fn next(mut run: Run, boards: &[u8], step: Step) -> Run
     requires { ⌜ Reaches (now boards) step ⌝ }
-    ensures { λ r. ⌜ Follows (now (boards .entry)) run (stepIn step) r ⌝ }
+    ensures { λ r. ⌜ NextRun (now (boards .entry)) run (stepIn step) r ⌝ }
 {
     let target = target_of(boards, step);
     let mut buffer = run.buffers[target];

@@ -28,12 +28,14 @@ use Rattle.buffers.specs.Held.{HeldAnywhere}
 use Rattle.step_classes.specs.declared.Class.{Class}
 use Rattle.step_classes.specs.declared.Class.the-variants.{AnySend}
 use Rattle.step_classes.specs.Classes.{classIn, stepFor}
-use Rattle.candidates.specs.Candidates.{fits, OfRuns, CandidatesIn}
-use Rattle.next_message.specs.Next.{NextIn}
+use Rattle.candidates.specs.Candidates.{Exactly, isCandidate}
+use Rattle.next_message.specs.Next.{nextIn}
+use Rattle.next_message.proofs.InRow.{next-absent}
 use Rattle.step_classes.proofs.EachClass.{step-is, message-is}
 use Rattle.channel.specs.Steps.{SaysIn}
-use Rattle.channel.proofs.StepTests.{allowed-inside}
-use Rattle.next_step.specs.Search.{classAt, Fits, Lowest, ChosenIn}
+use Rattle.model.proofs.Rules.{allowed-inside}
+use Rattle.next_step.specs.Search.{classAt, OfRuns, fits, Fits, Lowest, ChosenIn}
+use Rattle.next_step.proofs.Skipped.{no-candidate}
 
 -- the class behind the first five is the last
 pub last-class : (k : ℕ) → (k ≡ 0 → ⊥) → (k ≡ 1 → ⊥) → (k ≡ 2 → ⊥) → (k ≡ 3 → ⊥) → (k ≡ 4 → ⊥) → AnySend ≡ classAt k
@@ -121,14 +123,15 @@ module _ (count : ℕ) (boards words : List ℕ) (c : Channel) (done way rows : 
       go (suc n) f g = lowest-miss n (fits count boards words c run e q) (go n (omega arith) (λ j l. g j (omega arith))) (g n (omega arith))
 
   -- no candidate is among the messages skipped
-  skips : (m r : ℕ) (row held : List ℕ) → Passed m → NextIn row m r → CandidatesIn words done way held e q row → HeldAnywhere rows held → count ≤ messagesMost → Passed r
+  skips : (m r : ℕ) (row held : List ℕ) → Passed m → r ≡ nextIn row m → Exactly (isCandidate words done way held e q) row → HeldAnywhere rows held → count ≤ messagesMost → Passed r
   skips m r row held p n all anywhere few = record { passed = λ j h i. go j h i (decLt j m) }
     where
       go : (j : ℕ) → j < r → j < count → Dec (j < m) → OfRuns done way rows (λ run. fits count boards words c run e q j ≡ false)
       go j h i (yes b) = p .passed j b i
-      go j h i (no b) = λ run d w s. all rows anywhere j (omega arith) (n .absent j (omega arith) h) run d w s count boards c
+      go j h i (no b) = λ run d w s.
+          no-candidate words done way held rows e j (omega arith) q row all anywhere (next-absent row m j (omega arith) (subst (λ (k : ℕ). j < k) n h)) run d w s count boards c
 
-  pub search-begins : (r : ℕ) (row held : List ℕ) → NextIn row 0 r → CandidatesIn words done way held e q row → HeldAnywhere rows held → count ≤ messagesMost → Passed r
+  pub search-begins : (r : ℕ) (row held : List ℕ) → r ≡ nextIn row 0 → Exactly (isCandidate words done way held e q) row → HeldAnywhere rows held → count ≤ messagesMost → Passed r
   search-begins r row held n all anywhere few = skips 0 r row held (record { passed = λ j h i. absurd (omega arith) }) n all anywhere few
 
   pub finds-nothing : (m : ℕ) → Passed m → count ≤ m → Lowest count boards words c done way rows e q maybe.Nothing
@@ -146,7 +149,7 @@ module _ (count : ℕ) (boards words : List ℕ) (c : Channel) (done way rows : 
         go k h g (yes same) = λ run d w r. rw same (sym (s run d w r) ∙ f)
         go k h g (no other) = p .passed k (omega arith) g
 
-    pub goes-past : (r : ℕ) (row held : List ℕ) → u ≡ false → NextIn row (m + 1) r → CandidatesIn words done way held e q row → HeldAnywhere rows held → count ≤ messagesMost → Passed r
+    pub goes-past : (r : ℕ) (row held : List ℕ) → u ≡ false → r ≡ nextIn row (m + 1) → Exactly (isCandidate words done way held e q) row → HeldAnywhere rows held → count ≤ messagesMost → Passed r
     goes-past r row held f n all anywhere few = skips (m + 1) r row held (misses f) n all anywhere few
 
     pub finds : (step : code.Step) → step ≡ stepFor q m → u ≡ true → Lowest count boards words c done way rows e q (maybe.Step step)

@@ -1,9 +1,10 @@
 -- What the search for the next step says. Assumes nothing.
 use mathlib.Core.Path.{_≡_}
-use mathlib.Core.Bool.{Bool}
+use mathlib.Core.Bool.{Bool, _&&_}
 use mathlib.Core.List.{List, [], _∷_}
 use Prim.Native.Nat.{ℕ}
 use lib.ListN.{getD}
+use Rattle.model.specs.Run.{allowed}
 use Rattle.model.specs.Schedule.{choose, classesFor}
 use Rattle.relation.specs.Scenario.{scenarioIn}
 use Rattle.channel_table.specs.declared.Channel.{Channel}
@@ -12,14 +13,24 @@ use Rattle.run.specs.declared.Run.{Run}
 use Rattle.step.specs.declared.StepOrNone.{StepOrNone}
 use Rattle.step.specs.Steps.{stepOrNone}
 use Rattle.run.specs.State.{stateOf}
+use Rattle.buffers.specs.Held.{HeldIn}
 use Rattle.step_classes.specs.declared.Class.{Class}
 use Rattle.step_classes.specs.declared.Class.the-variants.{AnyConsume, DeliveryOf, NeededDelivery, NeededSend, AnyDelivery, AnySend}
 use Rattle.step_classes.specs.Classes.{classIn}
-use Rattle.candidates.specs.Candidates.{fits, OfRuns}
 
 -- the classes, in the order in which they are tried
 abbrev pub classAt : ℕ → Class
 classAt k = getD (AnyConsume ∷ DeliveryOf ∷ NeededDelivery ∷ NeededSend ∷ AnyDelivery ∷ AnySend ∷ []) k AnySend
+
+-- what holds of every run with these parts: what is done, what is under way, and the rows of the buffers
+abbrev pub OfRuns : List ℕ → List ℕ → List ℕ → (Run → Type 0) → Type 0
+OfRuns done way rows P = (run : Run) → run .done ≡ done → run .way ≡ way → HeldIn run rows → P run
+
+-- message m is of the class, and its step is allowed
+abbrev pub fits : ℕ → List ℕ → List ℕ → Channel → Run → ℕ → Class → ℕ → Bool
+fits count boards words c run e class m =
+    (classIn (scenarioIn count boards words) e class) .takes m
+    && allowed (scenarioIn count boards words) (channelIn c) (stateOf run) ((classIn (scenarioIn count boards words) e class) .step m)
 
 module _ (count : ℕ) (boards words : List ℕ) (c : Channel) where
   -- message m is of the class and its step is allowed, in every run with these parts

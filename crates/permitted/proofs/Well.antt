@@ -2,23 +2,23 @@
 use Prim.Native.Nat.{ℕ, _<_, _≤_}
 use native.Mathlib.Decide.{decLt}
 use native.Mathlib.Omega.{arith}
-use mathlib.Core.Path.{_≡_, refl, sym, _∙_, subst}
-use mathlib.Core.Bool.{Bool, true, false, not, cond, _&&_}
+use mathlib.Core.Path.{_≡_, refl, sym, _∙_, subst, subst⁻¹}
+use mathlib.Core.Bool.{Bool, true, false, cond, _&&_}
 use mathlib.Core.List.{List}
 use mathlib.Core.Option.{Option, none, some}
 use lib.Dec.{leb, ltb}
 use lib.ListN.{length, getD, List·getD-eq-default}
-use Rattle.model.specs.Limits.{rowsMost, pairs, textMost}
-use Rattle.model.specs.Bounded.{every, lowest}
+use Rattle.model.specs.Limits.{rowsMost, textMost}
+use Rattle.model.specs.Bounded.{lowest}
 use Rattle.model.specs.Refusal.{Out, ok, refusal, andThen, benchRefusal, senderTableRefusal, forbiddenRefusal, lengthRefusal}
 use Rattle.model.specs.Rows.{message, block}
 use Rattle.model.specs.Place.{lineOf}
 use Rattle.model.specs.Order.{Scenario}
 use Rattle.model.specs.Answer.{sheetOf}
-use Rattle.model.specs.Senders.{Rule, rulesOf, isFaulty, judgedTable, tableAnswer, tableNumbers, tableRefusedWord, soundRules, soundTable, isForbidden, linesMet, permitted, MessageRow}
+use Rattle.model.specs.Senders.{Rule, rulesOf, Soundness, sound, gap, clash, malformed, soundnessOf, judgedTable, tableAnswer, tableNumbers, tableRefusedWord, soundRules, soundTable, isForbidden, linesMet, permitted, MessageRow}
 use Rattle.model.proofs.Bounded.{lowest-some}
 use Rattle.model.proofs.Lines.{Well, sheet-well, Reads, read-well}
-use Rattle.model.proofs.Senders.{table-within, table-judged}
+use Rattle.model.proofs.Senders.{Agrees, agrees, table-within, table-judged}
 use Rattle.model.proofs.Permitted.{line-met}
 use Rattle.permitted_sheet.specs.Sheet.{sheetBy}
 use Rattle.permitted.specs.Parts.{sheetWith}
@@ -57,12 +57,21 @@ rules-well table = go (rulesOf table) refl
         let number-is : number ≡ senderTableRefusal = cc in
         record { behind = omega arith; known = omega arith; within = omega (arith, table-within table .1) }
 
+sound-well : (rules : List Rule) → WellNamed (soundRules rules)
+sound-well rules = go (soundnessOf rules) (agrees rules)
+  where
+    unsound : soundRules rules ≡ refusal senderTableRefusal 0 → WellNamed (soundRules rules)
+    unsound h = subst⁻¹ (λ (o : Out (List Rule)). WellNamed o) h (record { behind = omega arith; known = omega arith; within = omega arith })
+
+    go : (s : Soundness) → Agrees rules s → WellNamed (soundRules rules)
+    go sound h = subst⁻¹ (λ (o : Out (List Rule)). WellNamed o) h tt
+    go (gap q) h = unsound h
+    go (clash q a b) h = unsound h
+    go (malformed number line) h = absurd h
+
 table-well : (table : List ℕ) → WellNamed (soundTable table)
-unfolding soundTable soundRules
-table-well table =
-    well-then (rulesOf table) soundRules (rules-well table)
-    (λ rules e. well-cond (every pairs (λ pair. not (isFaulty rules pair))) (ok rules) (refusal senderTableRefusal 0) tt
-    (record { behind = omega arith; known = omega arith; within = omega arith }))
+unfolding soundTable
+table-well table = well-then (rulesOf table) soundRules (rules-well table) (λ rules e. sound-well rules)
 
 -- the sheet
 sheet-named : (text : List ℕ) → WellNamed (sheetOf text)
@@ -73,9 +82,9 @@ sheet-named text = go (sheetOf text) (sheet-well text)
     go (refusal number line) w = record { behind = w .behind; known = omega (arith, w .known); within = w .within }
 
 -- the line of an M row
-line-within : (text : List ℕ) (line a b : ℕ) → MessageRow text line a b → line ≤ lineOf rowsMost
+line-within : (text : List ℕ) (k line a b : ℕ) → MessageRow text k line a b → line ≤ lineOf rowsMost
 unfolding Reads
-line-within text line a b m = go (decLt (m .row) (length (m .file)))
+line-within text k line a b m = go (decLt (m .row) (length (m .file)))
   where
     few : length (m .file) ≤ rowsMost
     few = subst Reads (m .read) (read-well false text)
@@ -99,7 +108,7 @@ permitted-well text S e rules = go (lowest (S .count) (isForbidden rules S)) ref
         record {
           behind = omega arith;
           known = omega arith;
-          within = line-within text (getD (linesMet text) m 0) (S .source m) (S .target m) (line-met text S e m l);
+          within = line-within text m (getD (linesMet text) m 0) (S .source m) (S .target m) (line-met text S e m l);
         }
 
 pub with-well : (text table : List ℕ) → WellNamed (sheetWith text table)

@@ -1,2 +1,4 @@
 pub mod Races
+pub mod Boards
 pub mod Words
+pub mod Search

@@ -23,7 +23,7 @@ use Rattle.race.specs.declared.Rule.the-variants.{ByEvent, ByOrigin, Nev
 use Rattle.race.specs.Bridge.{ruleIn}
 use Rattle.at_or_before.specs.Reached.{eventAt, isReached, ReachedWord}
 use Rattle.at_or_before.proofs.Reached.{at-or-before-at}
-use Rattle.race.specs.Word.{isOutside, OutsideWord, RaceWord}
+use Rattle.race.specs.Word.{isOutside, OutsideWord, isOn, BitsOn, RaceWord}
 use Rattle.race.proofs.Races.{by-event, by-origin, race-at}
 
 module _ (words : List ℕ) (r : Rule) (e w word : ℕ) where
@@ -95,30 +95,58 @@ module _ (count : ℕ) (boards words : List ℕ) (r : RaceRule) (e : ℕ) (l : e
       ≡ (eqb (getD boards x 0) (getD boards (2 * e + 1) 0) && holds width words (2 * e + 1) x && isOutside words r e x)
   race-outside x h = race-at count boards words r e x l h ∙ rw (outside-same x h)
 
--- the races of e in word w
-module _ (count : ℕ) (boards words masks : List ℕ) (S : Standing count boards words masks) (r : RaceRule) (e : ℕ) (l : e < count) where
-  pub races-in-word : (w board outside : ℕ) → OutsideWord words r e w outside → board ≡ getD boards (2 * e + 1) 0 → w < width
-      → RaceWord count boards words r e w (bitAnd (bitAnd (getD words ((2 * e + 1) * width + w) 0) (getD masks (board * width + w) 0)) outside)
-  races-in-word w board outside out at hw b h =
-      let x = eventAt w b in
-      let M = S .masksOf in
-      let hb = receive-below S l at in
-      rw (has-and, has-and, ← word-holds width words (2 * e + 1) w b h, ← word-holds width masks board w b h, M .onBoard board x hb (omega arith), out b h, at)
-      (go (decLt x (2 * count)))
+  -- a word of what is before e's receive and outside: its bits on the receiver's board are the events that race
+  pub races-on : (w board outside word : ℕ) → OutsideWord words r e w outside → board ≡ getD boards (2 * e + 1) 0
+      → BitsOn (bitAnd (getD words ((2 * e + 1) * width + w) 0) outside) w boards (2 * count) board word → RaceWord count boards words r e w word
+  races-on w board outside word out at on b h =
+      on .bits b h ∙ rw (has-and, ← word-holds width words (2 * e + 1) w b h, out b h, at) (go (decLt (eventAt w b) (2 * count)))
     where
-      turns : (a c d : Bool) → (a && c && d) ≡ (c && a && d)
-      turns true true d = refl
-      turns true false d = refl
-      turns false true d = refl
-      turns false false d = refl
+      turns : (a c d : Bool) → ((a && c) && d) ≡ (d && a && c)
+      turns true true true = refl
+      turns true true false = refl
+      turns true false true = refl
+      turns true false false = refl
+      turns false c true = refl
+      turns false c false = refl
 
       go : Dec (eventAt w b < 2 * count)
-          → ((holds width words (2 * e + 1) (eventAt w b) && (ltb (eventAt w b) (2 * count) && eqb (getD boards (eventAt w b) 0) (getD boards (2 * e + 1) 0)))
-          && isOutside words r e (eventAt w b))
+          → ((holds width words (2 * e + 1) (eventAt w b) && isOutside words r e (eventAt w b))
+          && (ltb (eventAt w b) (2 * count) && eqb (getD boards (eventAt w b) 0) (getD boards (2 * e + 1) 0)))
           ≡ (ltb (eventAt w b) (2 * count) && isRace (scenarioIn count boards words) r e (event (eventAt w b)))
       go (yes k) =
           rw (lt-ltb (eventAt w b) (2 * count) k)
-          (turns (holds width words (2 * e + 1) (eventAt w b)) (eqb (getD boards (eventAt w b) 0) (getD boards (2 * e + 1) 0)) (isOutside words r e (eventAt w b))
-          ∙ sym (race-outside count boards words r e l (eventAt w b) k))
-      go (no g) =
-          rw (le-ltb (eventAt w b) (2 * count) (omega arith), and-false (holds width words (2 * e + 1) (eventAt w b)))
+          (turns (holds width words (2 * e + 1) (eventAt w b)) (isOutside words r e (eventAt w b)) (eqb (getD boards (eventAt w b) 0) (getD boards (2 * e + 1) 0))
+          ∙ sym (race-outside (eventAt w b) k))
+      go (no k) =
+          rw (le-ltb (eventAt w b) (2 * count) (omega arith)) (and-false (holds width words (2 * e + 1) (eventAt w b) && isOutside words r e (eventAt w b)))
+
+  -- nothing stands outside
+  pub no-races : (w outside word : ℕ) → OutsideWord words r e w outside → word ≡ bitAnd (getD words ((2 * e + 1) * width + w) 0) outside → word ≡ 0
+      → RaceWord count boards words r e w 0
+  no-races w outside word out i z =
+      races-on w (getD boards (2 * e + 1) 0) outside 0 out refl (record { bits = λ b h. has-zero b ∙ sym (rw (sym i ∙ z, has-zero b)) })
+
+-- the races of e in word w, by the masks
+module _ (count : ℕ) (boards words masks : List ℕ) (S : Standing count boards words masks) (r : RaceRule) (e : ℕ) (l : e < count) where
+  pub races-in-word : (w board outside : ℕ) → OutsideWord words r e w outside → board ≡ getD boards (2 * e + 1) 0 → w < width
+      → RaceWord count boards words r e w (bitAnd (bitAnd (getD words ((2 * e + 1) * width + w) 0) (getD masks (board * width + w) 0)) outside)
+  races-in-word w board outside out at hw = races-on count boards words r e l w board outside _ out at (record { bits = λ b h. go b h })
+    where
+      turns : (a c d : Bool) → ((a && c) && d) ≡ ((a && d) && c)
+      turns true true true = refl
+      turns true true false = refl
+      turns true false true = refl
+      turns true false false = refl
+      turns false c d = refl
+
+      row : ℕ
+      row = getD words ((2 * e + 1) * width + w) 0
+
+      mask : ℕ
+      mask = getD masks (board * width + w) 0
+
+      go : (b : ℕ) → b < wordBits → has (bitAnd (bitAnd row mask) outside) b ≡ (has (bitAnd row outside) b && isOn boards (2 * count) board (eventAt w b))
+      go b h =
+          let on : has mask b ≡ isOn boards (2 * count) board (eventAt w b) =
+          sym (word-holds width masks board w b h) ∙ S .masksOf .onBoard board (eventAt w b) (receive-below S l at) (omega arith) in
+          rw (has-and (bitAnd row mask) outside b, has-and row mask b, has-and row outside b, on) (turns (has row b) (isOn boards (2 * count) board (eventAt w b)) (has outside b))

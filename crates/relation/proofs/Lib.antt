@@ -10,3 +10,4 @@ pub mod Words
 pub mod Ones
 pub mod Alone
 pub mod Order
+pub mod Written

@@ -14,7 +14,7 @@ use Rattle.relation.specs.Rows.{has}
 use Rattle.relation.proofs.Words.{shifted}
 
 -- a digit is one exactly if it is set
-digit : (d : ℕ) → d < 2 → d ≡ cond (eqb d 1) 1 0
+pub digit : (d : ℕ) → d < 2 → d ≡ cond (eqb d 1) 1 0
 digit zero l = refl
 digit (suc zero) l = refl
 digit (suc (suc d)) l = absurd (omega arith)

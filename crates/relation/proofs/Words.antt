@@ -1,10 +1,10 @@
 -- The bits of a word: of an and, of a complement, behind a shift either way; that a word is zero where none of its bits is set, and that none
 -- is set below its trailing zeros; and the bits of a row that stands by itself. Assumes nothing.
-use mathlib.Core.Path.{_≡_, refl, sym, _∙_, subst}
+use mathlib.Core.Path.{_≡_, refl, sym, _∙_, ap, subst}
 use mathlib.Core.Bool.{Bool, true, false, not, _&&_, _||_}
 use mathlib.Core.List.{List}
-use Prim.Native.Nat.{ℕ, zero, suc, _+_, _-_, _*_, _/_, _%_, _^_, _<_}
-use native.Mathlib.Nat.{lt-suc-self, le-step, pow-suc, div-one, div-lt-iff-lt-mul, zero-mul, zero-add, not-suc-le-zero, le-of-suc-le-suc}
+use Prim.Native.Nat.{ℕ, zero, suc, _+_, _-_, _*_, _/_, _%_, _^_, _<_, _≤_}
+use native.Mathlib.Nat.{lt-suc-self, lt-of-lt-of-le, le-step, pow-suc, div-one, div-lt-iff-lt-mul, zero-mul, zero-add, not-suc-le-zero, le-of-suc-le-suc}
 use native.Mathlib.Decide.{decLt}
 use native.Mathlib.Omega.{arith}
 use lib.Arith.{lt-one}
@@ -12,7 +12,7 @@ use lib.Bits.{bitAnd, and-shr, and-mod}
 use lib.Count.{trailingZeros, under}
 use lib.Dec.{eqb}
 use lib.ListN.{getD}
-use lib.Pow.{pow-pos, shr-shr, field, mod-mod-pow}
+use lib.Pow.{pow-pos, pow-mono, shl-shr, shr-shr, field, mod-mod-pow}
 use borrow.Author.Tests.{eqb-false}
 use Rattle.model.specs.Bounded.{every}
 use Rattle.model.proofs.Bounded.{every-at, not-both}
@@ -75,7 +75,7 @@ pub shifted : (w b i : ℕ) → has w (b + i) ≡ has (w / 2 ^ b) i
 unfolding has
 shifted w b i = rw (shr-shr w b i)
 
-half : (n j : ℕ) → has n (suc j) ≡ has (n / 2) j
+pub half : (n j : ℕ) → has n (suc j) ≡ has (n / 2) j
 half n j =
     let one : suc j ≡ 1 + j = omega arith in
     rw one (shifted n 1 j)
@@ -146,6 +146,19 @@ shift-lowest n = has-mod (n * 2) wordBits 0 (omega arith) ∙ has-even n
 
 pub shift-higher : (n j : ℕ) → suc j < wordBits → has (n * 2 % 2 ^ wordBits) (suc j) ≡ has n j
 shift-higher n j h = has-mod (n * 2) wordBits (suc j) h ∙ has-twice n j
+
+-- shifted up by any number of places
+pub shifted-up : (n k i : ℕ) → k + i < wordBits → has (n * 2 ^ k % 2 ^ wordBits) (k + i) ≡ has n i
+shifted-up n k i h = has-mod (n * 2 ^ k) wordBits (k + i) h ∙ shifted (n * 2 ^ k) k i ∙ ap (λ (m : ℕ). has m i) (shl-shr n k)
+
+-- a number below 2 ^ m has no bit at or above m
+pub has-beyond : (n m b : ℕ) → n < 2 ^ m → m ≤ b → has n b ≡ false
+unfolding has
+has-beyond n m b h l =
+    let small : n < 2 ^ b = lt-of-lt-of-le h (pow-mono l) in
+    let none : n / 2 ^ b < 1 = div-lt-iff-lt-mul (pow-pos b) .1 (omega arith) in
+    let z : n / 2 ^ b ≡ 0 = omega arith in
+    rw z
 
 -- the word whose bits are those of the even events
 abbrev pub evenBits : ℕ

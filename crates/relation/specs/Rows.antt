@@ -1,8 +1,8 @@
 -- Rows of words: row y holds the predecessors of event y, an event a bit. Every definition is over any width W, the words of a row.
 -- Assumes nothing.
-use mathlib.Core.Bool.{Bool}
-use mathlib.Core.List.{List, _++_}
-use Prim.Native.Nat.{ℕ, _+_, _-_, _*_, _/_, _%_, _^_}
+use mathlib.Core.Bool.{Bool, cond}
+use mathlib.Core.List.{List, [], _∷_, _++_}
+use Prim.Native.Nat.{ℕ, zero, suc, _+_, _-_, _*_, _/_, _%_, _^_}
 use lib.Dec.{eqb}
 use lib.Bits.{bitAnd, bitOr}
 use lib.ListN.{getD, set, drop, replicate}
@@ -22,6 +22,15 @@ bitOf x = x % wordBits
 -- Event x is in row y.
 unfoldable pub holds : ℕ → List ℕ → ℕ → ℕ → Bool
 holds W words y x = has (getD words (wordOf W y x) 0) (bitOf x)
+
+-- The other way: the word whose bits, so many of them, are p k, p (k + 1) .., and W words of such bits one after the other.
+unfoldable pub wordFrom : ℕ → ℕ → (ℕ → Bool) → ℕ
+wordFrom zero k p = 0
+wordFrom (suc bits) k p = cond (p k) 1 0 + 2 * wordFrom bits (suc k) p
+
+unfoldable pub rowFrom : ℕ → ℕ → (ℕ → Bool) → List ℕ
+rowFrom zero k p = []
+rowFrom (suc W) k p = wordFrom wordBits k p ∷ rowFrom W (wordBits + k) p
 
 -- Row y gains event x.
 unfoldable pub marked : ℕ → List ℕ → ℕ → ℕ → List ℕ

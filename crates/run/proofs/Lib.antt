@@ -1,2 +1,4 @@
 pub mod Rows
 pub mod States
+pub mod Typed
+pub mod Written

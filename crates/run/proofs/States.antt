@@ -21,7 +21,7 @@ use Rattle.run.specs.declared.Run.{Run}
 use Rattle.step.specs.declared.Step.{Step}
 use Rattle.step.specs.declared.Step.the-variants.{Send, Deliver, Consume}
 use Rattle.step.specs.Steps.{messageIn, eventIn}
-use Rattle.run.specs.State.{inRow, bufferOf, stateOf, Starts, Reaches, BoardAt, TargetOf}
+use Rattle.run.specs.State.{inRow, bufferOf, stateOf, startRun, Starts, Reaches, BoardAt, TargetOf}
 use Rattle.run.proofs.Run.{the-row}
 
 -- an element that there is, whatever stands for one that there is not
@@ -68,7 +68,7 @@ pub target-read : (on : List ℕ) (s : Step) (m b : ℕ) → b ≡ getD on (2 * 
 target-read on s m b e i r = record { target = rw (e, i); below = rw (e, i) (r .below) }
 
 -- rows of zeros, and buffers of them, hold nothing
-zero-row : (n k : ℕ) → inRow (replicate n 0) k ≡ false
+pub zero-row : (n k : ℕ) → inRow (replicate n 0) k ≡ false
 zero-row n k = alone-row width (replicate n 0) k ∙ rw (replicate-at {A = ℕ} n (k / wordBits) 0) (has-zero (k % wordBits))
 
 pub zero-buffers : (n b k : ℕ) → inRow (getD {A = Buffer} (replicate n (record { held = replicate width 0 })) b (record { held = [] }) .held) k ≡ false
@@ -76,11 +76,7 @@ zero-buffers zero b k = zero-row 0 k
 zero-buffers (suc n) zero k = zero-row width k
 zero-buffers (suc n) (suc b) k = zero-buffers n b k
 
--- the run that `Run::start` makes
-abbrev pub start-run : Run
-start-run = record { done = replicate width 0; way = replicate width 0; buffers = replicate boards (record { held = replicate width 0 }) }
-
-start-state : stateOf start-run ≡ start
+start-state : stateOf startRun ≡ start
 start-state = λ i.
     record {
       done = fun-ext (λ (x : Event). zero-row width (number x)) i;
@@ -88,5 +84,5 @@ start-state = λ i.
       holds = fun-ext (λ (b : ℕ). fun-ext (λ (m : ℕ). zero-buffers boards b (2 * m))) i;
     }
 
-pub starts : Starts start-run
-starts = record { state = start-state; boards = refl }
+pub starts : Starts startRun
+starts = record { words = refl; state = start-state; boards = refl }

@@ -1,16 +1,16 @@
 -- From the code's run state to the model's. Assumes nothing.
 use mathlib.Core.Path.{_≡_}
-use mathlib.Core.Bool.{Bool, not, _&&_, _||_}
-use mathlib.Core.List.{List, []}
-use Prim.Native.Nat.{ℕ, _+_, _*_, _<_}
+use mathlib.Core.Bool.{Bool, false, not, _&&_, _||_}
+use mathlib.Core.List.{List, [], _∷_}
+use Prim.Native.Nat.{ℕ, zero, suc, _+_, _*_, _/_, _%_, _<_}
 use lib.Dec.{eqb}
-use lib.ListN.{length, getD}
+use lib.ListN.{length, getD, replicate}
 use Rattle.model.specs.Limits.{messagesMost}
-use Rattle.model.specs.Order.{number}
+use Rattle.model.specs.Order.{Event, number, event}
 use Rattle.model.specs.Run as model
 use Rattle.model.specs.Run.{State}
 use Rattle.relation.specs.Width.{width}
-use Rattle.relation.specs.Rows.{holds}
+use Rattle.relation.specs.Rows.{holds, rowFrom}
 use Rattle.board.specs.Boards.{boardsMost}
 use Rattle.step.specs.declared.Step.{Step}
 use Rattle.step.specs.Steps.{messageIn, eventIn}
@@ -41,8 +41,33 @@ stateOf run =
       holds = λ b m. inRow (bufferOf run b .held) (2 * m);
     }
 
--- the start of every run, with a buffer for each board
+-- The run of a state, word by word: of the messages under way and of a buffer no bit is set but those of their sends.
+abbrev pub eventsRow : (Event → Bool) → List ℕ
+eventsRow p = rowFrom width 0 (λ k. p (event k))
+
+abbrev pub sendsRow : (ℕ → Bool) → List ℕ
+sendsRow p = rowFrom width 0 (λ k. eqb (k % 2) 0 && p (k / 2))
+
+-- a buffer for each of the boards from b on
+unfoldable pub buffersFrom : ℕ → ℕ → (ℕ → ℕ → Bool) → List Buffer
+buffersFrom zero b holds = []
+buffersFrom (suc n) b holds = record { held = sendsRow (holds b) } ∷ buffersFrom n (suc b) holds
+
+abbrev pub runOf : State → Run
+runOf s = record { done = eventsRow (s .done); way = sendsRow (s .underWay); buffers = buffersFrom boardsMost 0 (s .holds) }
+
+-- a run has no bits but these: none of a receive among the messages under way, or in a buffer
+pub record OnlySends (run : Run) : Type 0 where
+  pub way : (m : ℕ) → inRow (run .way) (2 * m + 1) ≡ false
+  pub held : (b m : ℕ) → inRow (bufferOf run b .held) (2 * m + 1) ≡ false
+
+-- the start of every run: no word has a bit, a buffer for each board
+abbrev pub startRun : Run
+startRun = record { done = replicate width 0; way = replicate width 0; buffers = replicate boardsMost (record { held = replicate width 0 }) }
+
+-- a run is at its start: these are its words, and its state is the paper's
 pub record Starts (run : Run) : Type 0 where
+  pub words : run ≡ startRun
   pub state : stateOf run ≡ model.start
   pub boards : length (run .buffers) ≡ boardsMost
 

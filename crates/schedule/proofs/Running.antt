@@ -4,7 +4,7 @@ use mathlib.Core.List.{List, [], _∷_, _++_, append-assoc, append-nil}
 use mathlib.Core.Option.{Option, none, some}
 use Prim.Native.Nat.{ℕ, suc, _+_, _*_, _-_, _<_, _≤_}
 use native.Mathlib.Omega.{arith}
-use lib.ListN.{length, drop, set, replicate, length-append, length-drop, length-set, length-replicate}
+use lib.ListN.{length, getD, drop, set, replicate, length-append, length-drop, length-set}
 use lib.Seq.{set-at, drop-drop, append-snoc}
 use mir.Val.{Fits}
 use mir.Syntax.{w64}
@@ -27,12 +27,12 @@ use Rattle.step.specs.declared.Step as code
 use Rattle.step.specs.declared.StepOrNone.{StepOrNone}
 use Rattle.step.specs.declared.StepOrNone.the-variants as maybe
 use Rattle.step.specs.Steps.{stepIn, messageIn, stepOrNone}
-use Rattle.run.specs.State.{inRow, bufferOf, stateOf, Reaches, TargetOf}
-use Rattle.run.proofs.States.{start-run, starts, zero-buffers, reaches}
+use Rattle.run.specs.State.{inRow, bufferOf, stateOf, startRun, Starts, Reaches, TargetOf}
+use Rattle.run.proofs.States.{getD-inside, starts, zero-buffers, reaches}
 use Rattle.next_state.specs.Behind.{DoneBehind, WayBehind, HeldBehind, Follows}
-use Rattle.next_state.proofs.Behind.{next-follows}
-use Rattle.buffers.specs.Held.{HeldIn, RowsBehind, HeldAnywhere}
-use Rattle.buffers.proofs.Rows.{Lays, start-laid, step-laid, rows-kept}
+use Rattle.next_state.proofs.Behind.{next-follows, boards-kept}
+use Rattle.buffers.specs.Held.{HeldIn, LaysRow, HeldAnywhere}
+use Rattle.buffers.proofs.Rows.{start-laid, set-laid}
 use Rattle.next_step.specs.Search.{ChosenIn}
 use Rattle.next_step.proofs.Searching.{chosen-inside}
 use Rattle.schedule.specs.Schedule.{Scheduled}
@@ -142,106 +142,103 @@ module _ (S : Scenario) (c : Channel) (e : ℕ) (trace : List ℕ) where
       let z : 3 * S .count - i ≡ 0 = omega arith in
       ended s i now R (ap (λ f. scheduleFrom S c e f s) z)
 
--- The loop of the schedule: i steps were taken and written, and the state behind them is that of a run with these parts.
+-- The loop of the schedule: i steps were taken and written, and the run is in the state behind them. What is held in rows, and together, is what
+-- its buffers hold.
 module _ (count : ℕ) (boards words masks : List ℕ) (c : channel.Channel) (e : ℕ) (trace : List ℕ) where
   abbrev S : Scenario
   S = scenarioIn count boards words
 
-  pub record Goes (end : ℕ) (now done way rows held : List ℕ) (i : ℕ) : Type 0 where
-    pub buffers : List Buffer
+  pub record Goes (end : ℕ) (now : List ℕ) (run : Run) (rows held : List ℕ) (i : ℕ) : Type 0 where
     pub standing : Standing count boards words masks
     pub whole : end ≡ 3 * count
     pub within : i ≤ end
-    pub laid : HeldIn (record { done = done; way = way; buffers = buffers }) rows
-    pub long : length rows ≡ boardsMost * width
-    pub gathered : Gathered boards (record { done = done; way = way; buffers = buffers }) held
+    pub wide : length (run .buffers) ≡ boardsMost
+    pub laid : HeldIn run rows
+    pub gathered : Gathered boards run held
     pub anywhere : HeldAnywhere rows held
     pub room : 2 * (3 * count) ≤ length now
     pub same-length : length now ≡ length trace
-    pub running : Running S (channelIn c) e trace (stateOf (record { done = done; way = way; buffers = buffers })) i now
+    pub running : Running S (channelIn c) e trace (stateOf run) i now
 
-  pub goes-start : Standing count boards words masks → 2 * (3 * count) ≤ length trace
-      → Goes (3 * count) trace (replicate width 0) (replicate width 0) (replicate (boardsMost * width) 0) (replicate width 0) 0
-  goes-start s l =
-      record {
-        buffers = start-run .buffers;
+  pub goes-start : (run : Run) → Starts run → Standing count boards words masks → 2 * (3 * count) ≤ length trace
+      → Goes (3 * count) trace run (replicate (boardsMost * width) 0) (replicate width 0) 0
+  goes-start run st s l =
+      subst⁻¹ (λ (u : Run). Goes (3 * count) trace u (replicate (boardsMost * width) 0) (replicate width 0) 0) (st .words)
+      (record {
         standing = s;
         whole = refl;
         within = omega arith;
+        wide = starts .boards;
         laid = start-laid;
-        long = length-replicate {A = ℕ} (boardsMost * width) 0;
         gathered = nothing;
-        anywhere = gathered-anywhere boards start-run (replicate (boardsMost * width) 0) (replicate width 0) nothing start-laid;
+        anywhere = gathered-anywhere boards startRun (replicate (boardsMost * width) 0) (replicate width 0) nothing start-laid;
         room = l;
         same-length = refl;
         running = subst⁻¹ (λ (s : State). Running S (channelIn c) e trace s 0 trace) (starts .state) (running-starts S (channelIn c) e trace l);
-      }
+      })
     where
-      nothing : Gathered boards start-run (replicate width 0)
+      nothing : Gathered boards startRun (replicate width 0)
       nothing =
           record {
-            receiver = λ a k t. not-both (inRow (bufferOf start-run a .held) k) t (zero-buffers boardsMost a k);
-            all = λ a k t. not-both (inRow (bufferOf start-run a .held) k) t (zero-buffers boardsMost a k);
+            receiver = λ a k t. not-both (inRow (bufferOf startRun a .held) k) t (zero-buffers boardsMost a k);
+            all = λ a k t. not-both (inRow (bufferOf startRun a .held) k) t (zero-buffers boardsMost a k);
           }
 
-  pub next-fits : (end : ℕ) (now done way rows held : List ℕ) (i : ℕ) → Goes end now done way rows held i → i < end → Fits w64 (i + 1)
-  next-fits end now done way rows held i G l = omega (arith, G .whole, G .standing .few)
+  module _ (end : ℕ) (now : List ℕ) (run : Run) (rows held : List ℕ) (k : ℕ) (G : Goes end now run rows held k) where
+    pub next-fits : k < end → Fits w64 (k + 1)
+    next-fits l = omega (arith, G .whole, G .standing .few)
 
-  -- the step chosen is on a message of the scenario
-  module _ (end : ℕ) (now done way rows held : List ℕ) (k : ℕ) (G : Goes end now done way rows held k) (r : StepOrNone) (s : code.Step)
-      (h : ChosenIn count boards words c done way rows e r) (i : r ≡ maybe.Step s) where
-    abbrev run : Run
-    run = record { done = done; way = way; buffers = G .buffers }
+    -- the step chosen is on a message of the scenario
+    module _ (r : StepOrNone) (s : code.Step) (h : ChosenIn count boards words c (run .done) (run .way) rows e r) (i : r ≡ maybe.Step s) where
+      taken : choose S (channelIn c) (classesFor S e) (stateOf run) ≡ some (stepIn s)
+      taken = sym (h run refl refl (G .laid)) ∙ ap stepOrNone i
 
-    taken : choose S (channelIn c) (classesFor S e) (stateOf run) ≡ some (stepIn s)
-    taken = sym (h run refl refl (G .laid)) ∙ ap stepOrNone i
+      pub step-inside : messageIn s < count
+      step-inside = chosen-inside S (channelIn c) (classesFor S e) (stateOf run) (stepIn s) taken
 
-    pub step-inside : messageIn s < count
-    step-inside = chosen-inside S (channelIn c) (classesFor S e) (stateOf run) (stepIn s) taken
+      pub step-reaches : Reaches boards s
+      step-reaches = reaches count boards words masks s (G .standing) step-inside
 
-    pub step-reaches : Reaches boards s
-    step-reaches = reaches count boards words masks s (G .standing) step-inside
+      pub step-few : messageIn s < messagesMost
+      step-few = step-reaches .few
 
-    pub step-few : messageIn s < messagesMost
-    step-few = step-reaches .few
+      pub goes-on : (later : List ℕ) (b : ℕ) (other : Buffer) (done way own rows-now held-now : List ℕ)
+          → later ≡ set (set now (2 * k) (kindOf (stepIn s))) (2 * k + 1) (messageIn s)
+          → TargetOf boards s b → DoneBehind (run .done) s done → WayBehind (run .way) s way → HeldBehind held s held-now
+          → HeldBehind (getD (run .buffers) b other .held) s own → LaysRow rows b own rows-now → k < end
+          → Goes end later (record { done = done; way = way; buffers = set (run .buffers) b (record { held = own }) }) rows-now held-now (k + 1)
+      goes-on later b other done way own rows-now held-now w target p q g h′ o l =
+          let last : Run = record { done = done; way = way; buffers = set (run .buffers) b (record { held = own }) } in
+          let inside : b < length (run .buffers) = omega (arith, target .below, G .wide) in
+          let own-behind : HeldBehind (bufferOf run b .held) s own =
+          subst (λ (u : Buffer). HeldBehind (u .held) s own) (getD-inside (run .buffers) b other (record { held = [] }) inside) h′ in
+          let laid : HeldIn last rows-now = set-laid run rows rows-now own b done way (G .laid) (target .below) o in
+          let v : Follows boards run (stepIn s) last = next-follows run s boards b other done way own p q h′ target (G .wide) in
+          let R = running-goes-on S (channelIn c) e trace (stateOf run) k now (stepIn s) (G .running) taken (omega (arith, G .whole)) in
+          let kept : length later ≡ length now = ap length w ∙ simp length-set in
+          let gathered : Gathered boards last held-now = gathered-behind boards run held held-now own done way b (G .gathered) inside s target own-behind g in
+          record {
+            standing = G .standing;
+            whole = G .whole;
+            within = omega arith;
+            wide = boards-kept run b (record { held = own }) (G .wide);
+            laid = laid;
+            gathered = gathered;
+            anywhere = gathered-anywhere boards last rows-now held-now gathered laid;
+            room = omega (arith, G .room);
+            same-length = kept ∙ G .same-length;
+            running =
+                subst⁻¹ (λ (t : List ℕ). Running S (channelIn c) e trace (stateOf last) (k + 1) t) w
+                (subst⁻¹ (λ (t : State). Running S (channelIn c) e trace t (k + 1) (set (set now (2 * k) (kindOf (stepIn s))) (2 * k + 1) (messageIn s))) (v count words) R);
+          }
 
-    pub goes-on : (later : List ℕ) (b : ℕ) (done-now way-now rows-now held-now : List ℕ)
-        → later ≡ set (set now (2 * k) (kindOf (stepIn s))) (2 * k + 1) (messageIn s)
-        → TargetOf boards s b → DoneBehind done s done-now → WayBehind way s way-now → RowsBehind rows b s rows-now → HeldBehind held s held-now → k < end
-        → Goes end later done-now way-now rows-now held-now (k + 1)
-    goes-on later b done-now way-now rows-now held-now w target p q o g l =
-        let L : Lays run b s done-now way-now rows-now = step-laid run rows rows-now b done-now way-now (G .laid) (target .below) s o (G .long) step-few in
-        let last : Run = record { done = done-now; way = way-now; buffers = set (G .buffers) b (record { held = L .own }) } in
-        let v : Follows boards run (stepIn s) last = next-follows run s boards b (record { held = [] }) done-now way-now (L .own) p q (L .behind) target (G .laid .boards) in
-        let R = running-goes-on S (channelIn c) e trace (stateOf run) k now (stepIn s) (G .running) taken (omega (arith, G .whole)) in
-        let kept : length later ≡ length now = ap length w ∙ simp length-set in
-        let inside : b < length (G .buffers) = omega (arith, target .below, G .laid .boards) in
-        let gathered : Gathered boards last held-now = gathered-behind boards run held held-now (L .own) done-now way-now b (G .gathered) inside s target (L .behind) g in
-        record {
-          buffers = last .buffers;
-          standing = G .standing;
-          whole = G .whole;
-          within = omega arith;
-          laid = L .laid;
-          long = rows-kept rows rows-now b s o ∙ G .long;
-          gathered = gathered;
-          anywhere = gathered-anywhere boards last rows-now held-now gathered (L .laid);
-          room = omega (arith, G .room);
-          same-length = kept ∙ G .same-length;
-          running =
-              subst⁻¹ (λ (t : List ℕ). Running S (channelIn c) e trace (stateOf last) (k + 1) t) w
-              (subst⁻¹ (λ (t : State). Running S (channelIn c) e trace t (k + 1) (set (set now (2 * k) (kindOf (stepIn s))) (2 * k + 1) (messageIn s))) (v count words) R);
-        }
+    pub goes-stops : (r : StepOrNone) → ChosenIn count boards words c (run .done) (run .way) rows e r → r ≡ maybe.Nothing → k < end
+        → Scheduled S (channelIn c) e trace now k
+    goes-stops r h n l =
+        running-stops S (channelIn c) e trace (stateOf run) k now (G .running) (sym (h run refl refl (G .laid)) ∙ ap stepOrNone n) (omega (arith, G .whole))
 
-  pub goes-stops : (end : ℕ) (now done way rows held : List ℕ) (i : ℕ) (r : StepOrNone) → Goes end now done way rows held i
-      → ChosenIn count boards words c done way rows e r → r ≡ maybe.Nothing → i < end → Scheduled S (channelIn c) e trace now i
-  goes-stops end now done way rows held i r G h n l =
-      let run : Run = record { done = done; way = way; buffers = G .buffers } in
-      running-stops S (channelIn c) e trace (stateOf run) i now (G .running) (sym (h run refl refl (G .laid)) ∙ ap stepOrNone n) (omega (arith, G .whole))
-
-  pub goes-ends : (end : ℕ) (now done way rows held : List ℕ) (i : ℕ) → Goes end now done way rows held i → end ≤ i
-      → Scheduled S (channelIn c) e trace now (3 * count)
-  goes-ends end now done way rows held i G l =
-      let k : i ≡ 3 * count = omega (arith, G .whole, G .within) in
-      subst (λ (j : ℕ). Scheduled S (channelIn c) e trace now j) k
-      (running-ends S (channelIn c) e trace (stateOf (record { done = done; way = way; buffers = G .buffers })) i now (G .running) (omega arith))
+    pub goes-ends : end ≤ k → Scheduled S (channelIn c) e trace now (3 * count)
+    goes-ends l =
+        let all : k ≡ 3 * count = omega (arith, G .whole, G .within) in
+        subst (λ (j : ℕ). Scheduled S (channelIn c) e trace now j) all
+        (running-ends S (channelIn c) e trace (stateOf run) k now (G .running) (omega arith))

@@ -10,13 +10,14 @@ ghost use Rattle.board.specs.Masks.{Standing};
 ghost use Rattle.step.specs.Steps.{stepIn, messageIn};
 ghost use Rattle.schedule.specs.Schedule.{Scheduled};
 use buffers::HELD_WORDS;
-use buffers::rows_behind;
+use buffers::lay_row;
 use channel_table::Channel;
 use next_state::done_behind;
 use next_state::held_behind;
 use next_state::way_behind;
 use next_step::choose;
 use relation::WIDTH;
+use run::Run;
 use run::target_of;
 use step::Step;
 use step::StepOrNone;
@@ -34,8 +35,9 @@ fn write_step(trace: &mut [u8], i: usize, step: Step)
     trace[behind] = message as u8;
 }
 
-// The schedule for e on a channel, written into the trace: the number of its steps. Three steps a message are always enough. The run is kept
-// by its parts: what is done, what is under way, the buffers' rows, and what they hold together.
+// The schedule for e on a channel, written into the trace: the number of its steps. Three steps a message are always enough. The run is one
+// value, and each step changes it in place. Beside it stands what the search reads of its buffers: a row for each, laid from it, and what they hold
+// together.
 pub fn schedule(
     words: &[u64],
     masks: &[u64],
@@ -50,21 +52,34 @@ pub fn schedule(
     requires { ⌜ 2 * (3 * count) ≤ length (now trace) ⌝ }
     ensures { λ r. ⌜ Scheduled (scenarioIn count (now (boards .entry)) (now (words .entry))) (channelIn c) e (now (trace .entry)) (now (trace .exit)) r ⌝ }
 {
-    let mut done = [0u64; WIDTH];
-    let mut way = [0u64; WIDTH];
+    let mut run = Run::start();
     let mut rows = [0u64; HELD_WORDS];
     let mut held = [0u64; WIDTH];
     for i in 0..3 * count {
-        let chosen = choose(words, masks, boards, count, c, &done, &way, &rows, &held, e);
+        let chosen = choose(
+            words,
+            masks,
+            boards,
+            count,
+            c,
+            &run.done,
+            &run.way,
+            &rows,
+            &held,
+            e,
+        );
         let StepOrNone::Step(step) = chosen else {
             return i;
         };
         write_step(trace, i, step);
         let target = target_of(boards, step);
-        done_behind(&mut done, step);
-        way_behind(&mut way, step);
-        rows_behind(&mut rows, target, step);
+        let mut buffer = run.buffers[target];
+        done_behind(&mut run.done, step);
+        way_behind(&mut run.way, step);
         held_behind(&mut held, step);
+        held_behind(&mut buffer.held, step);
+        run.buffers[target] = buffer;
+        lay_row(&mut rows, target, buffer);
     }
     3 * count
 }

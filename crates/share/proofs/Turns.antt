@@ -1,14 +1,14 @@
 -- What the turns of a job find, and that all of them together find the race named. Assumes nothing.
 use mathlib.Core.Path.{_≡_, refl, sym, _∙_, ap, subst⁻¹}
 use mathlib.Core.Logic.{⊎-elim}
-use mathlib.Core.Bool.{Bool, true, false, _&&_}
+use mathlib.Core.Bool.{Bool, true, false, _&&_, and-false}
 use mathlib.Core.List.{List}
 use mathlib.Core.Option.{Option, none, some}
 use Prim.Native.Nat.{ℕ, zero, suc, _*_, _/_, _%_, _<_, _≤_}
 use native.Mathlib.Decide.{ℕ-discrete, decLt}
 use native.Mathlib.Omega.{arith}
-use lib.Dec.{leb}
-use borrow.Author.Tests.{eq-eqb, ne-eqb, lt-ltb, ltb-true, le-leb}
+use lib.Dec.{eqb, ltb, leb}
+use borrow.Author.Tests.{eq-eqb, ne-eqb, lt-ltb, le-ltb, ltb-true, le-leb, lt-leb}
 use Rattle.model.specs.Limits.{channels, messagesMost}
 use Rattle.model.specs.Bounded.{lowest}
 use Rattle.model.specs.Order.{Scenario, event}
@@ -22,7 +22,7 @@ use Rattle.relation.specs.declared.Found.{Found}
 use Rattle.relation.specs.declared.Found.the-variants as found
 use Rattle.relation.specs.Own.{foundIn}
 use Rattle.share.specs.declared.Race.{Race}
-use Rattle.share.specs.Search.{inWords, half, fromOf, toOf, shareOf, searched, raceIn, Looks}
+use Rattle.share.specs.Search.{inWords, half, fromOf, toOf, shareOf, searched, raceIn, canBeHeld, lookedFrom, Looks}
 
 -- ---- the share of a turn, as it is looked at
 module _ (S : Scenario) (q : RaceRule) (t : ℕ) where
@@ -49,40 +49,73 @@ module _ (S : Scenario) (q : RaceRule) (t : ℕ) where
   searched-some x e s = rw (e, s)
 
 module _ (count : ℕ) (boards words : List ℕ) (code t : ℕ) (so-far : Race) where
-  abbrev Found-so-far : Race → Type 0
-  Found-so-far r = Looks count boards words code t so-far r
+  abbrev theShare : Option ℕ
+  theShare = shareOf (scenarioIn count boards words) (raceRuleOf code) t
 
-  pub looks-stays : (so-far .found ≡ 0 → ⊥) → Found-so-far so-far
-  looks-stays n =
-      let is : raceIn so-far ≡ some (so-far .message, so-far .event) = rw (ne-eqb (so-far .found) 0 n) in
-      record { on = λ few known l e. is ∙ sym (searched-stays _ _ t (so-far .message, so-far .event) (sym e ∙ is)) }
+  abbrev after : Race
+  after = lookedFrom count boards words code t so-far
 
-  pub looks-many : messagesMost < count → Found-so-far so-far
-  looks-many h = record { on = λ few known l e. absurd (omega arith) }
+  -- a race found stays
+  stays : (so-far .found ≡ 0 → ⊥) → after ≡ so-far
+  unfolding lookedFrom
+  stays n = rw (ne-eqb (so-far .found) 0 n)
 
-  pub looks-unknown : channels ≤ code → Found-so-far so-far
-  looks-unknown h = record { on = λ few known l e. absurd (omega arith) }
+  pub looks-stays : (so-far .found ≡ 0 → ⊥) → Looks count boards words code t so-far so-far
+  looks-stays n = record { exact = sym (stays n) }
 
-  pub looks-late : 2 * count ≤ t → Found-so-far so-far
-  looks-late h = record { on = λ few known l e. absurd (omega arith) }
+  -- what no job can hold
+  no-job : canBeHeld count code t ≡ false → Looks count boards words code t so-far so-far
+  unfolding lookedFrom
+  no-job f = record { exact = sym (rw (f, and-false (eqb (so-far .found) 0))) }
 
-  module _ (rule : Rule) (f : Found) (z : so-far .found ≡ 0) (same : ruleIn rule ≡ raceRuleOf code)
-      (s : foundIn f ≡ shareOf (scenarioIn count boards words) (ruleIn rule) t) where
-    nothing-yet : raceIn so-far ≡ none
-    nothing-yet = rw (eq-eqb (so-far .found) 0 z)
+  pub looks-many : messagesMost < count → Looks count boards words code t so-far so-far
+  unfolding canBeHeld
+  looks-many h = no-job (rw (lt-leb count messagesMost h))
 
-    abbrev theShare : Option ℕ
-    theShare = shareOf (scenarioIn count boards words) (raceRuleOf code) t
+  pub looks-unknown : channels ≤ code → Looks count boards words code t so-far so-far
+  unfolding canBeHeld
+  looks-unknown h = no-job (rw (le-ltb code channels h, and-false (leb count messagesMost)))
 
-    share-is : (o : Option ℕ) → foundIn f ≡ o → theShare ≡ o
-    share-is o h = ap (λ (k : RaceRule). shareOf (scenarioIn count boards words) k t) (sym same) ∙ sym s ∙ h
+  pub looks-late : 2 * count ≤ t → Looks count boards words code t so-far so-far
+  unfolding canBeHeld
+  looks-late h = no-job (rw (le-ltb t (2 * count) h) (and-false (leb count messagesMost && ltb code channels)))
 
-    pub looks-nothing : f ≡ found.Nothing → Found-so-far so-far
-    looks-nothing i =
-        record { on = λ few known l e. nothing-yet ∙ sym (searched-none _ _ t (sym e ∙ nothing-yet) (share-is none (ap foundIn i))) }
+  -- a job's turn
+  module _ (z : so-far .found ≡ 0) (few : count ≤ messagesMost) (known : code < channels) (l : t < 2 * count) where
+    nothing : theShare ≡ none → after ≡ so-far
+    unfolding lookedFrom canBeHeld
+    nothing s = rw (eq-eqb (so-far .found) 0 z, le-leb count messagesMost few, lt-ltb code channels known, lt-ltb t (2 * count) l, s)
 
-    pub looks-finds : (x : ℕ) → f ≡ found.Event x → Found-so-far (record { found = 1; message = t / 2; event = x })
-    looks-finds x i = record { on = λ few known l e. sym (searched-some _ _ t x (sym e ∙ nothing-yet) (share-is (some x) (ap foundIn i))) }
+    event-found : (x : ℕ) → theShare ≡ some x → after ≡ record { found = 1; message = t / 2; event = x }
+    unfolding lookedFrom canBeHeld
+    event-found x s = rw (eq-eqb (so-far .found) 0 z, le-leb count messagesMost few, lt-ltb code channels known, lt-ltb t (2 * count) l, s)
+
+    module _ (rule : Rule) (f : Found) (same : ruleIn rule ≡ raceRuleOf code) (s : foundIn f ≡ shareOf (scenarioIn count boards words) (ruleIn rule) t) where
+      share-is : (o : Option ℕ) → foundIn f ≡ o → theShare ≡ o
+      share-is o h = ap (λ (k : RaceRule). shareOf (scenarioIn count boards words) k t) (sym same) ∙ sym s ∙ h
+
+      pub looks-nothing : f ≡ found.Nothing → Looks count boards words code t so-far so-far
+      looks-nothing i = record { exact = sym (nothing (share-is none (ap foundIn i))) }
+
+      pub looks-finds : (x : ℕ) → f ≡ found.Event x → Looks count boards words code t so-far (record { found = 1; message = t / 2; event = x })
+      looks-finds x i = record { exact = sym (event-found x (share-is (some x) (ap foundIn i))) }
+
+  -- so a turn of a job that holds a scenario takes its search one turn on
+  pub looks-on : (r : Race) → Looks count boards words code t so-far r → count ≤ messagesMost → code < channels → t < 2 * count
+      → raceIn so-far ≡ searched (scenarioIn count boards words) (raceRuleOf code) t
+      → raceIn r ≡ searched (scenarioIn count boards words) (raceRuleOf code) (suc t)
+  looks-on r L few known l e = ap raceIn (L .exact) ∙ go (ℕ-discrete (so-far .found) 0) theShare refl
+    where
+      go : Dec (so-far .found ≡ 0) → (o : Option ℕ) → theShare ≡ o → raceIn after ≡ searched (scenarioIn count boards words) (raceRuleOf code) (suc t)
+      go (no n) o s =
+          let is : raceIn so-far ≡ some (so-far .message, so-far .event) = rw (ne-eqb (so-far .found) 0 n) in
+          ap raceIn (stays n) ∙ is ∙ sym (searched-stays _ _ t (so-far .message, so-far .event) (sym e ∙ is))
+      go (yes z) none s =
+          let yet : raceIn so-far ≡ none = rw (eq-eqb (so-far .found) 0 z) in
+          ap raceIn (nothing z few known l s) ∙ yet ∙ sym (searched-none _ _ t (sym e ∙ yet) s)
+      go (yes z) (some x) s =
+          let yet : raceIn so-far ≡ none = rw (eq-eqb (so-far .found) 0 z) in
+          ap raceIn (event-found z few known l x s) ∙ sym (searched-some _ _ t x (sym e ∙ yet) s)
 
 -- the event found is one of the scenario's
 pub found-below : (S : Scenario) (q : RaceRule) (t : ℕ) (f : Found) (x : ℕ) → foundIn f ≡ shareOf S q t → f ≡ found.Event x → x < 2 * S .count

@@ -3,30 +3,19 @@ use mathlib.Core.Path.{_≡_}
 use mathlib.Core.Bool.{Bool, cond, _&&_}
 use mathlib.Core.List.{List}
 use mathlib.Core.Option.{Option, none, some}
-use Prim.Native.Nat.{ℕ, zero, suc, _*_, _/_, _%_, _<_, _≤_}
+use Prim.Native.Nat.{ℕ, zero, suc, _*_, _/_, _%_}
 use lib.Dec.{eqb, ltb, leb}
-use lib.ListN.{getD}
 use Rattle.model.specs.Limits.{channels, messagesMost}
 use Rattle.model.specs.Bounded.{lowest}
 use Rattle.model.specs.Order.{Scenario, event}
 use Rattle.model.specs.Race.{RaceRule, raceRuleOf, isRace}
 use Rattle.relation.specs.Width.{width, wordBits}
 use Rattle.relation.specs.Scenario.{scenarioIn}
-use Rattle.share.specs.declared.Bit.{Bit}
-use Rattle.share.specs.declared.Bit.the-variants as bit
 use Rattle.share.specs.declared.Race.{Race}
-
--- event x is one of the first `events`, on the board
-abbrev pub isOn : List ℕ → ℕ → ℕ → ℕ → Bool
-isOn boards events board x = ltb x events && eqb (getD boards x 0) board
 
 -- event x is in the words from .. to - 1 of a row
 abbrev pub inWords : ℕ → ℕ → ℕ → Bool
 inWords from to x = leb (wordBits * from) x && ltb x (wordBits * to)
-
-abbrev pub bitIn : Bit → Option ℕ
-bitIn (bit.At b) = some b
-bitIn bit.Nothing = none
 
 -- Turn t of a job looks at message t / 2, and in its row at the first half of the words or at the second.
 abbrev pub half : ℕ
@@ -56,8 +45,19 @@ module _ (S : Scenario) (r : RaceRule) where
 abbrev pub raceIn : Race → Option (ℕ × ℕ)
 raceIn race = cond (eqb (race .found) 0) none (some (race .message, race .event))
 
--- a turn of a job that holds a scenario takes the search one turn on
-pub record Looks (count : ℕ) (boards words : List ℕ) (code t : ℕ) (so-far r : Race) : Type 0 where
-  pub on : count ≤ messagesMost → code < channels → t < 2 * count
-      → raceIn so-far ≡ searched (scenarioIn count boards words) (raceRuleOf code) t
-      → raceIn r ≡ searched (scenarioIn count boards words) (raceRuleOf code) (suc t)
+-- a job can have so many messages and this code, and turn t ahead of its last
+unfoldable pub canBeHeld : ℕ → ℕ → ℕ → Bool
+canBeHeld count code t = leb count messagesMost && ltb code channels && ltb t (2 * count)
+
+-- What stands in a place after a turn, whatever stood there: a race found stays, and what no job can hold is left as it is.
+unfoldable pub lookedFrom : ℕ → List ℕ → List ℕ → ℕ → ℕ → Race → Race
+lookedFrom count boards words code t earlier =
+    cond (eqb (earlier .found) 0 && canBeHeld count code t)
+    (elim (shareOf (scenarioIn count boards words) (raceRuleOf code) t) [
+      | none ↦ earlier
+      | some x ↦ record { found = 1; message = t / 2; event = x }
+    ])
+    earlier
+
+pub record Looks (count : ℕ) (boards words : List ℕ) (code t : ℕ) (earlier r : Race) : Type 0 where
+  pub exact : r ≡ lookedFrom count boards words code t earlier

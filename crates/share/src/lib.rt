@@ -8,12 +8,10 @@ ghost use Rattle.model.specs.Bounded.{lowest};
 ghost use Rattle.model.specs.Order.{event};
 ghost use Rattle.model.specs.Race.{isRace};
 ghost use Rattle.relation.specs.Width.{width, wordBits};
-ghost use Rattle.relation.specs.Rows.{has};
 ghost use Rattle.relation.specs.Own.{foundIn};
 ghost use Rattle.relation.specs.Scenario.{scenarioIn};
 ghost use Rattle.race.specs.Bridge.{ruleIn};
-ghost use Rattle.at_or_before.specs.Reached.{eventAt};
-ghost use Rattle.share.specs.Search.{isOn, inWords, bitIn, shareOf, Looks};
+ghost use Rattle.share.specs.Search.{inWords, shareOf, Looks};
 use race::Rule;
 use relation::Found;
 use relation::WIDTH;
@@ -30,48 +28,10 @@ pub struct Race {
     pub event: u32,
 }
 
-// A bit of a word, if one is found.
-enum Bit {
-    At(usize),
-    Nothing,
-}
-
 fn wide(bits: u32) -> usize
     ensures { λ r. ⌜ r ≡ bits ⌝ }
 {
     bits as usize
-}
-
-// Event x is one of the scenario's, on the board.
-fn is_on(boards: &[u8], events: usize, board: usize, x: usize) -> bool
-    requires { ⌜ events ≤ length (now boards) ⌝ }
-    ensures { λ r. ⌜ r ≡ isOn (now (boards .entry)) events board x ⌝ }
-{
-    if x < events {
-        return board::board_of(boards, x) == board;
-    }
-    false
-}
-
-// The lowest bit of a word whose event is on the board, bit b of word w standing for event 64 w + b.
-fn lowest_on(word: u64, w: usize, boards: &[u8], events: usize, board: usize) -> Bit
-    requires { ⌜ events ≤ length (now boards) ⌝ }
-    requires { ⌜ w < width ⌝ }
-    ensures { λ r. ⌜ bitIn r ≡ lowest wordBits (λ b. has word b && isOn (now (boards .entry)) events board (eventAt w b)) ⌝ }
-{
-    let mut at = 0;
-    while at < WORD_BITS {
-        let left = word >> at;
-        if left == 0 {
-            return Bit::Nothing;
-        }
-        let bit = at + wide(u64::trailing_zeros(left));
-        if is_on(boards, events, board, WORD_BITS * w + bit) {
-            return Bit::At(bit);
-        }
-        at = bit + 1;
-    }
-    Bit::Nothing
 }
 
 // The lowest event that races with message e, among those of words from .. to - 1 of a row.
@@ -84,20 +44,14 @@ fn lowest_between(
     from: usize,
     to: usize,
 ) -> Found
-    requires { ⌜ (2 * count ≤ length (now boards)) × (2 * count * width ≤ length (now words)) ⌝ }
+    requires { ⌜ (wordBits * width ≤ length (now boards)) × (2 * count * width ≤ length (now words)) ⌝ }
     requires { ⌜ (e < count) × (count ≤ messagesMost) × (to ≤ width) ⌝ }
     ensures { λ r. ⌜ foundIn r ≡ lowest (2 * count) (λ x. inWords from to x && isRace (scenarioIn count (now (boards .entry)) (now (words .entry))) (ruleIn rule) e (event x)) ⌝ }
 {
-    let receive = 2 * e + 1;
-    let board = board::board_of(boards, receive);
     for w in from..to {
-        let before = receive * WIDTH + w;
-        let outside = race::outside_word(words, rule, e, w);
-        let word = words[before] & outside;
-        let found = lowest_on(word, w, boards, 2 * count, board);
-        match found {
-            Bit::At(b) => return Found::Event(WORD_BITS * w + b),
-            Bit::Nothing => {}
+        let word = race::race_word_unmasked(words, boards, count, rule, e, w);
+        if word != 0 {
+            return Found::Event(WORD_BITS * w + wide(u64::trailing_zeros(word)));
         }
     }
     Found::Nothing
@@ -105,7 +59,7 @@ fn lowest_between(
 
 // The share of turn t: the lowest event that races with message t / 2, in the half of its row that the turn looks at.
 fn share(words: &[u64], boards: &[u8], count: usize, rule: Rule, t: usize) -> Found
-    requires { ⌜ (2 * count ≤ length (now boards)) × (2 * count * width ≤ length (now words)) ⌝ }
+    requires { ⌜ (wordBits * width ≤ length (now boards)) × (2 * count * width ≤ length (now words)) ⌝ }
     requires { ⌜ (t < 2 * count) × (count ≤ messagesMost) ⌝ }
     ensures { λ r. ⌜ foundIn r ≡ shareOf (scenarioIn count (now (boards .entry)) (now (words .entry))) (ruleIn rule) t ⌝ }
 {

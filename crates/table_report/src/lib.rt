@@ -6,7 +6,7 @@ use libc::STDOUT_FILENO;
 
 // The bytes of the table's file, which argument i names. A table may have as many as a text.
 fn read(i: usize, table: &mut [u8]) -> File {
-    commands::read_file(i, b"the table's", table)
+    commands::read_file(i, table)
 }
 
 // A pair of boards, by its number.

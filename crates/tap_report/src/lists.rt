@@ -103,7 +103,7 @@ fn list_in(bytes: &[u8], list: &mut [u16]) -> Listed {
 // The list in the file that an argument names.
 pub fn read(argument: usize, list: &mut [u16]) -> Listed {
     let mut bytes = [0u8; INPUT_MOST];
-    match commands::read_file(argument, b"a list's", &mut bytes) {
+    match commands::read_file(argument, &mut bytes) {
         File::Missing => Listed::Unread,
         File::Read(n) => {
             let end = n % (INPUT_MOST + 1);

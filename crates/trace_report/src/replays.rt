@@ -43,7 +43,7 @@ fn judge(text: &[u8], code: u32, trace: &[u8]) {
 // The trace is in the file that argument 3 names.
 pub fn print_replay(text: &[u8], code: u32) {
     let mut trace = [0u8; TRACE_MOST];
-    if let File::Read(n) = commands::read_file(3, b"the trace's", &mut trace) {
+    if let File::Read(n) = commands::read_file(3, &mut trace) {
         let end = n % (TRACE_MOST + 1);
         judge(text, code, &trace[..end]);
     }

@@ -36,7 +36,7 @@ use Rattle.next_state.specs.Behind.{DoneBehind, WayBehind, HeldBehind, Follows}
 use Rattle.next_state.proofs.Behind.{next-follows, boards-kept}
 use Rattle.step_rules.specs.Steps.{Says}
 use Rattle.channel.specs.Steps.{SaysStep}
-use Rattle.channel.proofs.StepTests.{unknown-step}
+use Rattle.model.proofs.Rules.{unknown-step}
 use Rattle.standing.specs.declared.Stand.{Stand}
 use Rattle.standing.specs.declared.Stand.the-variants as stand
 use Rattle.standing.specs.Bridge.{standIn}

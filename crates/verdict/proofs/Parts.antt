@@ -24,7 +24,7 @@ pub on-channel : (S : Scenario) (code e steps : ℕ) (trace behind : List ℕ) (
 on-channel S code e steps trace behind c i s = subst (λ (k : model.Channel). Scheduled S k e trace behind steps) i s
 
 module _ (S : Scenario) (code : ℕ) where
-  verdict-locked : (e x : ℕ) → IsRace S code e x → verdictOf S code ≡ locked e x (schedule S (model.channelOf code) e)
+  pub verdict-locked : (e x : ℕ) → IsRace S code e x → verdictOf S code ≡ locked e x (schedule S (model.channelOf code) e)
   unfolding verdictOf
   verdict-locked e x h =
       subst⁻¹
@@ -32,7 +32,7 @@ module _ (S : Scenario) (code : ℕ) where
       ≡ locked e x (schedule S (model.channelOf code) e))
       h refl
 
-  verdict-free : lowestRace S (raceRuleOf code) ≡ none → verdictOf S code ≡ free
+  pub verdict-free : lowestRace S (raceRuleOf code) ≡ none → verdictOf S code ≡ free
   unfolding verdictOf
   verdict-free h =
       subst⁻¹

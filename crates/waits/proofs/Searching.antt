@@ -30,7 +30,8 @@ use Rattle.run.specs.State.{bufferOf, stateOf}
 use Rattle.readiness.specs.declared.Readiness.{Readiness}
 use Rattle.readiness.specs.declared.Readiness.the-variants.{Ready, Done, Waits}
 use Rattle.readiness.specs.Says.{readinessIn, SaysReadiness}
-use Rattle.next_message.specs.Next.{NextIn}
+use Rattle.next_message.specs.Next.{nextIn}
+use Rattle.next_message.proofs.InRow.{next-absent}
 use Rattle.waits.specs.Bridge.{heldReadiness, OfBoards, SaysHeld, SaysWait}
 
 -- a message in the state, by the readiness of its receive
@@ -94,15 +95,15 @@ module _ (count : ℕ) (on words done : List ℕ) (buffer : Buffer) where
   none-below : (m : ℕ) → m ≤ count → Passed m → OfBoards done buffer (λ run b. lowest m (unreadyIn S (stateOf run) b) ≡ none)
   none-below m l P run b d e = lowest-nowhere m (unreadyIn S (stateOf run) b) (λ j h. P .passed j h (omega arith) run b d e)
 
-  skips : (m r : ℕ) → Passed m → NextIn (buffer .held) m r → Passed r
+  skips : (m r : ℕ) → Passed m → r ≡ nextIn (buffer .held) m → Passed r
   unfolding unreadyIn
   skips m r P n = record { passed = λ j h i. go j h i (decLt j m) }
     where
       go : (j : ℕ) → j < r → j < count → Dec (j < m) → OfBoards done buffer (λ run b. unreadyIn S (stateOf run) b j ≡ false)
       go j h i (yes l) = P .passed j l i
-      go j h i (no l) = λ run b d e. rw (e, n .absent j (omega arith) h)
+      go j h i (no l) = λ run b d e. rw (e, next-absent (buffer .held) m j (omega arith) (subst (λ (k : ℕ). j < k) n h))
 
-  pub search-begins : (r : ℕ) → NextIn (buffer .held) 0 r → Passed r
+  pub search-begins : (r : ℕ) → r ≡ nextIn (buffer .held) 0 → Passed r
   search-begins r n = skips 0 r (record { passed = λ j h i. absurd (omega arith) }) n
 
   pub finds-nobody : (m : ℕ) → Passed m → count ≤ m → SaysWait count on words done buffer noWait
@@ -119,7 +120,7 @@ module _ (count : ℕ) (on words done : List ℕ) (buffer : Buffer) where
             rw same (unready-is S (stateOf run) b m ∙ ap (λ (q : waits.Readiness). not (readyOf q)) (sym (says run b d e) ∙ ap readinessIn i))
         go j h g (no other) = P .passed j (omega arith) g
 
-    pub goes-past : (n : ℕ) → Passed m → r ≡ Ready → NextIn (buffer .held) (m + 1) n → Passed n
+    pub goes-past : (n : ℕ) → Passed m → r ≡ Ready → n ≡ nextIn (buffer .held) (m + 1) → Passed n
     goes-past n P i next = skips (m + 1) n (tried P i) next
 
     pub nobody-left : Passed m → r ≡ Ready → m + 1 ≡ count → SaysWait count on words done buffer noWait

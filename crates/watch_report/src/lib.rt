@@ -216,34 +216,44 @@ fn follow_trace(opened: Monitor, trace: &[u8], text: &[u8]) {
     }
 }
 
-// The steps come from the file that argument 4 names, if there is one, else from standard input.
-fn follow_steps(opened: Monitor, text: &[u8]) {
-    let mut name = [0u8; commands::NAME_MOST];
-    if os::arg(4, &mut name) == 0 {
-        follow(opened, text);
-        return;
-    }
-    let mut trace = [0u8; TRACE_MOST];
-    if let File::Read(n) = commands::read_file(4, b"the trace's", &mut trace) {
-        let end = n % (TRACE_MOST + 1);
-        follow_trace(opened, &trace[..end], text);
-    }
-}
-
-// A monitor of the sheet, opened on a channel, and the steps that it is fed.
-fn watch(text: &[u8], code: u32) {
+// A monitor of the sheet, opened on a channel, and the steps that it is fed from a trace.
+fn watch_trace(text: &[u8], code: u32, trace: &[u8]) {
     let mut scratch = [0u64; model::SCRATCH_LEAST];
     let a = channel_check::monitor_open(text, code, &mut scratch);
     print_word(a);
     if a.word == 0 {
-        follow_steps(a.next, text);
+        follow_trace(a.next, trace, text);
+    }
+}
+
+// The same from standard input, a line at a time.
+fn watch_lines(text: &[u8], code: u32) {
+    let mut scratch = [0u64; model::SCRATCH_LEAST];
+    let a = channel_check::monitor_open(text, code, &mut scratch);
+    print_word(a);
+    if a.word == 0 {
+        follow(a.next, text);
+    }
+}
+
+// The steps come from the file that argument 4 names, if there is one, else from standard input. The file is read ahead of any answer.
+fn watch(text: &[u8], code: u32) {
+    let mut name = [0u8; commands::NAME_MOST];
+    if os::arg(4, &mut name) == 0 {
+        watch_lines(text, code);
+        return;
+    }
+    let mut trace = [0u8; TRACE_MOST];
+    if let File::Read(n) = commands::read_file(4, &mut trace) {
+        let end = n % (TRACE_MOST + 1);
+        watch_trace(text, code, &trace[..end]);
     }
 }
 
 // The sheet is in the file that argument 3 names.
 pub fn run(code: u32) {
     let mut text = [0u8; INPUT_MOST];
-    if let File::Read(n) = commands::read_file(3, b"the sheet's", &mut text) {
+    if let File::Read(n) = commands::read_file(3, &mut text) {
         let end = n % (INPUT_MOST + 1);
         watch(&text[..end], code);
     }

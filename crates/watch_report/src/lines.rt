@@ -1,5 +1,5 @@
 // Lines from standard input, a byte at a time, so that each is answered as it is typed; and what a line tells the monitor.
-use libc::STDIN_FILENO;
+use input::Input;
 
 // The longest line that is read as one.
 pub const MOST: usize = 64;
@@ -24,20 +24,22 @@ enum Number {
 enum Byte {
     Is(u8),
     End,
+    Failed,
 }
 
 fn next_byte() -> Byte {
     let mut byte = [0u8; 1];
-    if io::read_full(STDIN_FILENO, &mut byte) == 0 {
-        return Byte::End;
+    match input::read_standard(&mut byte) {
+        Input::Failed => Byte::Failed,
+        Input::Read(n) => { if n == 0 { Byte::End } else { Byte::Is(byte[0]) } }
     }
-    Byte::Is(byte[0])
 }
 
-// The next line, without its end. What is behind the longest is a line of its own.
+// The next line, without its end. What is behind the longest is a line of its own; what is ahead of a read that failed is none.
 pub fn read(line: &mut [u8]) -> Line {
     for i in 0..line.len() {
         match next_byte() {
+            Byte::Failed => return Line::End,
             Byte::End => {
                 if i == 0 {
                     return Line::End;

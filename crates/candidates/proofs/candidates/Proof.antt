@@ -1,6 +1,6 @@
 -- `candidates::candidates` meets its contract, class by class. Assumes nothing.
 use borrow.Author.Needs.{needs}
-use Rattle.candidates.proofs.Skipped.{candidates-held, candidates-own, candidates-needed-delivery, candidates-delivery, candidates-needed-send, candidates-send}
+use Rattle.candidates.proofs.Filled.{candidates-held, candidates-own, candidates-needed-delivery, candidates-delivery, candidates-needed-send, candidates-send}
 use Rattle.candidates.proofs.candidates.Statement.{statement}
 use Rattle.candidates.proofs.candidates.Tie as tie
 

@@ -6,7 +6,7 @@ use native.Mathlib.Omega.{arith}
 use lib.Bits.{bitAnd}
 use lib.ListN.{getD}
 use Rattle.relation.specs.Width.{width}
-use Rattle.candidates.proofs.Skipped.{Filled, common, filled-start, filled-more, needed-marked, needed-absent}
+use Rattle.candidates.proofs.Filled.{Filled, common, filled-start, filled-more, needed-marked, needed-absent}
 use Rattle.candidates.proofs.needed.Statement.{statement}
 use Rattle.candidates.proofs.needed.Tie as tie
 

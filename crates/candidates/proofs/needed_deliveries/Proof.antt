@@ -6,7 +6,7 @@ use native.Mathlib.Omega.{arith}
 use lib.Bits.{bitAnd}
 use lib.ListN.{getD}
 use Rattle.relation.specs.Width.{width}
-use Rattle.candidates.proofs.Skipped.{Filled, behindSends, filled-start, filled-more, needed-deliveries-all}
+use Rattle.candidates.proofs.Filled.{Filled, behindSends, filled-start, filled-more, needed-deliveries-all}
 use Rattle.candidates.proofs.needed_deliveries.Statement.{statement}
 use Rattle.candidates.proofs.needed_deliveries.Tie as tie
 

@@ -1,6 +1,6 @@
 -- `candidates::own_delivery` meets its contract. Assumes nothing.
 use borrow.Author.Needs.{needs}
-use Rattle.candidates.proofs.Skipped.{own-marked, own-absent}
+use Rattle.candidates.proofs.Filled.{own-marked, own-absent}
 use Rattle.candidates.proofs.own_delivery.Statement.{statement}
 use Rattle.candidates.proofs.own_delivery.Tie as tie
 

@@ -7,7 +7,7 @@ use native.Mathlib.Omega.{arith}
 use lib.Bits.{bitAnd}
 use Rattle.relation.specs.Width.{width, wordBits}
 use Rattle.relation.proofs.Words.{evenBits}
-use Rattle.candidates.proofs.Skipped.{Filled, filled-start, filled-more, sendsOut, unsent-all}
+use Rattle.candidates.proofs.Filled.{Filled, filled-start, filled-more, sendsOut, unsent-all}
 use Rattle.candidates.proofs.unsent.Statement.{statement}
 use Rattle.candidates.proofs.unsent.Tie as tie
 

@@ -6,10 +6,10 @@ use Rattle.channel_report.proofs.print_channels.Statement.{statement}
 use Rattle.channel_report.proofs.print_channels.Tie as tie
 
 abbrev Inv-loop : tie.InvT-loop
-Inv-loop text code₀ code = code ≤ channels
+Inv-loop text printed₀ code₀ printed code = code ≤ channels
 
 abbrev μ-loop : tie.MeasureT-loop
-μ-loop text code₀ code = channels - code
+μ-loop text printed₀ code₀ printed code = channels - code
 
 slice-aggregate-print : tie.Need-slice-aggregate-print Inv-loop μ-loop
 slice-aggregate-print c = search needs

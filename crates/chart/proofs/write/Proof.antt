@@ -17,9 +17,6 @@ returns c = search needs
 slice-aggregate-read-file : tie.Need-slice-aggregate-read-file
 slice-aggregate-read-file c = search needs
 
-slice-aggregate-read-file-2 : tie.Need-slice-aggregate-read-file-2
-slice-aggregate-read-file-2 c = search needs
-
 read-file-requires : tie.Need-read-file-requires
 read-file-requires c κs = search needs
 
@@ -58,7 +55,6 @@ write-spec =
     write-check-requires
     returns
     slice-aggregate-read-file
-    slice-aggregate-read-file-2
     read-file-requires
     enum-known-n
     add-end

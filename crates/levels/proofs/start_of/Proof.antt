@@ -11,7 +11,7 @@ shared-slice-read-result : tie.Need-shared-slice-read-result
 shared-slice-read-result c = search needs
 
 cast-result : tie.Need-cast-result
-cast-result c = omega (arith, c .shared-slice-known .given (c .before .args .sheet))
+cast-result c = omega (arith, c .shared-slice-known .given (c .before .args .sheet), c .shared-slice-known .given 0)
 
 returns : tie.Need-returns
 returns c = search needs

@@ -38,7 +38,7 @@ add-result c =
     search needs
 
 returns : tie.Need-returns Inv-loop μ-loop
-returns c = next-in-word _ _ (c .before .shared-slice-known .given _ .fits) (c .if1 .taken)
+returns c = next-in-word _ _ (c .before .shared-slice-known .given _ .fits) (c .if1 .taken) (omega arith)
 
 add-i : tie.Need-add-i Inv-loop μ-loop
 add-i c = search needs
@@ -66,7 +66,7 @@ add-result-2 c =
     search needs
 
 returns-2 : tie.Need-returns-2 Inv-loop μ-loop
-returns-2 c = next-in-row _ _ _ (c .before .before .before .loop .inv)
+returns-2 c = next-in-row _ _ _ (c .before .before .before .loop .inv) (c .before .shared-slice-known2 .given _ .fits) (c .if2 .taken) (omega arith)
 
 add-i-2 : tie.Need-add-i-2 Inv-loop μ-loop
 add-i-2 c = search needs

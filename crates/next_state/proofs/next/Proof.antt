@@ -1,6 +1,6 @@
 -- `next_state::next` meets its contract. Assumes nothing.
 use Rattle.run.proofs.States.{buffers-long}
-use Rattle.next_state.proofs.Behind.{next-follows}
+use Rattle.next_state.proofs.Behind.{next-run}
 use borrow.Author.Needs.{needs}
 use Rattle.next_state.proofs.next.Statement.{statement}
 use Rattle.next_state.proofs.next.Tie as tie
@@ -33,7 +33,7 @@ returns : tie.Need-returns
 returns c =
     let s = c .before .before .before .before .before .before .before .before .before in
     let long = buffers-long (s .args .t1) _ (s .good .0) in
-    search next-follows
+    search next-run
 
 pub next-spec : {M : Type 1} → statement M
 next-spec =

@@ -1,6 +1,7 @@
 -- `next_step::lowest` meets its contract. Assumes nothing.
 use borrow.Author.Needs.{needs}
 use Prim.Native.Nat.{_-_}
+use Rattle.next_message.proofs.InRow.{less-left}
 use Rattle.next_step.proofs.Searching.{Passed, search-begins, goes-past, finds, finds-none-left, finds-nothing}
 use Rattle.next_step.proofs.lowest.Statement.{statement}
 use Rattle.next_step.proofs.lowest.Tie as tie
@@ -48,7 +49,7 @@ next-in-requires-2 : tie.Need-next-in-requires-2 Inv-loop μ-loop
 next-in-requires-2 c κs = search needs
 
 loop-less : tie.Need-loop-less Inv-loop μ-loop
-loop-less c = search needs
+loop-less c = search less-left
 
 loop-again : tie.Need-loop-again Inv-loop μ-loop
 loop-again c = search goes-past

@@ -1,47 +1,32 @@
--- `race_words::main` meets its contract. Assumes nothing.
+-- `main` meets its contract. Assumes nothing.
 use borrow.Author.Needs.{needs}
-use Rattle.scenario.proofs.Laws.{sheet-fits, boards-long}
+use Rattle.input.proofs.Parts.{handed}
 use Rattle.race_words.proofs.main.Statement.{statement}
 use Rattle.race_words.proofs.main.Tie as tie
 
-slice-aggregate-read-full : tie.Need-slice-aggregate-read-full
-slice-aggregate-read-full c = search needs
+slice-aggregate-read-standard : tie.Need-slice-aggregate-read-standard
+slice-aggregate-read-standard c = search needs
 
-read-full-requires : tie.Need-read-full-requires
-read-full-requires c κs = search needs
+read-standard-requires : tie.Need-read-standard-requires
+read-standard-requires c κs = search needs
+
+enum-known-n : tie.Need-enum-known-n
+enum-known-n c = search needs
 
 array-share-prefix-text : tie.Need-array-share-prefix-text
-array-share-prefix-text c = search needs
+array-share-prefix-text c = handed _ _ _ (c .before .n .given .1) (c .before .before .before .before .read-standard .ensures) .0
 
-slice-aggregate-scenario-of : tie.Need-slice-aggregate-scenario-of
-slice-aggregate-scenario-of c = search needs
+slice-aggregate-print-words : tie.Need-slice-aggregate-print-words
+slice-aggregate-print-words c = handed _ _ _ (c .before .before .n .given .1) (c .before .before .before .before .before .read-standard .ensures) .1
 
-slice-aggregate-scenario-of-2 : tie.Need-slice-aggregate-scenario-of-2
-slice-aggregate-scenario-of-2 c = search needs
+print-words-requires : tie.Need-print-words-requires
+print-words-requires c κs = search needs
 
-scenario-of-requires : tie.Need-scenario-of-requires
-scenario-of-requires c κs = search needs
+conclude-requires : tie.Need-conclude-requires
+conclude-requires c κs = search needs
 
 enum-told : tie.Need-enum-told
 enum-told c = search needs
-
-slice-aggregate-write-all : tie.Need-slice-aggregate-write-all
-slice-aggregate-write-all c = search needs
-
-write-all-requires : tie.Need-write-all-requires
-write-all-requires c κs = search needs
-
-enum-known-outcome : tie.Need-enum-known-outcome
-enum-known-outcome c = search needs
-
-slice-aggregate-print-all : tie.Need-slice-aggregate-print-all
-slice-aggregate-print-all c = search needs
-
-slice-aggregate-print-all-2 : tie.Need-slice-aggregate-print-all-2
-slice-aggregate-print-all-2 c = search boards-long
-
-print-all-requires : tie.Need-print-all-requires
-print-all-requires c κs = search sheet-fits
 
 returns : tie.Need-returns
 returns c = search needs
@@ -53,18 +38,13 @@ pub main-spec : {M : Type 1} → statement M
 main-spec =
     tie.close
     (tie.spec
-    slice-aggregate-read-full
-    read-full-requires
+    slice-aggregate-read-standard
+    read-standard-requires
+    enum-known-n
     array-share-prefix-text
-    slice-aggregate-scenario-of
-    slice-aggregate-scenario-of-2
-    scenario-of-requires
+    slice-aggregate-print-words
+    print-words-requires
+    conclude-requires
     enum-told
-    slice-aggregate-write-all
-    write-all-requires
-    enum-known-outcome
-    slice-aggregate-print-all
-    slice-aggregate-print-all-2
-    print-all-requires
     returns
     returns-2)

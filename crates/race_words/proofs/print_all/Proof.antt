@@ -7,10 +7,10 @@ use Rattle.race_words.proofs.print_all.Statement.{statement}
 use Rattle.race_words.proofs.print_all.Tie as tie
 
 abbrev Inv-loop : tie.InvT-loop
-Inv-loop words boards count masks code₀ code = code ≤ channels
+Inv-loop words boards count masks printed₀ code₀ printed code = code ≤ channels
 
 abbrev μ-loop : tie.MeasureT-loop
-μ-loop words boards count masks code₀ code = channels - code
+μ-loop words boards count masks printed₀ code₀ printed code = channels - code
 
 slice-aggregate-board-masks : tie.Need-slice-aggregate-board-masks Inv-loop μ-loop
 slice-aggregate-board-masks c = search needs

@@ -5,10 +5,10 @@ use Rattle.race_words.proofs.print_code.Statement.{statement}
 use Rattle.race_words.proofs.print_code.Tie as tie
 
 abbrev Inv-loop : tie.InvT-loop
-Inv-loop words masks boards count code e₀ e = e ≤ count
+Inv-loop words masks boards count code printed₀ e₀ printed e = e ≤ count
 
 abbrev μ-loop : tie.MeasureT-loop
-μ-loop words masks boards count code e₀ e = count - e
+μ-loop words masks boards count code printed₀ e₀ printed e = count - e
 
 loop-holds : tie.Need-loop-holds Inv-loop μ-loop
 loop-holds c = search needs

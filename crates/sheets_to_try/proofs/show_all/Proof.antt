@@ -32,6 +32,9 @@ show-requires c κs = search needs
 returns : tie.Need-returns Inv-loop μ-loop
 returns c = search needs
 
+returns-2 : tie.Need-returns-2 Inv-loop μ-loop
+returns-2 c = search needs
+
 add-at : tie.Need-add-at Inv-loop μ-loop
 add-at c = search needs
 
@@ -41,8 +44,8 @@ loop-less c = search needs
 loop-again : tie.Need-loop-again Inv-loop μ-loop
 loop-again c = search needs
 
-returns-2 : tie.Need-returns-2 Inv-loop μ-loop
-returns-2 c = search needs
+returns-3 : tie.Need-returns-3 Inv-loop μ-loop
+returns-3 c = search needs
 
 pub show-all-spec : {M : Type 1} → statement M
 show-all-spec =
@@ -57,7 +60,8 @@ show-all-spec =
     part-show-end
     show-requires
     returns
+    returns-2
     add-at
     loop-less
     loop-again
-    returns-2)
+    returns-3)

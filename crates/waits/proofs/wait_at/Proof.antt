@@ -1,6 +1,7 @@
 -- `waits::wait_at` meets its contract. The loop keeps `Passed`: no message passed keeps the board waiting. Assumes nothing.
 use Prim.Native.Nat.{_-_}
 use borrow.Author.Needs.{needs}
+use Rattle.next_message.proofs.InRow.{less-left}
 use Rattle.waits.proofs.Searching.{Passed, search-begins, goes-past, finds-nobody, nobody-left, finds-done, finds-event, event-fits}
 use Rattle.waits.proofs.wait_at.Statement.{statement}
 use Rattle.waits.proofs.wait_at.Tie as tie
@@ -51,7 +52,7 @@ next-in-requires-2 : tie.Need-next-in-requires-2 Inv-loop μ-loop
 next-in-requires-2 c κs = search needs
 
 loop-less : tie.Need-loop-less Inv-loop μ-loop
-loop-less c = search needs
+loop-less c = search less-left
 
 loop-again : tie.Need-loop-again Inv-loop μ-loop
 loop-again c = search goes-past

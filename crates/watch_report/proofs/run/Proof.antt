@@ -8,9 +8,6 @@ use Rattle.watch_report.proofs.run.Tie as tie
 slice-aggregate-read-file : tie.Need-slice-aggregate-read-file
 slice-aggregate-read-file c = search needs
 
-slice-aggregate-read-file-2 : tie.Need-slice-aggregate-read-file-2
-slice-aggregate-read-file-2 c = search needs
-
 read-file-requires : tie.Need-read-file-requires
 read-file-requires c κs = search needs
 
@@ -46,7 +43,6 @@ run-spec =
     tie.close
     (tie.spec
     slice-aggregate-read-file
-    slice-aggregate-read-file-2
     read-file-requires
     enum-known-n
     add-end

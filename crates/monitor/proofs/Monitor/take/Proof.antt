@@ -1,5 +1,6 @@
 -- `Monitor::take` meets its contract, case by case. Assumes nothing.
 use Rattle.monitor.proofs.Parts.{none-told, step-forbidden, step-taken, masks-wanted, stands, step-reaches}
+use Rattle.run.proofs.Typed.{typed}
 use borrow.Author.Needs.{needs}
 use Rattle.monitor.proofs.Monitor.take.Statement.{statement}
 use Rattle.monitor.proofs.Monitor.take.Tie as tie
@@ -46,7 +47,7 @@ taken-requires : tie.Need-taken-requires
 taken-requires c κs = search needs
 
 returns-2 : tie.Need-returns-2
-returns-2 c = search step-taken
+returns-2 c = let known = typed (c .before .next .result) _ (c .before .next .ok) in search step-taken
 
 forbidden-requires-2 : tie.Need-forbidden-requires-2
 forbidden-requires-2 c κs = search needs

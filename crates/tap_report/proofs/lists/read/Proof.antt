@@ -8,9 +8,6 @@ use Rattle.tap_report.proofs.lists.read.Tie as tie
 slice-aggregate-read-file : tie.Need-slice-aggregate-read-file
 slice-aggregate-read-file c = search needs
 
-slice-aggregate-read-file-2 : tie.Need-slice-aggregate-read-file-2
-slice-aggregate-read-file-2 c = search needs
-
 read-file-requires : tie.Need-read-file-requires
 read-file-requires c κs = search needs
 
@@ -49,7 +46,6 @@ read-spec =
     tie.close
     (tie.spec
     slice-aggregate-read-file
-    slice-aggregate-read-file-2
     read-file-requires
     enum-told
     enum-known-n

@@ -57,3 +57,5 @@ pub mod Jobs
 pub mod Calls
 pub mod Turns
 pub mod Dispatcher
+pub mod Holdings
+pub mod Stands

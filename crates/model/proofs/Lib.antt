@@ -59,3 +59,4 @@ pub mod Turns
 pub mod Dispatcher
 pub mod Holdings
 pub mod Stands
+pub mod Rounds

@@ -25,6 +25,7 @@ pub mod Taps
 pub mod Senders
 pub mod Holdings
 pub mod Standing
+pub mod Rounds
 pub mod Choice
 pub mod Scratch
 pub mod EverySheet

@@ -60,3 +60,4 @@ pub mod Dispatcher
 pub mod Holdings
 pub mod Stands
 pub mod Rounds
+pub mod RoundsJudged

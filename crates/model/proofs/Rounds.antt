@@ -56,11 +56,11 @@ module _ (E : Exchange) (inside : RowsInside E) where
   at-message r (sendOf m) = refl
   at-message r (receiveOf m) = refl
 
-  at-round : (r : ℕ) (x : Event) → messageOf x < n → roundOf E (at r x) ≡ r
+  pub at-round : (r : ℕ) (x : Event) → messageOf x < n → roundOf E (at r x) ≡ r
   unfolding roundOf
   at-round r x l = ap (λ (m : ℕ). m / n) (at-message r x) ∙ digits-div r l
 
-  at-in : (r : ℕ) (x : Event) → messageOf x < n → inRound E (at r x) ≡ x
+  pub at-in : (r : ℕ) (x : Event) → messageOf x < n → inRound E (at r x) ≡ x
   unfolding at inRound messageOf
   at-in r (sendOf m) l = ap sendOf (digits-mod r l)
   at-in r (receiveOf m) l = ap receiveOf (digits-mod r l)
@@ -426,7 +426,7 @@ module _ (E : Exchange) (inside : RowsInside E) where
   abbrev S : ℕ → Scenario
   S k = scenarioOf (rounds E k)
 
-  before-in : (k : ℕ) (x y : Event) → (S k .before x y ≡ true) ↔ Before (rounds E k) x y
+  pub before-in : (k : ℕ) (x y : Event) → (S k .before x y ≡ true) ↔ Before (rounds E k) x y
   before-in k = before-exact (rounds E k) (rows-inside E inside k)
 
   at-or-in : (k : ℕ) (x y : Event) → (atOrBefore (S k) x y ≡ true) ↔ AtOr E inside k x y
@@ -537,7 +537,7 @@ module _ (E : Exchange) (inside : RowsInside E) where
         (apart (roundOf E x) (roundOf E (receiveOf e)))
 
   -- A race of one round is one of two, at the same message and event; and one of k rounds that stays in one round is one of one round.
-  zero-at : (x : Event) → at E inside 0 x ≡ x
+  pub zero-at : (x : Event) → at E inside 0 x ≡ x
   unfolding at
   zero-at (sendOf m) = ap sendOf (rw (zero-mul, zero-add))
   zero-at (receiveOf m) = ap receiveOf (rw (zero-mul, zero-add))

@@ -1,9 +1,18 @@
 -- Our own, after the requests: an exchange that is repeated, each board going on to its next round as soon as it has done its own part of the last.
 -- Assumes nothing.
-use Prim.Native.Nat.{ℕ, zero, suc, _+_, _*_, _/_, _%_}
-use mathlib.Core.Bool.{Bool, cond, _&&_}
+use Prim.Native.Nat.{ℕ, zero, suc, _+_, _*_, _/_, _%_, _<_, _≤_}
+use mathlib.Core.Path.{_≡_}
+use mathlib.Core.Logic.{_↔_, _⊎_}
+use mathlib.Core.Bool.{true, cond, _&&_}
+use mathlib.Core.List.{List}
 use lib.Dec.{eqb, ltb, leb}
-use Rattle.model.specs.Order.{Event, sendOf, receiveOf, messageOf, Exchange}
+use lib.ListN.{length}
+use Rattle.model.specs.Order.{Event, sendOf, receiveOf, messageOf, Exchange, Before, Scenario, scenarioOf}
+use Rattle.model.specs.Channel.{channelOf}
+use Rattle.model.specs.Run.{Step, IsOrder, EndsStuck, EndsFinished, CanFinish}
+use Rattle.model.specs.Schedule.{schedule}
+use Rattle.model.specs.Answer.{Answer, free, locked, refused, verdictOf, Numbers, freeWord, lockedWord}
+use Rattle.model.specs.Verdict.{LowestRace}
 
 -- the highest of f's first n values
 unfoldable pub highest : ℕ → (ℕ → ℕ) → ℕ
@@ -37,3 +46,43 @@ module _ (E : Exchange) where
         block = λ m. m / E .count * blocksOf + E .block (m % E .count);
         ordered = λ x y. ltb (messageOf x) (k * E .count) && eqb (roundOf x) (roundOf y) && E .ordered (inRound x) (inRound y);
       }
+
+-- The answer for an exchange: the rounds, and what the check would say of them. Where one round is locked, it is one round's own; else that of two
+-- rounds, if they are locked; else free, with rounds 0.
+unfoldable pub secondVerdict : Answer → ℕ × Answer
+secondVerdict free = (0, free)
+secondVerdict (locked e x ts) = (2, locked e x ts)
+secondVerdict (refused number line) = (0, refused number line)
+
+unfoldable pub firstVerdict : Answer → Answer → ℕ × Answer
+firstVerdict free second = secondVerdict second
+firstVerdict (locked e x ts) second = (1, locked e x ts)
+firstVerdict (refused number line) second = (0, refused number line)
+
+unfoldable pub roundsVerdict : Exchange → ℕ → ℕ × Answer
+roundsVerdict E code = firstVerdict (verdictOf (scenarioOf E) code) (verdictOf (scenarioOf (rounds E 2)) code)
+
+-- the scenario of k rounds
+abbrev pub scenarioIn : Exchange → ℕ → Scenario
+scenarioIn E k = scenarioOf (rounds E k)
+
+-- What is so of the answer, the rounds and the check's numbers, over every number of rounds, without a bound.
+pub record RoundsJudged (E : Exchange) (code number : ℕ) (r : Numbers) : Type 0 where
+  -- one round is the check's own, and "before" is the paper's relation over k walks
+  pub oneRound : scenarioIn E 1 ≡ scenarioOf E
+  pub causalOrder : (k : ℕ) (x y : Event) → (scenarioIn E k .before x y ≡ true) ↔ Before (rounds E k) x y
+  -- free exactly when for every k every allowed order of k rounds can be carried on until all is consumed
+  pub freeOrLocked : (r .word ≡ freeWord) ⊎ (r .word ≡ lockedWord)
+  pub freeWhenFinishing : (r .word ≡ freeWord)
+      ↔ ((k : ℕ) → 1 ≤ k → (ts : List Step) → IsOrder (scenarioIn E k) (channelOf code) ts → CanFinish (scenarioIn E k) (channelOf code) ts)
+  -- locked exactly when for some k some allowed order of k rounds ends stuck
+  pub lockedWhenStuck : (r .word ≡ lockedWord) ↔ ((k : ℕ) × (1 ≤ k) × (ts : List Step) × EndsStuck (scenarioIn E k) (channelOf code) ts)
+  -- the race named is the lowest of so many rounds, the steps are an order of them that ends stuck, and no fewer rounds lock
+  pub lockedRounds : r .word ≡ lockedWord → (number ≡ 1) ⊎ (number ≡ 2)
+  pub lockedRace : r .word ≡ lockedWord → LowestRace (scenarioIn E number) code (r .one) (r .two)
+  pub lockedCount : r .word ≡ lockedWord → length (schedule (scenarioIn E number) (channelOf code) (r .one)) ≡ r .three
+  pub lockedSteps : r .word ≡ lockedWord → EndsStuck (scenarioIn E number) (channelOf code) (schedule (scenarioIn E number) (channelOf code) (r .one))
+  pub fewest : r .word ≡ lockedWord → (k : ℕ) → 1 ≤ k → k < number → (ts : List Step) → EndsStuck (scenarioIn E k) (channelOf code) ts → ⊥
+  -- a finished order of k rounds has three steps a message, and no allowed order has more
+  pub finishedLength : (k : ℕ) (ts : List Step) → EndsFinished (scenarioIn E k) (channelOf code) ts → length ts ≡ 3 * (k * E .count)
+  pub noneLonger : (k : ℕ) (ts : List Step) → IsOrder (scenarioIn E k) (channelOf code) ts → length ts ≤ 3 * (k * E .count)

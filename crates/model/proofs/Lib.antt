@@ -61,3 +61,6 @@ pub mod Holdings
 pub mod Stands
 pub mod Rounds
 pub mod RoundsJudged
+pub mod Twice
+pub mod TwoWalks
+pub mod RoundsChecked

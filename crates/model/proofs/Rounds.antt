@@ -33,7 +33,7 @@ highest-at (suc n) f k l =
     first false e h = let g = leb-false (f n) (highest n f) e in omega arith
 
 -- two events of one board, in an earlier and a later block
-is-earlier : (E : Exchange) (x y : Event) → messageOf x < E .count → messageOf y < E .count → boardIn E x ≡ boardIn E y
+pub is-earlier : (E : Exchange) (x y : Event) → messageOf x < E .count → messageOf y < E .count → boardIn E x ≡ boardIn E y
     → E .block (messageOf x) < E .block (messageOf y) → isEarlier E x y ≡ true
 unfolding isEarlier isEvent
 is-earlier E x y a b c d =
@@ -51,7 +51,7 @@ module _ (E : Exchange) (inside : RowsInside E) where
   at r (sendOf m) = sendOf (r * n + m)
   at r (receiveOf m) = receiveOf (r * n + m)
 
-  at-message : (r : ℕ) (x : Event) → messageOf (at r x) ≡ r * n + messageOf x
+  pub at-message : (r : ℕ) (x : Event) → messageOf (at r x) ≡ r * n + messageOf x
   unfolding at messageOf
   at-message r (sendOf m) = refl
   at-message r (receiveOf m) = refl
@@ -65,7 +65,7 @@ module _ (E : Exchange) (inside : RowsInside E) where
   at-in r (sendOf m) l = ap sendOf (digits-mod r l)
   at-in r (receiveOf m) l = ap receiveOf (digits-mod r l)
 
-  in-at : (x : Event) → at (roundOf E x) (inRound E x) ≡ x
+  pub in-at : (x : Event) → at (roundOf E x) (inRound E x) ≡ x
   unfolding at roundOf inRound messageOf
   in-at (sendOf m) = ap sendOf (div-add-mod' m n)
   in-at (receiveOf m) = ap receiveOf (div-add-mod' m n)
@@ -96,24 +96,24 @@ module _ (E : Exchange) (inside : RowsInside E) where
     in-board (sendOf m) l = ap (E .source) (stands-for m l)
     in-board (receiveOf m) l = ap (E .target) (stands-for m l)
 
-    in-inside : (x : Event) → messageOf x < k * n → messageOf (inRound E x) < n
+    pub in-inside : (x : Event) → messageOf x < k * n → messageOf (inRound E x) < n
     in-inside x l = subst⁻¹ (λ (m : ℕ). m < n) (in-message x) (mod-lt (messageOf x) (some-message l))
 
-    in-block : (x : Event) → R .block (messageOf x) ≡ roundOf E x * blocksOf E + E .block (messageOf (inRound E x))
+    pub in-block : (x : Event) → R .block (messageOf x) ≡ roundOf E x * blocksOf E + E .block (messageOf (inRound E x))
     unfolding rounds roundOf
     in-block x = ap (λ (m : ℕ). messageOf x / n * blocksOf E + E .block m) (sym (in-message x))
 
-    few-blocks : (x : Event) → messageOf x < k * n → E .block (messageOf (inRound E x)) < blocksOf E
+    pub few-blocks : (x : Event) → messageOf x < k * n → E .block (messageOf (inRound E x)) < blocksOf E
     unfolding blocksOf
     few-blocks x l = let h = highest-at n (E .block) (messageOf (inRound E x)) (in-inside x l) in omega arith
 
     -- a P row of k rounds
-    record RowOf (x y : Event) : Type 0 where
-      first : messageOf x < k * n
-      sameRound : roundOf E x ≡ roundOf E y
-      ordered : E .ordered (inRound E x) (inRound E y) ≡ true
+    pub record RowOf (x y : Event) : Type 0 where
+      pub first : messageOf x < k * n
+      pub sameRound : roundOf E x ≡ roundOf E y
+      pub ordered : E .ordered (inRound E x) (inRound E y) ≡ true
 
-    row-of : (x y : Event) → R .ordered x y ≡ true → RowOf x y
+    pub row-of : (x y : Event) → R .ordered x y ≡ true → RowOf x y
     unfolding rounds
     row-of x y h =
         let a = ltb (messageOf x) (k * n) in
@@ -198,7 +198,7 @@ module _ (E : Exchange) (inside : RowsInside E) where
         let e = at-message r x in
         omega arith
 
-    lift-row : (r : ℕ) (x y : Event) → r < k → BothInside E x y → E .ordered x y ≡ true → R .ordered (at r x) (at r y) ≡ true
+    pub lift-row : (r : ℕ) (x y : Event) → r < k → BothInside E x y → E .ordered x y ≡ true → R .ordered (at r x) (at r y) ≡ true
     unfolding rounds
     lift-row r x y l b h =
         rw (lt-ltb (messageOf (at r x)) (k * n) (at-inside r x l (b .0)), at-round r x (b .0), at-round r y (b .1), eq-eqb r r refl, at-in r x (b .0), at-in r y (b .1)) h
@@ -321,7 +321,7 @@ module _ (E : Exchange) (inside : RowsInside E) where
   unfolding AtOr
   lifted k r l = ⊎-elim (λ e. inl (ap (at r) e)) (λ p. inr (lift k r l p))
 
-  round-below : (k : ℕ) (x : Event) → messageOf x < k * n → roundOf E x < k
+  pub round-below : (k : ℕ) (x : Event) → messageOf x < k * n → roundOf E x < k
   unfolding roundOf
   round-below k x l = div-lt-iff-lt-mul (some-message k l) .1 l
 

@@ -3,15 +3,20 @@
 use Prim.Native.Nat.{ℕ, zero, suc, _+_, _*_, _/_, _%_, _<_, _≤_}
 use mathlib.Core.Path.{_≡_}
 use mathlib.Core.Logic.{_↔_, _⊎_}
-use mathlib.Core.Bool.{true, cond, _&&_}
-use mathlib.Core.List.{List}
+use mathlib.Core.Bool.{true, cond, _&&_, _||_}
+use mathlib.Core.List.{List, []}
 use lib.Dec.{eqb, ltb, leb}
-use lib.ListN.{length}
-use Rattle.model.specs.Order.{Event, sendOf, receiveOf, messageOf, Exchange, Before, Scenario, scenarioOf}
+use lib.ListN.{length, drop}
+use Rattle.model.specs.Limits.{levels, channels, scratchLeast, traceLeast}
+use Rattle.model.specs.Refusal.{Out, ok, refusal, andThen, channelRefusal, benchRefusal}
+use Rattle.model.specs.Rows.{Row}
+use Rattle.model.specs.Place.{lineOf, readOf}
+use Rattle.model.specs.Expansion.{Progress, startOf, blockOpened, walkRows, callAt, expand}
+use Rattle.model.specs.Order.{Event, sendOf, receiveOf, messageOf, Exchange, Before, Scenario, scenarioOf, Met, nothingMet, metOps, exchangeOf}
 use Rattle.model.specs.Channel.{channelOf}
 use Rattle.model.specs.Run.{Step, IsOrder, EndsStuck, EndsFinished, CanFinish}
 use Rattle.model.specs.Schedule.{schedule}
-use Rattle.model.specs.Answer.{Answer, free, locked, refused, verdictOf, Numbers, freeWord, lockedWord}
+use Rattle.model.specs.Answer.{Answer, free, locked, refused, verdictOf, Numbers, freeWord, lockedWord, numbersOf, exchangeMet, scratchBehind, traceAfter}
 use Rattle.model.specs.Verdict.{LowestRace}
 
 -- the highest of f's first n values
@@ -86,3 +91,38 @@ pub record RoundsJudged (E : Exchange) (code number : ℕ) (r : Numbers) : Type 
   -- a finished order of k rounds has three steps a message, and no allowed order has more
   pub finishedLength : (k : ℕ) (ts : List Step) → EndsFinished (scenarioIn E k) (channelOf code) ts → length ts ≡ 3 * (k * E .count)
   pub noneLonger : (k : ℕ) (ts : List Step) → IsOrder (scenarioIn E k) (channelOf code) ts → length ts ≤ 3 * (k * E .count)
+
+-- The walk made once more after one that was made: it begins with a new block, messages are numbered on, and the limits are counted over both.
+unfoldable pub walkedAgain : List Row → Progress Met → Out (Progress Met)
+walkedAgain file s =
+    walkRows metOps [] (callAt metOps [] levels file) (drop (startOf 0 file) file) (lineOf (startOf 0 file)) (blockOpened metOps s)
+
+-- what one walk of a text meets, and what the second adds, unless it is refused: as one walk is, and then with 9 or 10 as the second meets them
+unfoldable pub walkedTwice : List ℕ → Out (Exchange × Exchange)
+walkedTwice text =
+    andThen (readOf text) (λ file.
+    andThen (expand metOps [] file nothingMet) (λ s.
+    andThen (walkedAgain file s) (λ t. ok (exchangeOf s, exchangeOf t))))
+
+-- the exchange of one round, unless refusal 1, 2 or one of these applies
+unfoldable pub repeatable : List ℕ → ℕ → ℕ → ℕ → Out Exchange
+repeatable text code scratchLength traceLength =
+    cond (ltb code channels)
+    (cond (ltb scratchLength scratchLeast || ltb traceLength traceLeast) (refusal benchRefusal 0) (andThen (walkedTwice text) (λ twice. ok (twice .0))))
+    (refusal channelRefusal 0)
+
+unfoldable pub roundsAnswer : Out Exchange → ℕ → ℕ × Answer
+roundsAnswer (ok E) code = roundsVerdict E code
+roundsAnswer (refusal number line) code = (0, refused number line)
+
+-- What a call gives, from what it was lent: the text, the code, and the scratch and the trace at entry.
+pub record RoundsChecked (text : List ℕ) (code : ℕ) (scratch scratchExit trace traceExit : List ℕ) (number : ℕ) (r : Numbers) : Type 0 where
+  pub answer : r ≡ numbersOf (roundsAnswer (repeatable text code (length scratch) (length trace)) code .1)
+  pub howOften : number ≡ roundsAnswer (repeatable text code (length scratch) (length trace)) code .0
+  pub scratchLeft : scratchExit ≡ scratchBehind (repeatable text code (length scratch) (length trace)) scratch
+  pub traceLeft : traceExit ≡ traceAfter (roundsAnswer (repeatable text code (length scratch) (length trace)) code .1) trace
+  -- one round is what the walk of the text meets
+  pub oneWalk : (E : Exchange) → repeatable text code (length scratch) (length trace) ≡ ok E → exchangeMet text ≡ ok E
+  -- and the walk made twice is two rounds
+  pub twoWalks : (E F : Exchange) → walkedTwice text ≡ ok (E, F) → scenarioOf F ≡ scenarioIn E 2
+  pub everyRound : (E : Exchange) → repeatable text code (length scratch) (length trace) ≡ ok E → RoundsJudged E code number r

@@ -15,7 +15,7 @@ use Rattle.model.specs.Order.{Event, sendOf, receiveOf, messageOf, board
 use Rattle.model.specs.Race.{RaceRule, byEvent, byOrigin, never, raceRuleOf, origin, notAtOrBefore, isRace}
 use Rattle.model.specs.Answer.{sheetOf, acceptedOf, answerOf, numbersOf, traceAfter, scratchBehind}
 use Rattle.model.specs.Verdict.{Verdict}
-use Rattle.model.specs.Cure.{curedBefore, curedRows, curedText, curedOf, cureOf, outputWith, CureNumbers, writtenWord, refusedWord, cureNumbers, FreeOn, CuredSheet, CureChecked}
+use Rattle.model.specs.Cure.{Cured, curedBefore, curedRows, curedText, curedOf, cureOf, outputWith, CureNumbers, writtenWord, refusedWord, cureNumbers, FreeOn, CuredSheet, CureChecked}
 use Rattle.model.proofs.Bounded.{which, not-both}
 use Rattle.model.proofs.Events.{own-both, at-or-before-cases, at-or-before-same, at-or-before-before}
 use Rattle.model.proofs.Causal.{Causal}
@@ -130,6 +130,34 @@ module _ (S : Scenario) (C : Causal S) where
         (λ b. at-or-before-before S x (sendOf m) (within x (sendOf m) b))
         (at-or-before-cases T x (sendOf m) (at-send x m h)))
 
+-- The same-board orders that the cure gives up are the races of code 0.
+module _ (S : Scenario) (C : Causal S) where
+  raced : (x : Event) (m : ℕ) → board S x ≡ board S (receiveOf m) → S .before x (receiveOf m) ≡ true → (Cured S x (receiveOf m) → ⊥)
+      → isRace S byEvent m x ≡ true
+  unfolding isRace notAtOrBefore boardOf messageOf
+  raced x m b h n =
+      ⊎-elim
+      (λ t. absurd (n (cured-exact S C x (receiveOf m) .0 (to-receive S C x m (C .inside x (receiveOf m) h .1) t))))
+      (λ (f : atOrBefore S x (sendOf m) ≡ false). rw (eq-eqb (board S x) (S .target m) b, h, f, notAtOrBefore))
+      (which (atOrBefore S x (sendOf m)))
+
+  not-cured : (x : Event) (m : ℕ) → isRace S byEvent m x ≡ true → Cured S x (receiveOf m) → ⊥
+  unfolding notAtOrBefore
+  not-cured x m r p =
+      not-both (atOrBefore S x (sendOf m)) (from-receive S C x m (cured-exact S C x (receiveOf m) .1 p) .1)
+      (not-true (atOrBefore S x (sendOf m)) (race-parts S byEvent m x r .2))
+
+  given-up : (x y : Event) → board S x ≡ board S y → S .before x y ≡ true
+      → (Cured S x y → ⊥) ↔ ((e : ℕ) × (y ≡ receiveOf e) × (isRace S byEvent e x ≡ true))
+  given-up x (sendOf m) b h = (
+    (λ n. absurd (n (cured-exact S C x (sendOf m) .0 (to-send S C x m h)))),
+    (λ (e, i, r). let z : _≡_ {A = ℕ} 0 1 = cc in absurd (omega arith)),
+  )
+  given-up x (receiveOf m) b h = (
+    (λ n. (m, refl, raced x m b h n)),
+    (λ (e, i, r). let same : e ≡ m = cc in not-cured x m (subst (λ (k : ℕ). isRace S byEvent k x ≡ true) same r)),
+  )
+
 -- What holds of the text written for any sheet that has a scenario.
 pub cured-holds : (text : List ℕ) (S : Scenario) → sheetOf text ≡ ok S → length (curedRows S) ≤ rowsMost → CuredSheet S (curedText S)
 cured-holds text S e fits =
@@ -141,6 +169,7 @@ cured-holds text S e fits =
     record {
       order = cured-exact S C;
       inside = λ x y p. cured-old S C x y (cured-exact S C x y .1 p);
+      givenUp = given-up S C;
       sheet = scenarioOf (met S C few low);
       read = read;
       causalOrder = sheet-meets (curedText S) _ read;

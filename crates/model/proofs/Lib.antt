@@ -57,3 +57,10 @@ pub mod Jobs
 pub mod Calls
 pub mod Turns
 pub mod Dispatcher
+pub mod Holdings
+pub mod Stands
+pub mod Rounds
+pub mod RoundsJudged
+pub mod Twice
+pub mod TwoWalks
+pub mod RoundsChecked

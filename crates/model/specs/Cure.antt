@@ -15,6 +15,7 @@ use Rattle.model.specs.Text.{ascii, lineEnd, space}
 use Rattle.model.specs.Order.{Event, sendOf, receiveOf, event, isOwn, Scenario, board, atOrBefore}
 use Rattle.model.specs.Channel.{channelOf}
 use Rattle.model.specs.Run.{Step, IsOrder, CanFinish}
+use Rattle.model.specs.Race.{raceRuleOf, isRace}
 use Rattle.model.specs.Answer.{sheetOf, scratchBehind}
 use Rattle.model.specs.Verdict.{Meets}
 
@@ -143,6 +144,10 @@ pub record CuredSheet (S : Scenario) (written : List ℕ) : Type 0 where
   -- the test is exactly the cured order, which lies inside the old one
   pub order : (x y : Event) → (curedBefore S x y ≡ true) ↔ Cured S x y
   pub inside : (x y : Event) → Cured S x y → S .before x y ≡ true
+  -- of two events on one board, the first before the second, the order is given up exactly if the second is the receive of some e and the first
+  -- races with e on code 0
+  pub givenUp : (x y : Event) → board S x ≡ board S y → S .before x y ≡ true
+      → (Cured S x y → ⊥) ↔ ((e : ℕ) × (y ≡ receiveOf e) × (isRace S (raceRuleOf 0) e x ≡ true))
   -- reading the text yields the same messages and exactly the cured order
   pub sheet : Scenario
   pub read : sheetOf written ≡ ok sheet

@@ -23,6 +23,9 @@ pub mod Cure
 pub mod Dispatcher
 pub mod Taps
 pub mod Senders
+pub mod Holdings
+pub mod Standing
+pub mod Rounds
 pub mod Choice
 pub mod Scratch
 pub mod EverySheet

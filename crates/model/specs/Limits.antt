@@ -60,6 +60,10 @@ sheetOutputLeast = textMost
 abbrev pub tapNumbersLeast : ℕ
 tapNumbersLeast = 512
 
+-- The output lent for the messages of a sheet: three numbers for each of the most messages.
+abbrev pub messageNumbersLeast : ℕ
+messageNumbersLeast = 3 * messagesMost
+
 -- The table of permitted senders: at most 64 rules; a set of boards is a number 0 to 65,535; 16 times 16 pairs of boards.
 abbrev pub rulesMost : ℕ
 rulesMost = 64

@@ -209,11 +209,30 @@ static void taps_clash(int n) {
     for (int x = 0; x < 2 * n; x++) second[x] = (uint16_t)(2 * n - 1 - x);
 }
 
+/* The output of all races: room for every one, unless the sheet is one on which they are only counted. */
+static uint16_t races[1 << 17];
+static size_t races_len = sizeof races / sizeof *races;
+
+/* One board receives all messages in order, and nothing orders their sends: nearly each two race, on every eager channel. */
+static void many_races(int n) {
+    begin();
+    for (int m = 0; m < n; m++) {
+        line("M", m % 15, 15);
+        if (m > 0) line("P", 2 * m - 1, 2 * m + 1);
+    }
+}
+
+static void races_counted(int n) {
+    many_races(n);
+    races_len = 0;
+}
+
 static const struct { const char *name; void (*make)(int); } sheets[] = {
     {"longest-trace", longest_trace}, {"chain", chain}, {"dense", dense}, {"calls", calls}, {"blocks", blocks}, {"refused", refused},
     {"chain-twice", chain_twice}, {"last-race", last_race}, {"most-rows", most_rows}, {"order-rows", order_rows}, {"few", few}, {"case-2", case_2},
     {"early-race", early_race}, {"streams", streams}, {"choices", choices}, {"choices-locked", choices_locked},
     {"taps-up", taps_up}, {"taps-down", taps_down}, {"taps-crossed", taps_crossed}, {"taps-clash", taps_clash},
+    {"many-races", many_races}, {"races-counted", races_counted},
 };
 
 /* A run opened, the check's own steps fed to the monitor one at a time, and a switch at its end. */
@@ -248,6 +267,15 @@ static void run(int proved, uint32_t code) {
     for (size_t i = 0; i < sizeof trace; i++) sum = 31 * sum + trace[i];
     printf("choices: %u %u %u %u %u %u, trace %u\n", l.word, l.one, l.two, l.three, l.length, l.choices, sum);
     watch(proved, code, trace, a.word == 1 ? a.three : 0, scratch);
+}
+
+/* All races of the sheet: the answer, and a sum of the output. */
+static void list(int proved, uint32_t code) {
+    static uint64_t scratch[CHANNEL_CHECK_SCRATCH_WORDS];
+    sheet_races_answer a = (proved ? sheet_races : careful_sheet_races)((const uint8_t *)text, len, code, scratch, CHANNEL_CHECK_SCRATCH_WORDS, races, races_len);
+    unsigned sum = 0;
+    for (size_t i = 0; i < sizeof races / sizeof *races; i++) sum = 31 * sum + races[i];
+    printf("races: %u %u %u, output %u\n", a.word, a.one, a.two, sum);
 }
 
 /* 64 rules that partition the pairs, a sender and four receivers each; all permit. */
@@ -326,7 +354,7 @@ int main(int argc, char **argv) {
     if (argc > 5) return counter(proved, (uint32_t)atoi(argv[5])), 0;
     partition();
     for (uint32_t code = 0; code < 6; code++)
-        if (argc < 5 || (uint32_t)atoi(argv[4]) == code) run(proved, code), permit(proved, code);
+        if (argc < 5 || (uint32_t)atoi(argv[4]) == code) run(proved, code), permit(proved, code), list(proved, code);
     cure(proved);
     judge_table(proved);
     tap(proved);

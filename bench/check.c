@@ -1046,3 +1046,38 @@ taps_check_answer careful_taps_check(const uint8_t *text, size_t text_len, uint6
     memset(scratch, 0, WORDS * 8);
     return a;
 }
+
+/* ------------------------------------------------------------------ all races */
+
+/* e and x of each race, while there is room for the pair; how many races there are */
+static uint32_t list_races(const walk *w, enum rule rule, uint16_t *output, size_t room) {
+    uint64_t on[BOARDS * W];
+    size_t found = 0, used = (2 * w->count + 63) / 64;
+    if (rule == NEVER) return 0;
+    memset(on, 0, sizeof on);
+    for (size_t k = 0; k < 2 * w->count; k++) mark(on, w->boards[k], k);
+    for (size_t e = 0; e < w->count; e++)
+        for (size_t i = 0; i < used; i++) {
+            uint64_t word = race_word(w, on, rule, e, i);
+            for (; word && found < room; word &= word - 1, found++) {
+                output[2 * found] = (uint16_t)e;
+                output[2 * found + 1] = (uint16_t)(64 * i + (size_t)__builtin_ctzll(word));
+            }
+            if (word) found += (size_t)__builtin_popcountll(word);
+        }
+    return (uint32_t)found;
+}
+
+sheet_races_answer careful_sheet_races(const uint8_t *text, size_t text_len, uint32_t code, uint64_t *scratch, size_t scratch_len,
+                                       uint16_t *output, size_t output_len) {
+    walk w;
+    sheet_races_answer a = {0, 0, 0};
+    refusal r = watch(text, text_len, code, scratch, scratch_len, &w);
+    if (r.number) a.word = 1, a.one = r.number, a.two = r.line;
+    else {
+        a.one = list_races(&w, rules[code], output, output_len / 2);
+        a.two = a.one < output_len / 2 ? a.one : (uint32_t)(output_len / 2);
+    }
+    leave(r, scratch);
+    return a;
+}

@@ -30,6 +30,13 @@
 extern "C" {
 #endif
 
+/* ------------------------------------------------------------------ the version */
+
+/* The version of this header: 10000 major + 100 minor + patch. Structs are passed by value, so the archive must be of the same version as the header that a
+ * program was compiled with: channel_check_version() says the archive's. */
+#define CHANNEL_CHECK_VERSION 10100
+uint32_t channel_check_version(void);
+
 /* ------------------------------------------------------------------ what every call is about */
 
 /* The limits of a sheet: the messages of a block, and of all that a sheet calls; their events; boards; channels; the bytes of its text. */
@@ -220,6 +227,65 @@ monitor_answer monitor_open(const uint8_t *text, size_t text_len, uint32_t code,
 monitor_answer monitor_step(monitor state, uint32_t kind, uint32_t message, const uint8_t *text, size_t text_len, uint64_t *scratch,
                             size_t scratch_len);
 monitor_answer monitor_switch(monitor state, uint32_t code, const uint8_t *text, size_t text_len, uint64_t *scratch, size_t scratch_len);
+
+enum monitor_standing_word {
+    MONITOR_STANDING_FINISHED = 0, /* all is consumed */
+    MONITOR_STANDING_STUCK = 1,    /* no step is allowed, and not all is consumed: waits has what each board waits for */
+    MONITOR_STANDING_OPEN = 2,     /* some step is allowed */
+    MONITOR_STANDING_REFUSED = 3   /* 1 for the state's own code, 2 to 11 */
+};
+
+/* waits: on stuck, for each board the event that its lowest unready message waits for, or TRACE_CHECK_NO_WAIT; on every other word TRACE_CHECK_NO_WAIT throughout. */
+typedef struct {
+    uint32_t word, one, two;
+    uint16_t waits[CHANNEL_CHECK_BOARDS];
+} monitor_standing_answer;
+
+/* Says where a monitored run stands, by the step rules under the code in force. The monitor is only read; text and scratch are as monitor_step's.
+ * Proved for every monitor, read bit by bit; of one that calls with that same text have left it is the state that the rules give.
+ */
+monitor_standing_answer monitor_standing(monitor state, const uint8_t *text, size_t text_len, uint64_t *scratch, size_t scratch_len);
+
+/* ------------------------------------------------------------------ what a sheet holds */
+
+enum sheet_messages_word {
+    SHEET_MESSAGES_LISTED = 0, /* one: the messages of the walk */
+    SHEET_MESSAGES_REFUSED = 1 /* 2 to 11 */
+};
+
+/* The least length of the output, in numbers of 16 bits: three for each of the most messages. */
+#define SHEET_MESSAGES_OUTPUT_NUMBERS (3 * CHANNEL_CHECK_MESSAGES)
+
+typedef struct {
+    uint32_t word, one, two;
+} sheet_messages_answer;
+
+/* Lists the messages that the walk of a sheet meets, in walk order.
+ *
+ * text, scratch         as channel_check's, and so is the scratch at exit.
+ * output, output_len    SHEET_MESSAGES_OUTPUT_NUMBERS or more. It gets three numbers a message: the line of its own M row, its sender, its receiver. The rest is
+ *                       unchanged, and so is all of it on a refusal.
+ */
+sheet_messages_answer sheet_messages(const uint8_t *text, size_t text_len, uint64_t *scratch, size_t scratch_len, uint16_t *output,
+                                     size_t output_len);
+
+enum sheet_races_word {
+    SHEET_RACES_LISTED = 0, /* one: how many races there are, two: how many of them stand in the output */
+    SHEET_RACES_REFUSED = 1 /* 1, 2 for the scratch alone, 3 to 11 */
+};
+
+typedef struct {
+    uint32_t word, one, two;
+} sheet_races_answer;
+
+/* Lists all races of a sheet on a channel, by message and then by event: exactly the races, each once, and the first is the one that channel_check names.
+ *
+ * text, code, scratch   as channel_check's, and so is the scratch at exit.
+ * output, output_len    any length, 0 too. It gets e and x of the first races, as many whole pairs as it holds. The rest is unchanged, and so is all of it on a
+ *                       refusal.
+ */
+sheet_races_answer sheet_races(const uint8_t *text, size_t text_len, uint32_t code, uint64_t *scratch, size_t scratch_len, uint16_t *output,
+                               size_t output_len);
 
 /* ------------------------------------------------------------------ the loosest cure */
 

@@ -8,6 +8,8 @@ mod choices;
 mod cures;
 #[path = "dispatchers.rs"]
 mod dispatchers;
+#[path = "holdings.rs"]
+mod holdings;
 #[path = "monitors.rs"]
 mod monitors;
 #[path = "reference.rs"]
@@ -196,6 +198,7 @@ struct Seen {
     dispatchers: dispatchers::Seen,
     senders: senders::Seen,
     taps: taps::Seen,
+    holdings: holdings::Seen,
 }
 
 impl Seen {
@@ -216,6 +219,7 @@ impl Seen {
         self.dispatchers.add(&o.dispatchers);
         self.senders.add(&o.senders);
         self.taps.add(&o.taps);
+        self.holdings.add(&o.holdings);
     }
 
     fn limits_of(&mut self, s: &Scenario) {
@@ -236,6 +240,7 @@ impl Seen {
         self.dispatchers.print();
         self.senders.print();
         self.taps.print();
+        self.holdings.print();
         println!("traces replayed {}, free orders taken {}, sheets searched whole {}", self.replayed, self.wandered, self.searched);
     }
 
@@ -243,7 +248,7 @@ impl Seen {
         let eager = [0, 2, 4, 5].iter().all(|c| self.locked[*c] > 0);
         let some = |all: &[u64]| all.iter().all(|n| *n > 0);
         let judged = self.replayed * self.wandered * self.searched > 0;
-        let calls = self.traces.whole() && self.choices.whole() && self.monitors.whole() && self.cures.whole() && self.wired.whole() && self.dispatchers.whole() && self.senders.whole() && self.taps.whole();
+        let calls = self.traces.whole() && self.choices.whole() && self.monitors.whole() && self.cures.whole() && self.wired.whole() && self.dispatchers.whole() && self.senders.whole() && self.taps.whole() && self.holdings.whole();
         eager && some(&self.free) && some(&self.refused[1..]) && some(&self.limits) && judged && calls
     }
 }
@@ -313,6 +318,9 @@ fn try_requests(r: &mut Random, seen: &mut Seen, text: &[u8], sheet: &Result<Sce
     }
     if r.one_in(8) {
         taps::try_taps(r, &mut seen.taps, text);
+    }
+    if r.one_in(4) {
+        holdings::try_holdings(r, &mut seen.holdings, text, sheet);
     }
 }
 

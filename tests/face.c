@@ -2,11 +2,16 @@
  * and scratch, on all eleven refusals and both words, with exact and larger buffers, odd codes and empty text; trace_check on
  * every word and on traces of every length up to two beyond the limit; choice_check on every word, with lists of every length; the
  * monitor; cure_sheet on every refusal, with texts of 512 rows and one row more; the dispatcher's calls; senders_check on every word, and
- * permitted_check on each refusal, in its order; and taps_check on every word and refusal, with lists of many lengths. And the header's
- * enumerators have the numbers that all of this is written in. */
+ * permitted_check on each refusal, in its order; taps_check on every word and refusal, with lists of many lengths; and what a sheet holds,
+ * with outputs of many lengths. The header's enumerators have the numbers that all of this is written in, and the header, the archive and
+ * the file VERSION are of one version. */
 #define _GNU_SOURCE
 #include "../include/channel_check.h"
 #include "../include/channel_check_words.h"
+/* VERSION_NUMBER is the file VERSION, as one number */
+#if CHANNEL_CHECK_VERSION != VERSION_NUMBER
+#error "the header is not of the version that the file VERSION says"
+#endif
 #include <stdio.h>
 #include <stdlib.h>
 #include <string.h>
@@ -441,6 +446,20 @@ static monitor_answer watch(sheet s, int which, monitor m, uint32_t code, uint32
 
 #define SAYS(...) ((uint32_t[3]){__VA_ARGS__})
 
+static int standing_words[4];
+
+/* where a run stands; board 1 is the one that waits, for the event, if any does */
+static void stands(sheet s, monitor m, size_t words, uint32_t e[3], uint16_t event) {
+    buffer text = lend(s.len), scratch = lend(words * 8);
+    memcpy(text.at, s.text, s.len);
+    monitor_standing_answer a = monitor_standing(m, text.at, s.len, (uint64_t *)scratch.at, words);
+    calls++;
+    if (a.word < 4) standing_words[a.word]++;
+    expect(a.word == e[0] && a.one == e[1] && a.two == e[2], s, m.code, "where a run stands");
+    for (int b = 0; b < CHANNEL_CHECK_BOARDS; b++) expect(a.waits[b] == (b == 1 ? event : TRACE_CHECK_NO_WAIT), s, m.code, "what a board waits for");
+    left(s, m.code, text, scratch, lend(0), e[0] == 3 && e[1] <= 2, NULL, 0);
+}
+
 static monitor opened(sheet s, uint32_t code) { return watch(s, 0, (monitor){0}, code, 0, 0, WORDS, SAYS(0, 0, 0)).next; }
 
 /* a step that is taken */
@@ -458,8 +477,15 @@ static void monitors(void) {
     expect(m.done[0] == 4 && m.way[0] == 4, two, 0, "sent");
     m = on(two, m, 1, 1);
     expect(m.way[0] == 0 && m.buffers[1].held[0] == 4, two, 0, "delivered");
+    stands(two, m, WORDS, SAYS(2, 0, 0), TRACE_CHECK_NO_WAIT);
     m = on(two, m, 0, 0);
     watch(two, 1, m, 0, 1, 0, WORDS, SAYS(1, 0, 0)); /* board 1 holds message 1 */
+    stands(two, m, WORDS + 3, SAYS(1, 0, 0), 1);
+    stands(two, m, WORDS - 1, SAYS(3, 2, 0), TRACE_CHECK_NO_WAIT);
+    stands(none, m, WORDS, SAYS(3, 3, 0), TRACE_CHECK_NO_WAIT);
+    stands(wrong, m, WORDS, SAYS(3, 5, 3), TRACE_CHECK_NO_WAIT);
+    stands(two, forged, WORDS, SAYS(3, 1, 0), TRACE_CHECK_NO_WAIT);
+    stands(named("no message", H "S 0 0\n"), opened(two, 0), WORDS, SAYS(0, 0, 0), TRACE_CHECK_NO_WAIT);
     m = watch(two, 2, m, 1, 0, 0, WORDS, SAYS(0, 0, 0)).next;
     expect(m.code == 1 && m.done[0] == 5 && m.way[0] == 1 && m.buffers[1].held[0] == 4, two, 1, "switched");
     m = on(two, m, 1, 0); /* the lazy board takes it too */
@@ -935,6 +961,78 @@ static void taps(void) {
     if (!tap_words[0] || !tap_words[1]) printf("FAILED: two taps never fit, or never clashed\n"), failures++;
 }
 
+/* ------------------------------------------------------------------ what a sheet holds */
+
+static int message_words[2], race_words[2], held_refused[12];
+
+/* one call, with a guard page behind text, scratch and output; `told` are the numbers to be written */
+static void messages(sheet s, size_t words, size_t numbers, sheet_messages_answer e, const uint16_t *told) {
+    buffer text = lend(s.len), scratch = lend(words * 8), output = lend(2 * numbers);
+    memcpy(text.at, s.text, s.len);
+    sheet_messages_answer a = sheet_messages(text.at, s.len, (uint64_t *)scratch.at, words, (uint16_t *)output.at, numbers);
+    calls++;
+    if (a.word < 2) message_words[a.word]++;
+    if (a.word == 1 && a.one < 12) held_refused[a.one]++;
+    if (memcmp(&a, &e, sizeof a) != 0) printf("  expected %u %u %u, got %u %u %u\n", e.word, e.one, e.two, a.word, a.one, a.two);
+    expect(memcmp(&a, &e, sizeof a) == 0, s, 0, "answer on messages");
+    left(s, 0, text, scratch, output, e.word == 1 && e.one == 2, told, e.word == 0 ? 6 * (size_t)e.one : 0);
+}
+
+enum { TOLD = SHEET_MESSAGES_OUTPUT_NUMBERS };
+
+static void messages_say(sheet s, sheet_messages_answer e, const uint16_t *told) {
+    sheet_messages_answer bench = {1, 2, 0};
+    messages(s, WORDS, TOLD, e, told);
+    messages(s, WORDS + 3, TOLD + 5, e, told);
+    messages(s, WORDS - 1, TOLD, bench, NULL);
+    messages(s, WORDS, TOLD - 1, bench, NULL);
+    messages(s, 0, 0, bench, NULL);
+}
+
+/* the pairs of a code's races, on outputs of every length up to two numbers more than they need */
+static void races(sheet s, uint32_t code, size_t words, sheet_races_answer e, const uint16_t *pairs, size_t numbers) {
+    buffer text = lend(s.len), scratch = lend(words * 8), output = lend(2 * numbers);
+    memcpy(text.at, s.text, s.len);
+    sheet_races_answer a = sheet_races(text.at, s.len, code, (uint64_t *)scratch.at, words, (uint16_t *)output.at, numbers);
+    calls++;
+    if (a.word < 2) race_words[a.word]++;
+    if (a.word == 1 && a.one < 12) held_refused[a.one]++;
+    if (memcmp(&a, &e, sizeof a) != 0) printf("  expected %u %u %u, got %u %u %u\n", e.word, e.one, e.two, a.word, a.one, a.two);
+    expect(memcmp(&a, &e, sizeof a) == 0, s, code, "answer on races");
+    left(s, code, text, scratch, output, e.word == 1 && e.one <= 2, pairs, e.word == 0 ? 4 * (size_t)e.two : 0);
+}
+
+static void races_say(sheet s, uint32_t code, uint32_t count, const uint16_t *pairs) {
+    for (uint32_t numbers = 0; numbers <= 2 * count + 2; numbers++) {
+        uint32_t listed = numbers / 2 < count ? numbers / 2 : count;
+        races(s, code, WORDS + numbers % 3, (sheet_races_answer){0, count, listed}, pairs, numbers);
+    }
+    races(s, code, WORDS - 1, (sheet_races_answer){1, 2, 0}, NULL, 2 * count);
+    races(s, 6, WORDS, (sheet_races_answer){1, 1, 0}, NULL, 2 * count);
+}
+
+#define TOLD_AS(...) ((const uint16_t[]){__VA_ARGS__})
+
+static void holdings(void) {
+    sheet two = named("sheet 2", H "S 0 0\nM 0 1\nM 2 1\nP 1 3\n"), called = named("called twice", H "S 0 0\nM 0 1\nC 1 0\nC 1 0\nS 1 0\nB 0 0\nM 3 2\n");
+    messages_say(named("sheet 1", H "S 0 0\n"), (sheet_messages_answer){0, 0, 0}, NULL);
+    messages_say(two, (sheet_messages_answer){0, 2, 0}, TOLD_AS(3, 0, 1, 4, 2, 1));
+    messages_say(called, (sheet_messages_answer){0, 3, 0}, TOLD_AS(3, 0, 1, 8, 3, 2, 8, 3, 2));
+    messages_say(named("3", ""), (sheet_messages_answer){1, 3, 0}, NULL);
+    messages_say(named("5 an A row", H "S 0 0\nA 0 0\n"), (sheet_messages_answer){1, 5, 3}, NULL);
+    messages_say(named("11", H "S 0 0\nM 0 1\nM 1 0\nP 1 2\nP 3 0\n"), (sheet_messages_answer){1, 11, 6}, NULL);
+    for (uint32_t code = 0; code < CHANNEL_CHECK_CHANNELS; code++) {
+        int lazy = code == CHANNEL_CHECK_LAZY_FREE_RUNNING || code == CHANNEL_CHECK_LAZY_FIFO;
+        races_say(two, code, lazy ? 0 : 1, TOLD_AS(1, 1));
+        races_say(named("three to one board", H "S 0 0\nM 0 3\nM 1 3\nM 2 3\nP 1 3\nP 3 5\n"), code, lazy ? 0 : 3, TOLD_AS(1, 1, 2, 1, 2, 3));
+    }
+    races(named("3", ""), 0, WORDS, (sheet_races_answer){1, 3, 0}, NULL, 4);
+    races(named("5 an A row", H "S 0 0\nA 0 0\n"), 0, WORDS, (sheet_races_answer){1, 5, 3}, NULL, 4);
+    if (!message_words[0] || !race_words[0] || !held_refused[1] || !held_refused[2] || !held_refused[3] || !held_refused[5] || !held_refused[11])
+        printf("FAILED: what a sheet holds: an answer never came\n"), failures++;
+    if (channel_check_version() != CHANNEL_CHECK_VERSION) printf("FAILED: the archive's version is %u\n", channel_check_version()), failures++;
+}
+
 /* ------------------------------------------------------------------ the header's enumerators */
 
 /* enumerators count from a number on, in the order of the paper's table or of the call's cases */
@@ -968,6 +1066,9 @@ static void enumerators(void) {
     IN_ORDER(0, DISPATCHER_ADMITTED, DISPATCHER_IDLE, DISPATCHER_UNANSWERED, DISPATCHER_ANSWERED, DISPATCHER_CANCELLED, DISPATCHER_REFUSED);
     IN_ORDER(0, SENDERS_CHECK_SOUND, SENDERS_CHECK_GAP, SENDERS_CHECK_CLASH, SENDERS_CHECK_REFUSED);
     IN_ORDER(0, TAPS_CHECK_FIT, TAPS_CHECK_CLASH, TAPS_CHECK_REFUSED);
+    IN_ORDER(0, MONITOR_STANDING_FINISHED, MONITOR_STANDING_STUCK, MONITOR_STANDING_OPEN, MONITOR_STANDING_REFUSED);
+    IN_ORDER(0, SHEET_MESSAGES_LISTED, SHEET_MESSAGES_REFUSED);
+    IN_ORDER(0, SHEET_RACES_LISTED, SHEET_RACES_REFUSED);
 }
 
 int main(void) {
@@ -980,6 +1081,7 @@ int main(void) {
     tables();
     permissions();
     taps();
+    holdings();
     words();
     limits();
     refusals();

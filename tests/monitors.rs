@@ -42,7 +42,20 @@ extern "C" {
         state: Monitor, kind: u32, message: u32, text: *const u8, text_len: usize, scratch: *mut u64, scratch_len: usize,
     ) -> Answer;
     fn monitor_switch(state: Monitor, code: u32, text: *const u8, text_len: usize, scratch: *mut u64, scratch_len: usize) -> Answer;
+    fn monitor_standing(state: Monitor, text: *const u8, text_len: usize, scratch: *mut u64, scratch_len: usize) -> Standing;
 }
+
+/// Where a run stands: finished, stuck, open or refused.
+#[repr(C)]
+#[derive(Clone, Copy, Debug, PartialEq)]
+struct Standing {
+    word: u32,
+    one: u32,
+    two: u32,
+    waits: [u16; BOARDS],
+}
+
+const NO_WAITS: [u16; BOARDS] = [u16::MAX; BOARDS];
 
 #[derive(Clone, Copy, Debug)]
 enum Call {
@@ -70,7 +83,7 @@ fn laid_out(s: &State, code: u32) -> Monitor {
 }
 
 /// What was seen: by call and word, 14, switches with something under way, runs that were followed to their end, forged monitors, and steps taken
-/// of messages in the upper half of a full sheet.
+/// of messages in the upper half of a full sheet, and where runs stood.
 #[derive(Default)]
 pub struct Seen {
     words: [[u64; 3]; 3],
@@ -79,6 +92,7 @@ pub struct Seen {
     ended: u64,
     forged: u64,
     high: u64,
+    stood: [u64; 3],
 }
 
 impl Seen {
@@ -91,18 +105,20 @@ impl Seen {
         self.ended += o.ended;
         self.forged += o.forged;
         self.high += o.high;
+        self.stood.iter_mut().zip(o.stood).for_each(|(a, b)| *a += b);
     }
 
     pub fn print(&self) {
         println!("monitors opened, stepped, switched, each taken, forbidden, refused: {:?}, refusal 14: {}", self.words, self.fourteen);
         println!("switched with messages under way {}, followed to the end {}, forged monitors {}", self.under_way, self.ended, self.forged);
+        println!("runs found finished, stuck and open: {:?}", self.stood);
         println!("monitors' steps taken of messages from {} on: {}", MESSAGES / 2, self.high);
     }
 
     pub fn whole(&self) -> bool {
         let [open, step, switch] = self.words;
         let all = [open[0], open[2], step[0], step[1], step[2], switch[0], switch[2]].iter().all(|n| *n > 0);
-        all && self.fourteen * self.under_way * self.ended * self.forged * self.high > 0
+        all && self.fourteen * self.under_way * self.ended * self.forged * self.high > 0 && self.stood.iter().all(|n| *n > 0)
     }
 }
 
@@ -130,6 +146,31 @@ fn call(r: &mut Random, text: &[u8], sheet: &Result<Scenario, Refusal>, m: Monit
         fail("monitor: scratch or text", text, code);
     }
     a
+}
+
+/// Where a monitor's run stands; the refusals and the scratch are looked at here.
+fn stand(r: &mut Random, text: &[u8], sheet: &Result<Scenario, Refusal>, m: Monitor) -> Option<Standing> {
+    let scratch_len = length(r, SCRATCH_LEAST);
+    let mut b = Buffers::lent(r, scratch_len, 0);
+    let lent = text.to_vec();
+    let a = unsafe { monitor_standing(m, lent.as_ptr(), lent.len(), b.scratch[BESIDE..].as_mut_ptr(), scratch_len) };
+    let refusal = reference::watchable(sheet, m.code, scratch_len).err();
+    if !b.scratch_holds(if matches!(refusal, Some((1 | 2, _))) { 0 } else { SCRATCH_LEAST }) || lent != text {
+        fail("standing: scratch or text", text, m.code);
+    }
+    let refused = refusal.map(|(number, line)| Standing { word: 3, one: number, two: line, waits: NO_WAITS });
+    if refused.map_or(a.word > 2 || (a.word != 1 && a.waits != NO_WAITS), |e| a != e) {
+        println!("got {:?}, refusal {:?}", a, refusal);
+        fail("standing: refusal or waits", text, m.code);
+    }
+    if refusal.is_some() { None } else { Some(a) }
+}
+
+/// Where the rules say that a state stands.
+fn standing(s: &Scenario, state: &State, code: u32) -> Standing {
+    let stuck = !state.finished() && state.steps(s, code).is_empty();
+    let word = if state.finished() { 0 } else { 2 - u32::from(stuck) };
+    Standing { word, one: 0, two: 0, waits: if stuck { reference::waits_in(s, state) } else { NO_WAITS } }
 }
 
 fn told(kind: u32, message: u32) -> Option<Step> {
@@ -201,6 +242,13 @@ fn session(r: &mut Random, seen: &mut Seen, text: &[u8], sheet: &Result<Scenario
         seen.fourteen += u64::from(a.word == 2 && a.one == 14);
         seen.high += u64::from(matches!(c, Call::Step(_, m) if a.word == 0 && m as usize >= MESSAGES / 2));
         m = a.next;
+        if let Some(got) = stand(r, text, sheet, m) {
+            if got != standing(s, &state, code) {
+                println!("expected {:?}, got {:?}", standing(s, &state, code), got);
+                fail("standing: not what the rules say", text, code);
+            }
+            seen.stood[got.word as usize] += 1;
+        }
     }
     seen.ended += u64::from(state.finished());
 }
@@ -228,6 +276,7 @@ fn forge(r: &mut Random, seen: &mut Seen, text: &[u8], sheet: &Result<Scenario, 
     if a.word != 0 && a.next != m {
         fail("monitor: forbidden or refused, and not handed back", text, m.code);
     }
+    stand(r, text, sheet, m);
     seen.forged += 1;
 }
 

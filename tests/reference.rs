@@ -535,10 +535,15 @@ pub fn replay(sheet: &Result<Scenario, Refusal>, code: u32, scratch: usize, trac
 
 /// On stuck, for each board, the event that the lowest message of its buffer whose receive is unready waits for; 65,535 otherwise.
 pub fn waits(sheet: &Result<Scenario, Refusal>, code: u32, scratch: usize, trace: &[u8]) -> [u16; 16] {
-    let mut out = [u16::MAX; 16];
-    let (Replay::Stuck, Ok(s)) = (replay(sheet, code, scratch, trace), sheet) else { return out };
+    let (Replay::Stuck, Ok(s)) = (replay(sheet, code, scratch, trace), sheet) else { return [u16::MAX; 16] };
     let mut state = State::start(s);
     trace.chunks(2).filter_map(told).for_each(|t| state.take(s, t));
+    waits_in(s, &state)
+}
+
+/// The same of a state that is stuck.
+pub fn waits_in(s: &Scenario, state: &State) -> [u16; 16] {
+    let mut out = [u16::MAX; 16];
     for (board, held) in state.buffers.iter().enumerate() {
         if let Some(m) = held.iter().find(|m| !state.ready(s, 2 * **m + 1)) {
             let outstanding = |k: &usize| s.before[*k][2 * m + 1] && s.board(*k) == board && !state.done[*k];
@@ -720,6 +725,14 @@ pub fn lowest_forbidden_line(text: &[u8], table: &[u8]) -> Option<u32> {
     let mut met = Vec::new();
     walked(&rows, 0, &mut met);
     met.iter().filter(|(_, a, b)| rules.iter().any(|r| covers(r, *a, *b) && !r.permits)).map(|m| m.0).min()
+}
+
+/// The messages of an accepted sheet, in walk order: the line of the M row, the sender and the receiver of each.
+pub fn messages(text: &[u8]) -> Vec<(u32, usize, usize)> {
+    let rows = read(text, false).expect("a sheet that is accepted");
+    let mut met = Vec::new();
+    walked(&rows, 0, &mut met);
+    met
 }
 
 /// The messages of an accepted sheet in walk order, each with the line of its M row.

@@ -15,7 +15,7 @@ static size_t len;
 static uint64_t scratch[CHANNEL_CHECK_SCRATCH_WORDS];
 static uint8_t trace[CHANNEL_CHECK_TRACE_BYTES], output[CURE_SHEET_OUTPUT_BYTES];
 static const char table[] = "from to verdict\n65535 32768 1\n65535 32767 0\n"; /* all may send to board 15 alone */
-static uint16_t up[EVENTS], down[EVENTS], course[TAPS_CHECK_OUTPUT_NUMBERS]; /* the sheet's events, and the last of them first */
+static uint16_t held[SHEET_MESSAGES_OUTPUT_NUMBERS], up[EVENTS], down[EVENTS], course[TAPS_CHECK_OUTPUT_NUMBERS]; /* the sheet's events, and the last of them first */
 static size_t events;
 static uint32_t code;
 static uint8_t sheets[DISPATCHER_PLACES * DISPATCHER_SHEET_BYTES];
@@ -29,6 +29,9 @@ static struct {
     trace_check_answer replayed;
     choice_check_answer chosen;
     struct { uint32_t word, one; } opened, stepped, switched, told, cancelled;
+    monitor_standing_answer stands;
+    sheet_messages_answer listed;
+    sheet_races_answer raced;
     senders_check_answer judged;
     cure_sheet_answer cured;
     taps_check_answer untapped, fits, clashes;
@@ -52,6 +55,9 @@ static void *run(void *unused) {
     said.stepped.word = a.word, said.stepped.one = a.one;
     a = monitor_switch(a.next, code, t, len, scratch, WORDS);
     said.switched.word = a.word, said.switched.one = a.one;
+    said.stands = monitor_standing(a.next, t, len, scratch, WORDS);
+    said.listed = sheet_messages(t, len, scratch, WORDS, held, SHEET_MESSAGES_OUTPUT_NUMBERS);
+    said.raced = sheet_races(t, len, code, scratch, WORDS, held, SHEET_MESSAGES_OUTPUT_NUMBERS);
     said.judged = senders_check((const uint8_t *)table, sizeof table - 1);
     said.permitted = permitted_check(t, len, code, scratch, WORDS, trace, CHANNEL_CHECK_TRACE_BYTES, (const uint8_t *)table, sizeof table - 1);
     said.cured = cure_sheet(t, len, scratch, WORDS, output, CURE_SHEET_OUTPUT_BYTES);
@@ -156,6 +162,9 @@ static void accepted(const sheet *s) {
     says("monitor_open", said.opened.word, MONITOR_TAKEN, 0, 0);
     says("monitor_step", said.stepped.word, MONITOR_TAKEN, 0, 0);
     says("monitor_switch", said.switched.word, MONITOR_TAKEN, 0, 0);
+    says("monitor_standing", said.stands.word, MONITOR_STANDING_OPEN, 0, 0);
+    says("sheet_messages", said.listed.word, SHEET_MESSAGES_LISTED, said.listed.one, (uint32_t)(events / 2));
+    says("sheet_races", said.raced.word, SHEET_RACES_LISTED, said.raced.one != 0, locks);
     says("permitted_check", said.permitted.word, s->is_forbidden ? CHANNEL_CHECK_REFUSED : locks, said.permitted.one, s->is_forbidden ? CHANNEL_CHECK_REFUSAL_FORBIDDEN : 0);
     says("cure_sheet", said.cured.word, CURE_SHEET_WRITTEN, 0, 0);
     says("taps_check, no list", said.untapped.word, TAPS_CHECK_FIT, said.untapped.one, (uint32_t)events);
@@ -175,6 +184,9 @@ static void refused(const sheet *s) {
     says("monitor_open", said.opened.word, MONITOR_REFUSED, said.opened.one, n);
     says("monitor_step", said.stepped.word, MONITOR_REFUSED, said.stepped.one, n);
     says("monitor_switch", said.switched.word, MONITOR_REFUSED, said.switched.one, n);
+    says("monitor_standing", said.stands.word, MONITOR_STANDING_REFUSED, said.stands.one, n);
+    says("sheet_messages", said.listed.word, SHEET_MESSAGES_REFUSED, said.listed.one, n);
+    says("sheet_races", said.raced.word, SHEET_RACES_REFUSED, said.raced.one, n);
     says("permitted_check", said.permitted.word, CHANNEL_CHECK_REFUSED, said.permitted.one, n);
     says("cure_sheet", said.cured.word, CURE_SHEET_REFUSED, said.cured.one, n);
     says("taps_check", said.untapped.word, TAPS_CHECK_REFUSED, said.untapped.one, n);

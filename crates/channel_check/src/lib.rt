@@ -11,6 +11,8 @@ ghost use Rattle.model.specs.Dispatcher as dispatchers;
 ghost use Rattle.model.specs.Dispatcher.{emptyDispatcher, admit, turn, cancel, Serves};
 ghost use Rattle.model.specs.Senders.{TableJudged, PermittedCheck};
 ghost use Rattle.model.specs.Taps.{TapsChecked};
+ghost use Rattle.model.specs.Holdings.{MessagesListed, RacesTold};
+ghost use Rattle.model.specs.Standing.{Stands};
 ghost use Rattle.choice_answer.specs.Bridge as chosen;
 ghost use Rattle.dispatcher.specs.Bridge as bridge;
 ghost use Rattle.dispatcher.specs.Bridge.{dispatcherIn, Holds, emptied, lent};
@@ -20,6 +22,10 @@ ghost use Rattle.answers.specs.Numbers.{numbersIn};
 ghost use Rattle.answers.specs.Cures as cured;
 ghost use Rattle.answers.specs.Tables as judged;
 ghost use Rattle.answers.specs.Tapped as fitted;
+ghost use Rattle.sheet_messages.specs.Listing as listed;
+ghost use Rattle.sheet_races.specs.Numbers as raced;
+ghost use Rattle.monitor_standing.specs.Bridge as stood;
+ghost use Rattle.channel_check.specs.Version.{version};
 pub use answers::ChannelCheckAnswer;
 pub use answers::CureSheetAnswer;
 pub use answers::SendersCheckAnswer;
@@ -29,6 +35,9 @@ use dispatcher::Dispatcher;
 use dispatcher::DispatcherAnswer;
 use monitor::Monitor;
 use monitor::MonitorAnswer;
+use monitor_standing::MonitorStandingAnswer;
+use sheet_messages::SheetMessagesAnswer;
+use sheet_races::SheetRacesAnswer;
 use trace_answer::TraceCheckAnswer;
 
 // The check: any text, any channel code, any lengths. With it goes what is so of every sheet, by the requests that brought no call.
@@ -201,4 +210,55 @@ pub extern "C" fn taps_check(
     ensures { λ r. ⌜ TapsChecked (now (text .entry)) (now (scratch .entry)) (now (scratch .exit)) (now (first .entry)) (now (second .entry)) (now (output .entry)) (now (output .exit)) (fitted.numbersIn r) ⌝ }
 {
     answers::fitted(sheet_taps::fit(text, scratch, first, second, output))
+}
+
+// The messages of a sheet with their lines and boards: any text, any lengths.
+#[no_mangle]
+pub extern "C" fn sheet_messages(
+    text: &[u8],
+    scratch: &mut [u64],
+    output: &mut [u16],
+) -> SheetMessagesAnswer
+    ensures { λ r. ⌜ MessagesListed (now (text .entry)) (now (scratch .entry)) (now (scratch .exit)) (now (output .entry)) (now (output .exit)) (listed.numbersIn r) ⌝ }
+{
+    sheet_messages::sheet_messages(text, scratch, output)
+}
+
+// All races of a sheet on a channel: any text, any channel code, any lengths.
+#[no_mangle]
+pub extern "C" fn sheet_races(
+    text: &[u8],
+    code: u32,
+    scratch: &mut [u64],
+    output: &mut [u16],
+) -> SheetRacesAnswer
+    ensures { λ r. ⌜ RacesTold (now (text .entry)) code (now (scratch .entry)) (now (scratch .exit)) (now (output .entry)) (now (output .exit)) (raced.numbersIn r) ⌝ }
+{
+    sheet_races::sheet_races(text, code, scratch, output)
+}
+
+// Where a monitored run stands: any monitor, any text, any length.
+#[no_mangle]
+pub extern "C" fn monitor_standing(
+    state: Monitor,
+    text: &[u8],
+    scratch: &mut [u64],
+) -> MonitorStandingAnswer
+    ensures { λ r. ⌜ Stands heldIn monitorOf state (now (text .entry)) (now (scratch .entry)) (now (scratch .exit)) (stood.numbersIn r) (r .waits) ⌝ }
+{
+    monitor_standing::standing_of(state, text, scratch)
+}
+
+const MAJOR: u32 = 1;
+
+const MINOR: u32 = 1;
+
+const PATCH: u32 = 0;
+
+// The version of the calls and of their structs.
+#[no_mangle]
+pub extern "C" fn channel_check_version() -> u32
+    ensures { λ r. ⌜ r ≡ version ⌝ }
+{
+    10000 * MAJOR + 100 * MINOR + PATCH
 }

@@ -1,27 +1,25 @@
 -- The messages that the sets forbid are those that the rules forbid, and what is decided of a sheet by them. Assumes nothing.
 use Prim.Native.Nat.{ℕ, _+_, _*_, _<_, _≤_}
 use native.Mathlib.Omega.{arith}
-use mathlib.Core.Path.{_≡_, refl, sym, _∙_, ap, subst, subst⁻¹}
+use mathlib.Core.Path.{_≡_, refl, sym, _∙_, ap, subst⁻¹}
 use mathlib.Core.Bool.{not}
-use mathlib.Core.List.{List, []}
+use mathlib.Core.List.{List}
 use mathlib.Core.Option.{none, some}
 use lib.ListN.{length, getD}
 use Rattle.model.specs.Limits.{messagesMost}
 use Rattle.model.specs.Bounded.{lowest}
 use Rattle.model.specs.Refusal.{Out, ok, refusal, andThen, forbiddenRefusal}
-use Rattle.model.specs.Expansion.{Progress, expand}
-use Rattle.model.specs.Order.{Met, Scenario, exchangeOf, scenarioOf}
+use Rattle.model.specs.Order.{Scenario}
 use Rattle.model.specs.Answer.{sheetOf, answerFor, traceAfter}
-use Rattle.model.specs.Senders.{Rule, isForbidden, withLines, lineOps, linesMet, permitted}
+use Rattle.model.specs.Senders.{Rule, isForbidden, linesMet, permitted}
 use Rattle.model.proofs.Bounded.{lowest-within, lowest-some}
-use Rattle.model.proofs.Accepted.{SheetParts, sheet-parts}
-use Rattle.model.proofs.MessageLines.{Both, expand-alike}
 use Rattle.relation.specs.Scenario.{scenarioIn}
 use Rattle.board.specs.Boards.{BoardsBelow}
 use Rattle.expansion.specs.declared.Expanded.{Expanded}
 use Rattle.expansion.specs.declared.Expanded.the-variants as expanded
 use Rattle.scenario.specs.Contract.{Fit, SheetIn}
 use Rattle.scenario.proofs.Laws.{sheet-refused, sheet-is, sheet-fits}
+use Rattle.message_lines.proofs.Counted.{lines-count}
 use Rattle.receivers.specs.Permitted.{PermittedBy, forbiddenIn, isForbiddenIn}
 use Rattle.receivers.specs.declared.Forbidden.{Forbidden}
 use Rattle.receivers.specs.declared.Forbidden.the-variants.{Message, Nothing}
@@ -34,21 +32,6 @@ use Rattle.permitted_sheet.specs.Sheet.{sheetBy}
 pub refuses : (o : Out Scenario) (number line code : ℕ) (trace : List ℕ) → o ≡ refusal number line → Decides o code trace trace (Refused number line)
 unfolding answerFor traceAfter
 refuses o number line code trace e = subst⁻¹ (λ (p : Out Scenario). Decides p code trace trace (Refused number line)) e (record { answer = refl; traceLeft = refl })
-
--- each message of the walk has a line
-pub lines-count : (text : List ℕ) (S : Scenario) → sheetOf text ≡ ok S → length (linesMet text) ≡ S .count
-unfolding linesMet andThen scenarioOf exchangeOf
-lines-count text S e =
-    let a = sheet-parts text S e in
-    go a (expand lineOps [] (withLines 0 (a .rows)) []) refl
-    (subst (λ (o : Out (Progress Met)). Both (a .rows) o (expand lineOps [] (withLines 0 (a .rows)) [])) (a .parts .expanded) (expand-alike (a .rows)))
-  where
-    go : (a : SheetParts text S) (o : Out (Progress (List ℕ))) → expand lineOps [] (withLines 0 (a .rows)) [] ≡ o → Both (a .rows) (ok (a .parts .walked)) o
-        → length (linesMet text) ≡ S .count
-    go a (refusal number line) f k = absurd k
-    go a (ok q) f k =
-        let lines : linesMet text ≡ q .kept = rw (a .read, f, linesMet) in
-        ap length lines ∙ k .lines ∙ ap (λ (T : Scenario). T .count) (a .parts .scenario)
 
 -- What the way to the scenario hands on.
 module _ (text boards words : List ℕ) (v : Expanded) (p : SheetIn text boards words v) where
@@ -105,6 +88,9 @@ module _ (text boards words : List ℕ) (v : Expanded) (p : SheetIn text boards 
         forbidden-met =
             let l : m < count = lowest-some count (isForbidden rules S) m is .below in
             omega (arith, lines-count text S (sheet-is text boards words v p count i))
+
+        pub forbidden-few : m < messagesMost
+        forbidden-few = let l : m < count = lowest-some count (isForbidden rules S) m is .below in omega (arith, fit .few)
 
         pub message-refused : (line code : ℕ) (trace : List ℕ) → line ≡ getD (linesMet text) m 0
             → Decides (sheetBy text rules) code trace trace (Refused forbiddenRefusal line)

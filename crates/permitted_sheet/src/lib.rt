@@ -37,7 +37,7 @@ pub fn judge_sheet(
             match forbidden {
                 Forbidden::Nothing => verdict::decide(words, &boards, messages, code, trace),
                 Forbidden::Message(m) => {
-                    Answer::Refused(model::FORBIDDEN, message_line::line_of(text, m, words))
+                    Answer::Refused(model::FORBIDDEN, message_lines::line_of(text, m, words))
                 }
             }
         }

@@ -1,7 +1,7 @@
 -- `permitted_sheet::judge_sheet` meets its contract. Assumes nothing.
 use borrow.Author.Needs.{needs}
 use Rattle.scenario.proofs.Laws.{sheet-fits, boards-long}
-use Rattle.permitted_sheet.proofs.Sheet.{messages-few, boards-enough, boards-below, forbidden-met, sheet-not-read, nothing-forbidden, message-refused}
+use Rattle.permitted_sheet.proofs.Sheet.{messages-few, boards-enough, boards-below, forbidden-met, forbidden-few, sheet-not-read, nothing-forbidden, message-refused}
 use Rattle.permitted_sheet.proofs.judge_sheet.Statement.{statement}
 use Rattle.permitted_sheet.proofs.judge_sheet.Tie as tie
 
@@ -36,7 +36,7 @@ enum-known-forbidden : tie.Need-enum-known-forbidden
 enum-known-forbidden c = search needs
 
 line-of-requires : tie.Need-line-of-requires
-line-of-requires c κs = (search needs, search forbidden-met)
+line-of-requires c κs = (search needs, (search forbidden-met, search forbidden-few))
 
 same-length : tie.Need-same-length
 same-length c = search needs

@@ -1,4 +1,0 @@
-mod Growing
-mod Left
-mod Looking
-mod Whole

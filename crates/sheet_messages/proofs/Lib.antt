@@ -1,0 +1,3 @@
+mod OfSheet
+mod Telling
+mod Whole

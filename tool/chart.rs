@@ -1,0 +1,168 @@
+//! `chart`: a picture of the answer on a channel, of a trace, or of the cured sheet. It is drawn from what the library answers.
+
+use crate::chosen::{self, Chosen};
+use crate::commands::{self, replay, Call};
+use crate::drawing::{self, Subject};
+use crate::face::{self, Choices, Lock, Race, Refusal, Standing, Step, Taps, Verdict, Waits, BOARDS};
+use crate::input::{Failure, Source};
+use crate::output::Answer;
+use crate::refusals::Handed;
+use crate::rows;
+use crate::words::{self, Named};
+
+const NO_WAITS: Waits = [None; BOARDS];
+
+/// A course of all events of a sheet that was accepted.
+fn course(text: &[u8]) -> Vec<usize> {
+    match face::taps(text, &[], &[]) {
+        Taps::Fit(course) => course,
+        _ => Vec::new(),
+    }
+}
+
+fn title(verdict: &str, code: u32) -> String {
+    format!("{} on {}", verdict, words::channel(code))
+}
+
+/// The chart of a free sheet: a course of its events.
+pub fn of_free(text: &[u8], named: &Named, title: &str, remark: &str) -> String {
+    let course = course(text);
+    drawing::draw(&Subject {
+        title,
+        remark,
+        named,
+        steps: &[],
+        waits: &NO_WAITS,
+        course: &course,
+        free: true,
+        race: None,
+        not_allowed: None,
+    })
+}
+
+/// The chart of a locked sheet: the steps that stop the boards, and what the boards wait for.
+pub fn of_lock(text: &[u8], code: u32, named: &Named, lock: &Lock, choices: &[String]) -> String {
+    let waits = match face::replay(text, code, &commands::trace_bytes(&lock.steps)) {
+        Standing::Stuck(waits) => waits,
+        _ => NO_WAITS,
+    };
+    let mut remark = format!("race: message {}, {}; steps: {}", lock.message, words::event(lock.event), lock.steps.len());
+    choices.iter().for_each(|c| remark.push_str(&format!("; {}", c)));
+    drawing::draw(&Subject {
+        title: &title("locked", code),
+        remark: &remark,
+        named,
+        steps: &lock.steps,
+        waits: &waits,
+        course: &course(text),
+        free: false,
+        race: Some(Race { message: lock.message, event: lock.event }),
+        not_allowed: None,
+    })
+}
+
+/// The chart of a trace, up to the first step that is not allowed.
+fn of_trace(text: &[u8], code: u32, bytes: &[u8], told: &[String], named: &Named) -> Result<String, Refusal> {
+    let (verdict, waits, taken) = match face::replay(text, code, bytes) {
+        Standing::Finished => ("trace finished", NO_WAITS, bytes.len() / 2),
+        Standing::Open => ("trace open", NO_WAITS, bytes.len() / 2),
+        Standing::Stuck(waits) => ("trace stuck", waits, bytes.len() / 2),
+        Standing::NotAllowed(index) => ("step not allowed", NO_WAITS, index),
+        Standing::Refused(r) => return Err(r),
+    };
+    let steps: Vec<Step> = bytes.chunks_exact(2).map(|b| Step { kind: b[0], message: b[1] }).collect();
+    let not_allowed = steps.get(taken).map(|s| (*s, told[taken].as_str()));
+    Ok(drawing::draw(&Subject {
+        title: &title(verdict, code),
+        remark: &format!("steps: {}", taken),
+        named,
+        steps: &steps[..taken],
+        waits: &waits,
+        course: &course(text),
+        free: false,
+        race: None,
+        not_allowed,
+    }))
+}
+
+pub fn run(call: &mut Call) -> Result<Answer, Failure> {
+    let code = call.code();
+    if call.files.len() > 1 {
+        return run_trace(call, code);
+    }
+    let sheet = call.sheet(0)?;
+    let mut answer = Answer::new();
+    let drawn = if call.cured { cured(&sheet, code) } else { answered(&sheet, code) };
+    match drawn? {
+        Ok(svg) => answer.out = svg.into_bytes(),
+        Err(r) => commands::refuse(&mut answer, &sheet, r, &Handed { code, choices: has_choices(&sheet), ..Handed::default() }),
+    }
+    Ok(answer)
+}
+
+fn run_trace(call: &mut Call, code: u32) -> Result<Answer, Failure> {
+    if call.cured {
+        return Err(Failure("a chart is of a trace or of the cured sheet, not both".to_string()));
+    }
+    let (source, sheet) = (call.file(0, "trace")?, call.sheet(1)?);
+    let (bytes, told) = replay::trace(&source)?;
+    let mut answer = Answer::new();
+    let named = face::messages(&sheet.bytes).map(|messages| Named { messages });
+    let drawn = match (named, face::replay(&sheet.bytes, code, &bytes)) {
+        (_, Standing::Refused(r)) => Err(r),
+        (Err(r), _) => Err(r),
+        (Ok(named), _) => of_trace(&sheet.bytes, code, &bytes, &told, &named),
+    };
+    match drawn {
+        Ok(svg) => answer.out = svg.into_bytes(),
+        Err(r) => commands::refuse(&mut answer, if r.number == 12 { &source } else { &sheet }, r, &Handed { code, trace: bytes.len(), ..Handed::default() }),
+    }
+    Ok(answer)
+}
+
+fn has_choices(sheet: &Source) -> bool {
+    rows::rows(&sheet.bytes, usize::MAX).iter().any(|r| r.kind == b'A')
+}
+
+type Drawn = Result<Result<String, Refusal>, Failure>;
+
+fn answered(sheet: &Source, code: u32) -> Drawn {
+    if has_choices(sheet) {
+        return chosen_chart(sheet, code);
+    }
+    let text = &sheet.bytes;
+    Ok(match face::check(text, code) {
+        Verdict::Free => Ok(of_free(text, &commands::named(text)?, &title("free", code), "a course of its events")),
+        Verdict::Locked(lock) => Ok(of_lock(text, code, &commands::named(text)?, &lock, &[])),
+        Verdict::Refused(r) => Err(r),
+    })
+}
+
+/// Of a file with choices, the first list that locks; where none does, the first list.
+fn chosen_chart(sheet: &Source, code: u32) -> Drawn {
+    let text = &sheet.bytes;
+    let (second, lock, options) = match face::choices(text, code) {
+        Choices::Refused(r) => return Ok(Err(r)),
+        Choices::Free => (0, None, chosen::options(text, u32::MAX, 0)),
+        Choices::Locked { lock, length, second } => (second, Some(lock), chosen::options(text, length, second)),
+    };
+    let c: Chosen = match chosen::sheet(text, second) {
+        Some(c) => c,
+        None => return Err(Failure(format!("{}: no chart: one A row takes both of its sheets, and the walk does not fit one sheet file", sheet.name))),
+    };
+    Ok(Ok(match lock {
+        Some(lock) => of_lock(&c.text, code, &c.named, &lock, &options),
+        None => of_free(&c.text, &c.named, &title("free", code), &format!("on every choice; a course of its events with {}", options.join("; "))),
+    }))
+}
+
+fn cured(sheet: &Source, code: u32) -> Drawn {
+    let text = match face::cure(&sheet.bytes) {
+        Ok(text) => text,
+        Err(r) => return Ok(Err(r)),
+    };
+    match face::check(&text, code) {
+        Verdict::Refused(r) => Ok(Err(r)),
+        _ => Ok(Ok(of_free(&text, &commands::named(&text)?, &format!("cured: {}", title("free", code)), "a course of the cured sheet's events"))),
+    }
+}

@@ -1,0 +1,83 @@
+//! The sheet of one choice list: a file without A rows that has the same walk, so that the other calls can speak of it.
+
+use crate::face;
+use crate::rows::{self, Met, Row};
+use crate::words::Named;
+
+pub struct Chosen {
+    pub text: Vec<u8>,
+    /// The messages, with the lines of the file that has the choices.
+    pub named: Named,
+}
+
+/// A line for each A row that the walk meets, with the sheet that it takes.
+pub fn options(text: &[u8], length: u32, second: u32) -> Vec<String> {
+    let mut out = Vec::new();
+    for met in rows::walk(&rows::rows(text, usize::MAX), second) {
+        if let Met::Choice(row, taken) = met {
+            out.push(format!("A row {}, line {}: sheet {}", out.len(), row.line, taken));
+        }
+    }
+    out.truncate(length as usize);
+    out
+}
+
+/// The sheet of a list, where a sheet file can have it.
+pub fn sheet(text: &[u8], second: u32) -> Option<Chosen> {
+    let all = rows::rows(text, usize::MAX);
+    let met = rows::walk(&all, second);
+    with_calls(text, &all, &met).or_else(|| in_one_sheet(&met))
+}
+
+/// Each A row as a call of the sheet that it takes, where it always takes the same one: all lines stay where they are.
+fn with_calls(text: &[u8], all: &[Row], met: &[Met]) -> Option<Chosen> {
+    let mut out = b"kind one two\n".to_vec();
+    for row in all {
+        let mut taken = met.iter().filter_map(|m| match m {
+            Met::Choice(r, taken) if r.line == row.line => Some(*taken),
+            _ => None,
+        });
+        let first = taken.next().unwrap_or(row.one);
+        if taken.any(|t| t != first) {
+            return None;
+        }
+        let words = if row.kind == b'A' { format!("C {} 0\n", first) } else { words(row) };
+        out.extend_from_slice(words.as_bytes());
+    }
+    let lines = rows::lines(text).0.len();
+    if rows::lines(&out).0.len() != lines {
+        return None;
+    }
+    named(out, |line| line)
+}
+
+fn words(row: &Row) -> String {
+    format!("{} {} {}\n", char::from(row.kind), row.one, row.two)
+}
+
+/// The rows of the walk as one sheet, block behind block, where they fit.
+fn in_one_sheet(met: &[Met]) -> Option<Chosen> {
+    let (mut out, mut lines, mut ended) = (b"kind one two\nS 0 0\n".to_vec(), vec![0, 0, 0], false);
+    for m in met {
+        match m {
+            Met::Row(row) => {
+                if ended {
+                    out.extend_from_slice(b"B 0 0\n");
+                    lines.push(0);
+                    ended = false;
+                }
+                out.extend_from_slice(words(row).as_bytes());
+                lines.push(row.line);
+            }
+            // blocks without rows change nothing
+            Met::BlockEnd | Met::Choice(..) => ended = true,
+        }
+    }
+    named(out, |line| lines.get(line).copied().unwrap_or(0))
+}
+
+fn named(text: Vec<u8>, line: impl Fn(usize) -> usize) -> Option<Chosen> {
+    let mut messages = face::messages(&text).ok()?;
+    messages.iter_mut().for_each(|m| m.line = line(m.line));
+    Some(Chosen { text, named: Named { messages } })
+}

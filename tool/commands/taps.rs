@@ -1,0 +1,30 @@
+//! `taps`: one course of all events that two lists of event numbers fit.
+
+use super::{named, refuse, Call};
+use crate::face::{self, Taps};
+use crate::input::{list, Failure};
+use crate::output::{Answer, Status};
+use crate::refusals::Handed;
+use crate::words;
+
+pub fn run(call: &mut Call) -> Result<Answer, Failure> {
+    let (first, second) = (call.file(0, "first list")?, call.file(1, "second list")?);
+    let sheet = call.sheet(2)?;
+    let (first, second) = (list(&first)?, list(&second)?);
+    let mut answer = Answer::new();
+    match face::taps(&sheet.bytes, &first, &second) {
+        Taps::Fit(course) => {
+            let named = named(&sheet.bytes)?;
+            answer.line("fit");
+            course.iter().for_each(|e| answer.line(&format!("event {}: {} on board {}", e, words::deed(*e), named.board(*e))));
+        }
+        Taps::Clash(e) => {
+            let named = named(&sheet.bytes)?;
+            answer.line(&format!("clash: {} would have to precede itself", words::event(e)));
+            answer.line(&named.message(e / 2));
+            answer.worsen(Status::Bad);
+        }
+        Taps::Refused(r) => refuse(&mut answer, &sheet, r, &Handed { lists: [&first, &second], ..Handed::default() }),
+    }
+    Ok(answer)
+}

@@ -1,0 +1,363 @@
+//! A refusal in words: its number and word, its line and that line's text, and the cause where the line shows it.
+//! The cause is looked for in the line that the library named; what the line does not show is left at the library's word.
+
+use crate::face::{self, Refusal, Senders};
+use crate::input::shown;
+use crate::rows::{self, Row};
+use crate::words;
+
+const NUMBER_MOST: usize = 511;
+const SET_MOST: usize = 65_535;
+const ROWS_MOST: usize = 512;
+const RULES_MOST: usize = 64;
+const SHEET_MOST: usize = 31;
+const LEVEL_MOST: usize = 8;
+
+/// What was handed to the library besides the sheet, as far as a refusal may be about it.
+#[derive(Clone, Copy, Default)]
+pub struct Handed<'a> {
+    pub code: u32,
+    pub table: &'a [u8],
+    pub trace: usize,
+    pub lists: [&'a [u16]; 2],
+    pub choices: bool,
+}
+
+/// The refusal of a sheet, as one line.
+pub fn of_sheet(r: Refusal, text: &[u8], handed: &Handed) -> String {
+    let cause = match r.number {
+        1 => Some(format!("no channel has the code {}: they are 0 to {}", handed.code, face::CHANNELS - 1)),
+        3 => Some(length_cause(text.len())),
+        4 => heading_cause(text, "kind, one and two", rows::order(first_line(text)).is_some()),
+        5 => row_cause(text, r.line as usize, handed.choices),
+        6 => place_cause(text, r.line as usize),
+        7 => Some(absent_cause(text, r.line as usize)),
+        8 => depth_cause(text, r.line as usize),
+        9 => Some("the walk makes call 1,025 here, and may make 1,024".to_string()),
+        10 => Some(format!("the walk meets message {} here, and may meet {}", face::MESSAGES + 1, face::MESSAGES)),
+        11 => circle_cause(text, r.line as usize),
+        12 => Some(trace_cause(handed.trace)),
+        13 => Some("the walk meets its ninth A row here, and may meet eight".to_string()),
+        15 => Some(rows_cause(text)),
+        16 => Some(format!("{} jobs are held already", face::PLACES)),
+        18 => return of_table(r, handed.table),
+        19 => forbidden_cause(text, r.line as usize),
+        20 => tap_cause(text, handed.lists, r.line as usize),
+        _ => None,
+    };
+    // the line of 20 is the number of a list, and no line of the sheet
+    let line = if r.number == 20 { 0 } else { r.line as usize };
+    sentence(r, line, text, cause)
+}
+
+/// The refusal of a table of permitted senders, as one line.
+pub fn of_table(r: Refusal, table: &[u8]) -> String {
+    let cause = match r.line as usize {
+        0 => match face::senders(table) {
+            Senders::Refused(_) => Some(length_cause(table.len())),
+            other => Some(format!("the table is not sound: {}", judgement(&other))),
+        },
+        1 => heading_cause(table, "from, to and verdict", first_line(table) == b"from to verdict"),
+        line => rule_cause(table, line),
+    };
+    sentence(r, r.line as usize, table, cause)
+}
+
+/// What the library says of a table that it read.
+pub fn judgement(senders: &Senders) -> String {
+    let pair = |p: u32| format!("board {} to board {}", p as usize / face::BOARDS, p as usize % face::BOARDS);
+    match senders {
+        Senders::Sound => "sound".to_string(),
+        Senders::Gap(p) => format!("{} is in no rule", pair(*p)),
+        Senders::Clash { pair: p, first, second } => format!("{} is in two rules, lines {} and {}", pair(*p), first, second),
+        Senders::Refused(r) => words::refusal(*r),
+    }
+}
+
+fn sentence(r: Refusal, line: usize, text: &[u8], cause: Option<String>) -> String {
+    let mut out = words::refusal(r);
+    if line > 0 {
+        let (all, _) = rows::lines(text);
+        let words = all.get(line - 1).map_or(String::new(), |l| shown(l));
+        out.push_str(&format!(", line {}, `{}`", line, words));
+    }
+    if let Some(c) = cause {
+        out.push_str(": ");
+        out.push_str(&c);
+    }
+    out
+}
+
+fn length_cause(length: usize) -> String {
+    match length {
+        0 => "there is nothing in it".to_string(),
+        n if n > crate::input::MOST_BYTES => format!("it has over {} bytes, and may have {}", crate::input::MOST_BYTES, face::TEXT_BYTES),
+        n => format!("it has {} bytes, and may have {}", n, face::TEXT_BYTES),
+    }
+}
+
+fn first_line(text: &[u8]) -> &[u8] {
+    rows::lines(text).0.first().copied().unwrap_or(b"")
+}
+
+/// What is wrong with the bytes of a line, whatever its words are.
+fn spacing_cause(line: &[u8], ended: bool) -> Option<String> {
+    let says = |words: &str| Some(words.to_string());
+    if line.starts_with(b"\xef\xbb\xbf") {
+        return says("it begins with a byte order mark: save it as plain text without one");
+    }
+    if line.contains(&b'\r') {
+        return says("it has a carriage return (saved on Windows?): a line ends with a line feed alone");
+    }
+    if line.contains(&b'\t') {
+        return says("it has a tab: one space stands between two fields");
+    }
+    if let Some(b) = line.iter().find(|b| !(b' '..=b'~').contains(b)) {
+        return Some(format!("it has a byte {}, which is no plain letter, digit or space", b));
+    }
+    if line.is_empty() {
+        return says("the line is empty");
+    }
+    if line.windows(2).any(|w| w == b"  ") {
+        return says("it has two spaces side by side");
+    }
+    if line.ends_with(b" ") {
+        return says("it has a space at the end");
+    }
+    if line.starts_with(b" ") {
+        return says("it has a space at the start");
+    }
+    if !ended {
+        return says("the last line has no line end");
+    }
+    None
+}
+
+/// A line, and whether it has its end.
+fn line_of(text: &[u8], line: usize) -> (&[u8], bool) {
+    let (all, ended) = rows::lines(text);
+    (all.get(line - 1).copied().unwrap_or(b""), ended || line < all.len())
+}
+
+fn heading_cause(text: &[u8], names: &str, right: bool) -> Option<String> {
+    let (line, ended) = line_of(text, 1);
+    let told = spacing_cause(line, ended);
+    if told.is_none() && right {
+        return None;
+    }
+    told.or_else(|| Some(format!("the first line has the names {}, one space between", names)))
+}
+
+/// What is wrong with a number: no digits, a leading zero, or too large.
+fn number_cause(field: &[u8], most: usize) -> Option<String> {
+    let words = shown(field);
+    if field.is_empty() || !field.iter().all(|b| b.is_ascii_digit()) {
+        return Some(format!("`{}` is no number", words));
+    }
+    if field.len() > 1 && field[0] == b'0' {
+        return Some(format!("{} has a leading zero", words));
+    }
+    let fits = words.parse::<usize>().map_or(false, |n| n <= most);
+    if fits {
+        None
+    } else {
+        Some(format!("{} is over {}", words, most))
+    }
+}
+
+fn row_cause(text: &[u8], line: usize, choices: bool) -> Option<String> {
+    if line > ROWS_MOST + 1 {
+        return Some(format!("it is row {}, and a sheet file has at most {}", line - 1, ROWS_MOST));
+    }
+    let (words, ended) = line_of(text, line);
+    if let Some(c) = spacing_cause(words, ended) {
+        return Some(c);
+    }
+    let fields: Vec<&[u8]> = words.split(|b| *b == b' ').collect();
+    if fields.len() != 3 {
+        return Some(format!("it has {}, and a row has three", words::count(fields.len(), "field")));
+    }
+    let order = rows::order(first_line(text))?;
+    letter_cause(fields[order[0]], choices)
+        .or_else(|| number_cause(fields[order[1]], NUMBER_MOST))
+        .or_else(|| number_cause(fields[order[2]], NUMBER_MOST))
+        .or_else(|| unused_cause(fields[order[0]], fields[order[1]], fields[order[2]]))
+}
+
+fn letter_cause(field: &[u8], choices: bool) -> Option<String> {
+    match field {
+        b"S" | b"M" | b"P" | b"B" | b"C" => None,
+        b"A" if choices => None,
+        b"A" => Some("an A row is a choice between two sheets: use `channel_tool choices`".to_string()),
+        _ => Some(format!("`{}` is no kind of row: S, M, P, B, C, and A with `choices`", shown(field))),
+    }
+}
+
+fn unused_cause(kind: &[u8], one: &[u8], two: &[u8]) -> Option<String> {
+    let unused = match kind {
+        b"B" if one != b"0" => "one",
+        b"B" | b"S" | b"C" if two != b"0" => "two",
+        _ => return None,
+    };
+    Some(format!("the field `{}` of such a row is not used, and must be 0", unused))
+}
+
+fn place_cause(text: &[u8], line: usize) -> Option<String> {
+    let all = rows::rows(text, line);
+    let (row, before) = all.split_last()?;
+    if row.kind != b'S' && !before.iter().any(|r| r.kind == b'S') {
+        return Some("it stands ahead of any S row: no sheet is open".to_string());
+    }
+    match row.kind {
+        b'S' | b'C' | b'A' => sheet_cause(row, before),
+        b'M' => message_cause(row, before),
+        b'P' => order_cause(row, before),
+        _ => None,
+    }
+}
+
+fn sheet_cause(row: &Row, before: &[Row]) -> Option<String> {
+    let over = if row.kind == b'A' { row.one.max(row.two) } else { row.one };
+    if over > SHEET_MOST {
+        return Some(format!("sheet {} is over {}", over, SHEET_MOST));
+    }
+    let first = before.iter().find(|r| r.kind == b'S' && r.one == row.one)?;
+    Some(format!("sheet {} is opened twice: line {} opens it", row.one, first.line))
+}
+
+/// The M rows of the open block.
+fn open_block(before: &[Row]) -> Vec<&Row> {
+    let from = before.iter().rposition(|r| matches!(r.kind, b'S' | b'B' | b'C' | b'A')).map_or(0, |p| p + 1);
+    before[from..].iter().filter(|r| r.kind == b'M').collect()
+}
+
+fn message_cause(row: &Row, before: &[Row]) -> Option<String> {
+    let over = row.one.max(row.two);
+    if over >= face::BOARDS {
+        let first = if row.one >= face::BOARDS { row.one } else { row.two };
+        return Some(format!("board {} is over {}", first, face::BOARDS - 1));
+    }
+    if open_block(before).len() < face::MESSAGES {
+        return None;
+    }
+    Some(format!("it is message {} of its block, which may have {}", face::MESSAGES + 1, face::MESSAGES))
+}
+
+fn order_cause(row: &Row, before: &[Row]) -> Option<String> {
+    let block = open_block(before);
+    for e in [row.one, row.two] {
+        if e / 2 >= block.len() {
+            let have = words::count(block.len(), "message");
+            return Some(format!("event {} ({} of the block) is not there yet: the block has {} so far", e, words::deed(e), have));
+        }
+    }
+    if row.one == row.two {
+        return Some("an event cannot come before itself".to_string());
+    }
+    let board = |e: usize| if e % 2 == 0 { block[e / 2].one } else { block[e / 2].two };
+    let (x, y) = (board(row.one), board(row.two));
+    if x == y {
+        return None;
+    }
+    Some(format!("event {} is on board {} and event {} on board {}: a P row orders events of one board", row.one, x, row.two, y))
+}
+
+fn absent_cause(text: &[u8], line: usize) -> String {
+    let all = rows::rows(text, usize::MAX);
+    let row = match all.iter().find(|r| r.line == line) {
+        Some(r) => r,
+        None => return "sheet 0 is never opened: no row is `S 0 0`".to_string(),
+    };
+    let opened = |n: usize| all.iter().any(|r| r.kind == b'S' && r.one == n);
+    let absent = if row.kind == b'A' && opened(row.one) { row.two } else { row.one };
+    format!("it calls sheet {}, which no row opens", absent)
+}
+
+/// The calls that lead from sheet 0 to a row at the deepest level, in the walk's order.
+fn path_to(all: &[Row], line: usize, number: usize, tried: &mut Vec<(usize, usize)>, path: &mut Vec<Row>) -> bool {
+    if tried.contains(&(number, path.len())) {
+        return false;
+    }
+    tried.push((number, path.len()));
+    for row in rows::sheet(all, number).iter().filter(|r| r.kind == b'C' || r.kind == b'A') {
+        path.push(*row);
+        if path.len() > LEVEL_MOST {
+            if row.line == line {
+                return true;
+            }
+        } else if path_to(all, line, row.one, tried, path) || (row.kind == b'A' && path_to(all, line, row.two, tried, path)) {
+            return true;
+        }
+        path.pop();
+    }
+    false
+}
+
+fn depth_cause(text: &[u8], line: usize) -> Option<String> {
+    let all = rows::rows(text, usize::MAX);
+    let (mut tried, mut path) = (Vec::new(), Vec::new());
+    if !path_to(&all, line, 0, &mut tried, &mut path) {
+        return None;
+    }
+    let lines: Vec<String> = path.iter().map(|r| r.line.to_string()).collect();
+    Some(format!("the path of calls is too deep: lines {}, and {} calls may be open", lines.join(", "), LEVEL_MOST))
+}
+
+fn circle_cause(text: &[u8], line: usize) -> Option<String> {
+    let all = rows::rows(text, line);
+    let row = all.last()?;
+    Some(format!("the rows of the block above it put event {} before event {} already, so that an event would come before itself", row.two, row.one))
+}
+
+/// The rows that a cure has in any case, and what it has room for.
+fn rows_cause(text: &[u8]) -> String {
+    let messages = face::messages(text).map_or(0, |m| m.len());
+    let room = ROWS_MOST.saturating_sub(1 + messages);
+    format!("the cure has over {} rows: one S row, {}, and more than {} P rows", ROWS_MOST, words::count(messages, "M row"), room)
+}
+
+fn trace_cause(length: usize) -> String {
+    if length > face::TRACE_BYTES {
+        return format!("the trace has {} bytes, and may have {}", length, face::TRACE_BYTES);
+    }
+    format!("the trace has {}, and a step has two", words::count(length, "byte"))
+}
+
+fn forbidden_cause(text: &[u8], line: usize) -> Option<String> {
+    let all = rows::rows(text, line);
+    let row = all.last()?;
+    Some(format!("the table does not permit board {} to send to board {}", row.one, row.two))
+}
+
+fn tap_cause(text: &[u8], lists: [&[u16]; 2], which: usize) -> Option<String> {
+    let list = lists.get(which.checked_sub(1)?)?;
+    let events = 2 * face::messages(text).ok()?.len();
+    for (i, e) in list.iter().enumerate() {
+        if usize::from(*e) >= events {
+            let name = ["first", "second"][which - 1];
+            return Some(format!("the {} list has event {}, and the sheet has {} only", name, e, words::count(events, "event")));
+        }
+        if list[..i].contains(e) {
+            return Some(format!("the {} list has event {} twice", ["first", "second"][which - 1], e));
+        }
+    }
+    None
+}
+
+fn rule_cause(table: &[u8], line: usize) -> Option<String> {
+    if line > RULES_MOST + 1 {
+        return Some(format!("it is rule {}, and a table has at most {}", line - 1, RULES_MOST));
+    }
+    let (words, ended) = line_of(table, line);
+    if let Some(c) = spacing_cause(words, ended) {
+        return Some(c);
+    }
+    let fields: Vec<&[u8]> = words.split(|b| *b == b' ').collect();
+    if fields.len() != 3 {
+        return Some(format!("it has {}, and a rule has three", words::count(fields.len(), "field")));
+    }
+    number_cause(fields[0], SET_MOST).or_else(|| number_cause(fields[1], SET_MOST)).or_else(|| match fields[2] {
+        b"0" | b"1" => None,
+        other => Some(format!("`{}` is no verdict: 1 is permitted and 0 is not", shown(other))),
+    })
+}

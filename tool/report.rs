@@ -1,0 +1,223 @@
+//! `report`: the whole picture of a sheet on one page, for a screen and for paper, without script or network.
+
+use crate::chart;
+use crate::chosen;
+use crate::commands::{self, Call};
+use crate::face::{self, Choices, Lock, Race, Refusal, Standing, Verdict};
+use crate::input::{shown, Failure, Source};
+use crate::output::{Answer, Status};
+use crate::refusals::Handed;
+use crate::rows;
+use crate::svg::escaped;
+use crate::words::{self, Named};
+
+const STYLE: &str = "\
+body{font:16px/1.5 sans-serif;color:#222;background:#fff;max-width:60em;margin:0 auto;padding:1em}
+h1{font-size:1.5em}h2{font-size:1.2em;border-top:1px solid #ccc;padding-top:1em;margin-top:2em}h3{font-size:1em}
+table{border-collapse:collapse}td,th{border:1px solid #ccc;padding:.2em .6em;text-align:left;vertical-align:top}
+pre{background:#f4f4f4;padding:.6em;overflow-wrap:anywhere;white-space:pre-wrap}
+.locked{color:#a00018;font-weight:bold}.free{color:#135c1d;font-weight:bold}
+.wide{overflow-x:auto}svg{max-width:100%;height:auto}li{overflow-wrap:anywhere}
+@media print{body{font-size:11pt;max-width:none;padding:0}@page{size:A4;margin:12mm}h2,h3{break-after:avoid}tr,li{break-inside:avoid}}";
+
+/// What the library answers on every channel.
+struct Page<'a> {
+    sheet: &'a Source,
+    /// The text that is drawn: the sheet's own, or that of the choice list named.
+    text: &'a [u8],
+    named: Named,
+    locks: Vec<Option<Lock>>,
+    choices: Vec<String>,
+    out: String,
+}
+
+pub fn run(call: &mut Call) -> Result<Answer, Failure> {
+    let sheet = call.sheet(0)?;
+    let mut answer = Answer::new();
+    match page(&sheet)? {
+        Ok(html) => answer.out = html.into_bytes(),
+        Err(r) => {
+            let choices = rows::rows(&sheet.bytes, usize::MAX).iter().any(|row| row.kind == b'A');
+            commands::refuse(&mut answer, &sheet, r, &Handed { choices, ..Handed::default() });
+        }
+    }
+    if answer.out.is_empty() {
+        answer.worsen(Status::Refused);
+    }
+    Ok(answer)
+}
+
+fn page(sheet: &Source) -> Result<Result<String, Refusal>, Failure> {
+    if rows::rows(&sheet.bytes, usize::MAX).iter().any(|row| row.kind == b'A') {
+        return page_of_choices(sheet);
+    }
+    let mut locks = Vec::new();
+    for code in 0..face::CHANNELS {
+        match face::check(&sheet.bytes, code) {
+            Verdict::Free => locks.push(None),
+            Verdict::Locked(lock) => locks.push(Some(lock)),
+            Verdict::Refused(r) => return Ok(Err(r)),
+        }
+    }
+    let named = commands::named(&sheet.bytes)?;
+    Ok(Ok(Page { sheet, text: &sheet.bytes, named, locks, choices: Vec::new(), out: String::new() }.written()?))
+}
+
+/// Of a file with choices: the list that locks on channel 0, or the first.
+fn page_of_choices(sheet: &Source) -> Result<Result<String, Refusal>, Failure> {
+    let (second, options) = match face::choices(&sheet.bytes, 0) {
+        Choices::Refused(r) => return Ok(Err(r)),
+        Choices::Free => (0, chosen::options(&sheet.bytes, u32::MAX, 0)),
+        Choices::Locked { length, second, .. } => (second, chosen::options(&sheet.bytes, length, second)),
+    };
+    let c = match chosen::sheet(&sheet.bytes, second) {
+        Some(c) => c,
+        None => return Err(Failure(format!("{}: no page: one A row takes both of its sheets, and the walk does not fit one sheet file", sheet.name))),
+    };
+    let locks = (0..face::CHANNELS).map(|code| match face::check(&c.text, code) {
+        Verdict::Locked(lock) => Some(lock),
+        _ => None,
+    });
+    let page = Page { sheet, text: &c.text, named: Named { messages: c.named.messages }, locks: locks.collect(), choices: options, out: String::new() };
+    Ok(Ok(page.written()?))
+}
+
+impl Page<'_> {
+    fn put(&mut self, html: &str) {
+        self.out.push_str(html);
+        self.out.push('\n');
+    }
+
+    fn heading(&mut self, words: &str) {
+        self.put(&format!("<h2>{}</h2>", escaped(words)));
+    }
+
+    fn paragraph(&mut self, words: &str) {
+        self.put(&format!("<p>{}</p>", escaped(words)));
+    }
+
+    fn list(&mut self, items: &[String]) {
+        self.put("<ul>");
+        items.iter().for_each(|i| self.put(&format!("<li>{}</li>", escaped(i))));
+        self.put("</ul>");
+    }
+
+    fn written(mut self) -> Result<String, Failure> {
+        let title = escaped(&format!("Channel check of {}", self.sheet.name));
+        self.put("<!DOCTYPE html>\n<html xmlns=\"http://www.w3.org/1999/xhtml\" lang=\"en\">\n<head>\n<meta charset=\"utf-8\"/>");
+        self.put("<meta name=\"viewport\" content=\"width=device-width, initial-scale=1\"/>");
+        self.put(&format!("<title>{}</title>\n<style>{}</style>\n</head>\n<body>\n<h1>{}</h1>", title, STYLE, title));
+        self.channels();
+        self.messages();
+        self.races()?;
+        self.jams();
+        self.cure()?;
+        self.text();
+        self.put("</body>\n</html>");
+        Ok(self.out)
+    }
+
+    /// The six channels in words.
+    fn channels(&mut self) {
+        self.heading("The six channels");
+        if !self.choices.is_empty() {
+            let options = self.choices.join("; ");
+            self.paragraph(&format!("The file has choices. This page is of one choice list: {}.", options));
+        }
+        self.put("<table>\n<tr><th>channel</th><th>answer</th></tr>");
+        for code in 0..face::CHANNELS {
+            let (class, words) = match &self.locks[code as usize] {
+                None => ("free", "free: no timing that the channel allows can stop the boards".to_string()),
+                Some(l) => ("locked", format!("locked: {}; {} stop the boards", self.named.race(Race { message: l.message, event: l.event }), words::count(l.steps.len(), "step"))),
+            };
+            self.put(&format!("<tr><td>{}</td><td class=\"{}\">{}</td></tr>", escaped(&words::channel(code)), class, escaped(&words)));
+        }
+        self.put("</table>");
+    }
+
+    fn messages(&mut self) {
+        self.heading("Messages");
+        self.put("<div class=\"wide\"><table>\n<tr><th>message</th><th>from</th><th>to</th><th>send</th><th>receive</th><th>line</th><th>row</th></tr>");
+        let lines = rows::lines(&self.sheet.bytes).0;
+        let mut table = String::new();
+        for (i, m) in self.named.messages.iter().enumerate() {
+            let row = lines.get(m.line.wrapping_sub(1)).map_or(String::new(), |l| shown(l));
+            let places = format!("<td>board {}</td><td>board {}</td><td>event {}</td><td>event {}</td>", m.from, m.to, 2 * i, 2 * i + 1);
+            table.push_str(&format!("<tr><td>message {}</td>{}<td>line {}</td><td>{}</td></tr>\n", i, places, m.line, escaped(&row)));
+        }
+        self.put(&table);
+        self.put("</table></div>");
+    }
+
+    fn races(&mut self) -> Result<(), Failure> {
+        self.heading("Races");
+        for code in 0..face::CHANNELS {
+            let races = listed(self.text, code)?;
+            let number = if races.is_empty() { "no races".to_string() } else { words::count(races.len(), "race") };
+            self.put(&format!("<h3>{}: {}</h3>", escaped(&words::channel(code)), number));
+            let items: Vec<String> = races.iter().map(|r| self.named.race(*r)).collect();
+            if !items.is_empty() {
+                self.list(&items);
+            }
+        }
+        Ok(())
+    }
+
+    /// The jam on each channel that locks, with its chart.
+    fn jams(&mut self) {
+        self.heading("How the boards stop");
+        if self.locks.iter().all(|l| l.is_none()) {
+            self.paragraph("No timing stops them, on any channel. One course of all events:");
+            let drawn = chart::of_free(self.text, &self.named, "free on every channel", "a course of its events");
+            self.put(&drawn);
+        }
+        for code in 0..face::CHANNELS {
+            let lock = match self.locks[code as usize].take() {
+                Some(l) => l,
+                None => continue,
+            };
+            self.put(&format!("<h3>{}</h3>", escaped(&words::channel(code))));
+            if let Standing::Stuck(waits) = face::replay(self.text, code, &commands::trace_bytes(&lock.steps)) {
+                let sentences = self.named.stuck(&waits, &self.named.held(&lock.steps));
+                self.list(&sentences);
+            }
+            let drawn = chart::of_lock(self.text, code, &self.named, &lock, &self.choices);
+            self.put(&drawn);
+        }
+    }
+
+    /// What a cure gives up, its text and its chart.
+    fn cure(&mut self) -> Result<(), Failure> {
+        self.heading("Cure");
+        let cured = match face::cure(self.text) {
+            Ok(text) => text,
+            Err(r) => {
+                self.paragraph(&format!("No sheet file has room for the cure: {}.", words::refusal(r)));
+                return Ok(());
+            }
+        };
+        let given_up: Vec<String> = listed(self.text, 0)?.iter().map(|r| self.named.given_up(*r)).collect();
+        if given_up.is_empty() {
+            self.paragraph("The sheet is free on every channel already: a cure gives up no order.");
+            return Ok(());
+        }
+        self.paragraph(&format!("The loosest sheet of the same messages that is free on every channel gives up {}:", words::count(given_up.len(), "order")));
+        self.list(&given_up);
+        self.put(&format!("<pre>{}</pre>", escaped(&String::from_utf8_lossy(&cured))));
+        let drawn = chart::of_free(&cured, &commands::named(&cured)?, "cured: free on every channel", "a course of the cured sheet's events");
+        self.put(&drawn);
+        Ok(())
+    }
+
+    /// The sheet itself, with the numbers of its lines.
+    fn text(&mut self) {
+        self.heading("The sheet");
+        let lines = rows::lines(&self.sheet.bytes).0;
+        let numbered: Vec<String> = lines.iter().enumerate().map(|(i, l)| format!("{:>4}  {}", i + 1, shown(l))).collect();
+        self.put(&format!("<pre>{}</pre>", escaped(&numbered.join("\n"))));
+    }
+}
+
+fn listed(text: &[u8], code: u32) -> Result<Vec<Race>, Failure> {
+    face::races(text, code).map_err(|r| Failure(format!("the library lists no races of a sheet that it accepted: {}", words::refusal(r))))
+}

@@ -1,0 +1,170 @@
+//! Channels, messages with their boards and lines, events, races, and what boards wait for, in words.
+
+use crate::face::{Lock, Message, Race, Refusal, Step, Verdict, Waits};
+
+pub const CHANNEL_NAMES: [&str; 6] =
+    ["eager free-running", "lazy free-running", "eager FIFO", "lazy FIFO", "synchronous, eager", "token ring, eager"];
+
+/// The words that a command takes for a channel.
+pub const CHANNEL_WORDS: [&str; 6] = ["free-running", "lazy-free-running", "fifo", "lazy-fifo", "synchronous", "token-ring"];
+
+const STEP_WORDS: [&str; 3] = ["send", "deliver", "consume"];
+
+pub const REFUSAL_WORDS: [&str; 21] = [
+    "", "channel", "bench", "length", "heading", "row", "place", "absent", "depth", "calls", "messages", "circle", "trace", "choices", "switch",
+    "rows", "jobs", "held", "table", "forbidden", "tap",
+];
+
+/// The code that a word names: digits, or a channel's name. The library judges the number.
+pub fn channel_code(word: &str) -> Option<u32> {
+    if !word.is_empty() && word.bytes().all(|b| b.is_ascii_digit()) {
+        return word.parse().ok();
+    }
+    let plain = word.to_ascii_lowercase();
+    let plain = plain.strip_prefix("eager-").unwrap_or(&plain);
+    CHANNEL_WORDS.iter().position(|w| *w == plain).map(|p| p as u32)
+}
+
+pub fn channel(code: u32) -> String {
+    match CHANNEL_NAMES.get(code as usize) {
+        Some(name) => format!("channel {}, {}", code, name),
+        None => format!("channel {}", code),
+    }
+}
+
+pub fn step_word(kind: u8) -> Option<&'static str> {
+    STEP_WORDS.get(usize::from(kind)).copied()
+}
+
+pub fn step_kind(word: &str) -> Option<u8> {
+    STEP_WORDS.iter().position(|w| w.eq_ignore_ascii_case(word)).map(|p| p as u8)
+}
+
+pub fn step(s: Step) -> String {
+    match step_word(s.kind) {
+        Some(word) => format!("{} {}", word, s.message),
+        None => format!("no step has the code {}", s.kind),
+    }
+}
+
+pub fn refusal(r: Refusal) -> String {
+    let word = REFUSAL_WORDS.get(r.number as usize).copied().unwrap_or("unknown");
+    format!("refused {} ({})", r.number, word)
+}
+
+/// `send of message 0`
+pub fn deed(event: usize) -> String {
+    format!("{} of message {}", ["send", "receive"][event % 2], event / 2)
+}
+
+/// `event 1 (receive of message 0)`
+pub fn event(event: usize) -> String {
+    format!("event {} ({})", event, deed(event))
+}
+
+/// A number and its noun: `1 race`, `2 races`.
+pub fn count(number: usize, noun: &str) -> String {
+    format!("{} {}{}", number, noun, if number == 1 { "" } else { "s" })
+}
+
+/// The line of an answer as the paper prints it.
+pub fn paper_line(code: u32, verdict: &Verdict) -> String {
+    match verdict {
+        Verdict::Free => format!("{} free 0 0 0", code),
+        Verdict::Locked(l) => format!("{} {}", code, locked(l)),
+        Verdict::Refused(r) => format!("{} {}", code, refused(*r)),
+    }
+}
+
+pub fn locked(l: &Lock) -> String {
+    format!("locked {} {} {}", l.message, l.event, l.steps.len())
+}
+
+pub fn refused(r: Refusal) -> String {
+    format!("refused {} {} 0", r.number, r.line)
+}
+
+/// The messages of a walk, to name them by.
+pub struct Named {
+    pub messages: Vec<Message>,
+}
+
+impl Named {
+    fn place(&self, m: usize) -> String {
+        match self.messages.get(m) {
+            Some(t) => format!("board {} to board {}, line {}", t.from, t.to, t.line),
+            None => "not in the sheet".to_string(),
+        }
+    }
+
+    /// `message 4 (board 1 to board 0, line 7)`
+    pub fn message(&self, m: usize) -> String {
+        format!("message {} ({})", m, self.place(m))
+    }
+
+    /// `event 1 (receive of message 0, board 0 to board 1, line 3)`
+    pub fn event(&self, e: usize) -> String {
+        format!("event {} ({}, {})", e, deed(e), self.place(e / 2))
+    }
+
+    /// The board that an event is on.
+    pub fn board(&self, e: usize) -> usize {
+        let m = &self.messages[e / 2];
+        if e % 2 == 0 {
+            m.from
+        } else {
+            m.to
+        }
+    }
+
+    pub fn race(&self, r: Race) -> String {
+        format!("{} races with {}", self.message(r.message), self.event(r.event))
+    }
+
+    /// The order that a cure gives up for a race.
+    pub fn given_up(&self, r: Race) -> String {
+        format!("{} before {}", self.event(r.event), self.event(2 * r.message + 1))
+    }
+
+    /// The messages that each board's buffer holds behind steps that are allowed.
+    pub fn held(&self, steps: &[Step]) -> Vec<Vec<usize>> {
+        let mut held = vec![Vec::new(); crate::face::BOARDS];
+        for s in steps {
+            let m = usize::from(s.message);
+            let to = self.messages.get(m).map_or(0, |t| t.to);
+            match s.kind {
+                1 => held[to].push(m),
+                2 => held[to].retain(|h| *h != m),
+                _ => {}
+            }
+        }
+        held.iter_mut().for_each(|h| h.sort_unstable());
+        held
+    }
+
+    /// A sentence for each board that waits, and then the messages that the sentences name.
+    pub fn stuck(&self, waits: &Waits, held: &[Vec<usize>]) -> Vec<String> {
+        let (mut lines, mut named) = (jams(waits, held), Vec::new());
+        for (board, wait) in waits.iter().enumerate() {
+            if let Some(e) = wait {
+                named.extend(held[board].first().copied());
+                named.push(e / 2);
+            }
+        }
+        named.sort_unstable();
+        named.dedup();
+        lines.extend(named.iter().map(|m| self.message(*m)));
+        lines
+    }
+}
+
+/// `board 1 holds message 1 and waits for event 1 (receive of message 0)`, for each board that waits.
+pub fn jams(waits: &Waits, held: &[Vec<usize>]) -> Vec<String> {
+    let mut lines = Vec::new();
+    for (board, wait) in waits.iter().enumerate() {
+        if let (Some(e), Some(m)) = (wait, held[board].first()) {
+            lines.push(format!("board {} holds message {} and waits for {}", board, m, event(*e)));
+        }
+    }
+    lines
+}

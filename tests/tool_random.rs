@@ -1,6 +1,6 @@
 //! Random bytes as sheet, trace, table and list to every command of the tool: no crash, a status from 0 to 3, an answer or a reason, and all within
 //! the time. Half of the inputs are bytes; the others are rows, rules and steps in a random order, so that some are accepted. Then the largest
-//! sheets: every command within a second of processor time.
+//! sheets: the longest time of a command is printed, and over five seconds on the clock fails, which leaves room for a busy machine.
 //! usage: tool_random PROGRAM FOLDER RUNS SEED
 
 use std::fs;

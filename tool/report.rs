@@ -74,11 +74,15 @@ fn page_of_choices(sheet: &Source) -> Result<Result<String, Refusal>, Failure> {
         Some(c) => c,
         None => return Err(Failure(format!("{}: no page: one A row takes both of its sheets, and the walk does not fit one sheet file", sheet.name))),
     };
-    let locks = (0..face::CHANNELS).map(|code| match face::check(&c.text, code) {
-        Verdict::Locked(lock) => Some(lock),
-        _ => None,
-    });
-    let page = Page { sheet, text: &c.text, named: Named { messages: c.named.messages }, locks: locks.collect(), choices: options, out: String::new() };
+    let mut locks = Vec::new();
+    for code in 0..face::CHANNELS {
+        match face::check(&c.text, code) {
+            Verdict::Free => locks.push(None),
+            Verdict::Locked(lock) => locks.push(Some(lock)),
+            Verdict::Refused(r) => return Err(Failure(format!("the library refuses the sheet of a choice list that it accepted: {}", words::refusal(r)))),
+        }
+    }
+    let page = Page { sheet, text: &c.text, named: Named { messages: c.named.messages }, locks, choices: options, out: String::new() };
     Ok(Ok(page.written()?))
 }
 
@@ -122,7 +126,10 @@ impl Page<'_> {
         self.heading("The six channels");
         if !self.choices.is_empty() {
             let options = self.choices.join("; ");
-            self.paragraph(&format!("The file has choices. This page is of one choice list: {}.", options));
+            self.paragraph("The file has choices. Over all choice lists:");
+            let over_all: Vec<String> = (0..face::CHANNELS).map(|code| over_all_lists(&self.sheet.bytes, code)).collect();
+            self.list(&over_all);
+            self.paragraph(&format!("All that follows is of one choice list alone: {}.", options));
         }
         self.put("<table>\n<tr><th>channel</th><th>answer</th></tr>");
         for code in 0..face::CHANNELS {
@@ -216,6 +223,16 @@ impl Page<'_> {
         let numbered: Vec<String> = lines.iter().enumerate().map(|(i, l)| format!("{:>4}  {}", i + 1, shown(l))).collect();
         self.put(&format!("<pre>{}</pre>", escaped(&numbered.join("\n"))));
     }
+}
+
+/// The answer over all choice lists of a file: another list than the one on the page may lock.
+fn over_all_lists(text: &[u8], code: u32) -> String {
+    let told = match face::choices(text, code) {
+        Choices::Free => "free on every list".to_string(),
+        Choices::Locked { length, second, .. } => format!("locked, first with {}", chosen::options(text, length, second).join("; ")),
+        Choices::Refused(r) => words::refusal(r),
+    };
+    format!("{}: {}", words::channel(code), told)
 }
 
 fn listed(text: &[u8], code: u32) -> Result<Vec<Race>, Failure> {

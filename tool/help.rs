@@ -164,6 +164,13 @@ pub const COMMANDS: [Command; 15] = [
     },
 ];
 
+/// What is asked of the tool itself.
+pub const OTHERS: [(&str, &str); 3] = [
+    ("help [COMMAND]", "These words, or those of one command."),
+    ("version", "The versions of the tool and of the library."),
+    ("manual", "The manual page, from these words: channel_tool manual | man -l - shows it."),
+];
+
 pub fn command(name: &str) -> Option<&'static Command> {
     COMMANDS.iter().find(|c| c.name == name)
 }
@@ -208,10 +215,10 @@ pub fn say(name: Option<&str>) -> Option<Answer> {
     for c in &COMMANDS {
         one(&mut answer, c);
     }
-    answer.line("channel_tool help [COMMAND]");
-    answer.line("channel_tool version");
-    answer.line("channel_tool manual");
-    answer.line("    The manual page, from these words: `channel_tool manual | man -l -` shows it.");
+    for (usage, phrase) in OTHERS {
+        answer.line(&format!("channel_tool {}", usage));
+        answer.line(&format!("    {}", phrase));
+    }
     answer.line("");
     channels(&mut answer);
     answer.line("");

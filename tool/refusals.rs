@@ -190,18 +190,27 @@ fn number_cause(field: &[u8], most: usize) -> Option<String> {
     }
 }
 
+/// The three fields of a line, or why it has them not.
+fn three_fields<'a>(text: &'a [u8], line: usize, what: &str) -> Result<Vec<&'a [u8]>, String> {
+    let (words, ended) = line_of(text, line);
+    if let Some(cause) = spacing_cause(words, ended) {
+        return Err(cause);
+    }
+    let fields: Vec<&[u8]> = words.split(|b| *b == b' ').collect();
+    if fields.len() != 3 {
+        return Err(format!("it has {}, and a {} has three", words::count(fields.len(), "field"), what));
+    }
+    Ok(fields)
+}
+
 fn row_cause(text: &[u8], line: usize, choices: bool) -> Option<String> {
     if line > ROWS_MOST + 1 {
         return Some(format!("it is row {}, and a sheet file has at most {}", line - 1, ROWS_MOST));
     }
-    let (words, ended) = line_of(text, line);
-    if let Some(c) = spacing_cause(words, ended) {
-        return Some(c);
-    }
-    let fields: Vec<&[u8]> = words.split(|b| *b == b' ').collect();
-    if fields.len() != 3 {
-        return Some(format!("it has {}, and a row has three", words::count(fields.len(), "field")));
-    }
+    let fields = match three_fields(text, line, "row") {
+        Ok(fields) => fields,
+        Err(cause) => return Some(cause),
+    };
     let order = rows::order(first_line(text))?;
     letter_cause(fields[order[0]], choices)
         .or_else(|| number_cause(fields[order[1]], NUMBER_MOST))
@@ -355,15 +364,17 @@ fn forbidden_cause(text: &[u8], line: usize) -> Option<String> {
 }
 
 fn tap_cause(text: &[u8], lists: [&[u16]; 2], which: usize) -> Option<String> {
-    let list = lists.get(which.checked_sub(1)?)?;
+    let at = which.checked_sub(1)?;
+    let (list, name) = (lists.get(at)?, ["first", "second"].get(at)?);
     let events = 2 * face::messages(text).ok()?.len();
     for (i, e) in list.iter().enumerate() {
         if usize::from(*e) >= events {
-            let name = ["first", "second"][which - 1];
-            return Some(format!("the {} list has event {}, and the sheet has {} only", name, e, words::count(events, "event")));
+            // what is too large for a list was read as the largest number of one
+            let over = if *e == u16::MAX { " or more" } else { "" };
+            return Some(format!("the {} list has event {}{}, and the sheet has {} only", name, e, over, words::count(events, "event")));
         }
         if list[..i].contains(e) {
-            return Some(format!("the {} list has event {} twice", ["first", "second"][which - 1], e));
+            return Some(format!("the {} list has event {} twice", name, e));
         }
     }
     None
@@ -373,14 +384,10 @@ fn rule_cause(table: &[u8], line: usize) -> Option<String> {
     if line > RULES_MOST + 1 {
         return Some(format!("it is rule {}, and a table has at most {}", line - 1, RULES_MOST));
     }
-    let (words, ended) = line_of(table, line);
-    if let Some(c) = spacing_cause(words, ended) {
-        return Some(c);
-    }
-    let fields: Vec<&[u8]> = words.split(|b| *b == b' ').collect();
-    if fields.len() != 3 {
-        return Some(format!("it has {}, and a rule has three", words::count(fields.len(), "field")));
-    }
+    let fields = match three_fields(table, line, "rule") {
+        Ok(fields) => fields,
+        Err(cause) => return Some(cause),
+    };
     number_cause(fields[0], SET_MOST).or_else(|| number_cause(fields[1], SET_MOST)).or_else(|| match fields[2] {
         b"0" | b"1" => None,
         other => Some(format!("`{}` is no verdict: 1 is permitted and 0 is not", shown(other))),

@@ -8,7 +8,7 @@
  * word                  which of the call's cases it is: one of the enumerators beside the call.
  * one, two, three       the numbers of that case. Those that a case does not name are 0.
  *
- * The last case of every call is refused: `one` is then a channel_check_refusal, and `two` its line, 0 where it has none. README has the form of a
+ * The last case of every call is refused: `one` is then a channel_check_refusal, and `two` its line, 0 where it has none. docs/SHEETS.md has the form of a
  * sheet file and the table of refusals; channel_check_words.h has the words of refusals, channels and steps, to print.
  *
  * What holds of every call:

@@ -93,14 +93,16 @@ fn course(program: &str, text: &[u8]) -> (Vec<usize>, Vec<usize>) {
     let lines: Vec<Vec<usize>> = out.lines().filter(|l| l.starts_with("event ")).map(numbers).collect();
     let mut boards = vec![0; lines.len()];
     for l in &lines {
-        boards[l[0]] = l[2];
+        // the event, its message, the message's boards and line
+        boards[l[0]] = l[2 + l[0] % 2];
     }
     (boards, lines.iter().map(|l| l[0]).collect())
 }
 
 fn step_of(line: &str) -> Option<(usize, usize)> {
-    let (word, m) = line.split_once(' ')?;
-    Some((STEPS.iter().position(|s| *s == word)?, m.parse().ok()?))
+    let mut words = line.split(' ');
+    let word = words.next()?;
+    Some((STEPS.iter().position(|s| *s == word)?, words.next()?.parse().ok()?))
 }
 
 /// What a board waits for, as the other commands say it, in the chart's words.
@@ -191,8 +193,9 @@ fn check_arrows(all: &[Mark], facts: &Facts, p: &Places) -> Result<(), String> {
         let (end_x, end_y) = (arrow.numbers[arrow.numbers.len() - 2], arrow.numbers[arrow.numbers.len() - 1]);
         if class == "d" {
             let open = if x == to { end_x > x } else { (end_x > x.min(to)) && (end_x < x.max(to)) };
-            if !open || end_y <= y {
-                return Err(format!("message {} does not end in the open", m));
+            let near = end_x.max(to) - end_x.min(to) <= 20;
+            if !open || !near || end_y <= y {
+                return Err(format!("message {} does not end in the open, short of its own receiver", m));
             }
             continue;
         }
@@ -296,6 +299,30 @@ fn sides(t: &Mark) -> [f64; 4] {
     [left, y - size * 0.8, left + wide, y + size * 0.2]
 }
 
+/// No label, dot or box lies under an arrow: all arrows are drawn ahead of them.
+fn check_over(all: &[Mark]) -> Result<(), String> {
+    let arrow = |m: &Mark| m.name == "path" && ["m", "o", "d", "q"].contains(&m.class.as_str());
+    let last = all.iter().rposition(arrow).unwrap_or(0);
+    let over = |m: &Mark| m.name == "circle" || (m.name == "text" && ["s", "p", "e", "f", "w"].contains(&m.class.as_str()) && m.numbers[0] != 12);
+    match all[..last].iter().find(|m| over(m)) {
+        Some(m) => Err(format!("a {} `{}` lies under an arrow", m.name, m.words)),
+        None => Ok(()),
+    }
+}
+
+/// Where a jammed board waits for a message under way, a tie leads from the arrow's end to the ring; the race's own jam is marked.
+fn check_ties(all: &[Mark], facts: &Facts) -> Result<(), String> {
+    let late = |j: &&String| numbers(j)[2] % 2 == 1 && facts.row(0, numbers(j)[2] / 2).is_some() && facts.row(1, numbers(j)[2] / 2).is_none();
+    let ties = all.iter().filter(|m| m.name == "path" && m.class == "q").count();
+    if ties != facts.jams.iter().filter(late).count() {
+        return Err(format!("{} ties for {:?}", ties, facts.jams));
+    }
+    let marked = all.iter().filter(|m| m.name == "text" && m.class == "q").count();
+    let race = facts.remark.strip_prefix("race: ").map(|r| numbers(r)[0]);
+    let own = facts.jams.iter().filter(|j| Some(numbers(j)[1]) == race).count();
+    if marked != own { Err(format!("{} jams are marked as the race's, not {}", marked, own)) } else { Ok(()) }
+}
+
 /// No two texts overlap, none leaves the page, and the words of a callout fit their box.
 fn check_labels(svg: &str, all: &[Mark]) -> Result<(), String> {
     let page: Vec<usize> = numbers(svg.lines().next().and_then(|l| l.split("width=").nth(1)).unwrap_or(""));
@@ -363,6 +390,8 @@ fn check(svg: &str, facts: &Facts) -> Result<(), String> {
     check_arrows(&all, facts, &p)?;
     check_events(&all, facts, &p)?;
     check_numbers(&all, facts, &p)?;
+    check_over(&all)?;
+    check_ties(&all, facts)?;
     check_labels(svg, &all)
 }
 
@@ -386,7 +415,7 @@ fn try_trace(program: &str, file: &str, text: &[u8], code: usize, bytes: &[u8], 
     std::fs::write(file, bytes).expect("the trace is written");
     let c = code.to_string();
     let (told, _) = run(program, &["replay", &c, file], text);
-    let (svg, _) = run(program, &["chart", &c, file], text);
+    let (svg, _) = run(program, &["chart", &c, file, "-"], text);
     let line = told.lines().next().unwrap_or("");
     let not_allowed = line.starts_with("step ").then(|| line.to_string());
     let taken = if not_allowed.is_some() { numbers(line)[0] } else { bytes.len() / 2 };
@@ -425,9 +454,18 @@ fn try_channel(program: &str, folder: &str, text: &[u8], code: usize, of: &(Vec<
     let (told, _) = run(program, &["steps", &c], text);
     let answer = told.lines().next().expect("an answer");
     let n = numbers(answer);
+    let chosen = run(program, &["choices", &c], text).0;
+    if answer.contains("refused 5") && !chosen.contains("refused") {
+        // a file with choices: its chart is that of the list that `choices` names
+        let word = if chosen.contains("locked") { "<title>locked" } else { "<title>free" };
+        if !svg.contains(word) {
+            fail(&format!("the chart of a file with choices has no {}\n{}", word, String::from_utf8_lossy(text)));
+        }
+        return None;
+    }
     if answer.contains("refused") {
         count.refused += 1;
-        if !svg.is_empty() || error != format!("refused {} {}\n", n[1], n[2]) {
+        if !svg.is_empty() || !error.starts_with(&format!("standard input: refused {} (", n[1])) {
             fail(&format!("a refused sheet has a chart, or another refusal: {}\n{}", error, String::from_utf8_lossy(text)));
         }
         return None;
@@ -506,7 +544,7 @@ fn main() {
     let (sheets, seed) = (number(4, 40), number(5, time));
     let mut count = Count::default();
     let mut files: Vec<_> = std::fs::read_dir("examples").expect("examples/").map(|f| f.expect("a file").path()).collect();
-    files.retain(|f| f.extension().is_some_and(|e| e == "sheet"));
+    files.retain(|f| f.extension().map_or(false, |e| e == "sheet"));
     for f in &files {
         try_sheet(program, folder, &std::fs::read(f).expect("a sheet"), &mut count);
     }

@@ -18,8 +18,8 @@ fn main() {
     let name = std::env::args().nth(1).unwrap_or_else(|| fail("usage: picture CHART.svg < CHART.ppm"));
     let svg = std::fs::read_to_string(&name).unwrap_or_else(|_| fail(&format!("{} cannot be read", name)));
     let size = |word: &str| -> usize {
-        let behind = svg.split(&format!(" {}=\"", word)).nth(1).and_then(|r| r.split('"').next());
-        behind.and_then(|n| n.parse().ok()).unwrap_or_else(|| fail(&format!("{} has no {}", name, word)))
+        let after = svg.split(&format!(" {}=\"", word)).nth(1).and_then(|r| r.split('"').next());
+        after.and_then(|n| n.parse().ok()).unwrap_or_else(|| fail(&format!("{} has no {}", name, word)))
     };
     let mut picture = Vec::new();
     std::io::stdin().read_to_end(&mut picture).expect("the picture is read");

@@ -1,12 +1,13 @@
 //! `chart`: a picture of the answer on a channel, of a trace, or of the cured sheet. It is drawn from what the library answers.
 
 use crate::chosen::{self, Chosen};
-use crate::commands::{self, replay, Call};
+use crate::commands::replay::{self, Trace};
+use crate::commands::{self, Call};
 use crate::drawing::{self, Subject};
-use crate::face::{self, Choices, Lock, Race, Refusal, Standing, Step, Taps, Verdict, Waits, BOARDS};
+use crate::face::{self, Choices, Lock, Race, Refusal, Standing, Taps, Verdict, Waits, BOARDS};
 use crate::input::{Failure, Source};
 use crate::output::Answer;
-use crate::refusals::Handed;
+use crate::refusals::{Handed, TRACE};
 use crate::rows;
 use crate::words::{self, Named};
 
@@ -43,7 +44,7 @@ pub fn of_free(text: &[u8], named: &Named, title: &str, remark: &str) -> String 
 /// The chart of a locked sheet: the steps that stop the boards, and what the boards wait for.
 pub fn of_lock(text: &[u8], code: u32, named: &Named, lock: &Lock, choices: &[String]) -> String {
     let waits = match face::replay(text, code, &commands::trace_bytes(&lock.steps)) {
-        Standing::Stuck(waits) => waits,
+        Ok(Standing::Stuck(waits)) => waits,
         _ => NO_WAITS,
     };
     let mut remark = format!("race: message {}, {}; steps: {}", lock.message, words::event(lock.event), lock.steps.len());
@@ -62,17 +63,16 @@ pub fn of_lock(text: &[u8], code: u32, named: &Named, lock: &Lock, choices: &[St
 }
 
 /// The chart of a trace, up to the first step that is not allowed.
-fn of_trace(text: &[u8], code: u32, bytes: &[u8], told: &[String], named: &Named) -> Result<String, Refusal> {
-    let (verdict, waits, taken) = match face::replay(text, code, bytes) {
-        Standing::Finished => ("trace finished", NO_WAITS, bytes.len() / 2),
-        Standing::Open => ("trace open", NO_WAITS, bytes.len() / 2),
-        Standing::Stuck(waits) => ("trace stuck", waits, bytes.len() / 2),
+fn of_trace(text: &[u8], code: u32, trace: &Trace, standing: Standing, named: &Named) -> String {
+    let steps = trace.steps();
+    let (verdict, waits, taken) = match standing {
+        Standing::Finished => ("trace finished", NO_WAITS, steps.len()),
+        Standing::Stuck(waits) => ("trace stuck", waits, steps.len()),
         Standing::NotAllowed(index) => ("step not allowed", NO_WAITS, index),
-        Standing::Refused(r) => return Err(r),
+        Standing::Open => ("trace open", NO_WAITS, steps.len()),
     };
-    let steps: Vec<Step> = bytes.chunks_exact(2).map(|b| Step { kind: b[0], message: b[1] }).collect();
-    let not_allowed = steps.get(taken).map(|s| (*s, told[taken].as_str()));
-    Ok(drawing::draw(&Subject {
+    let not_allowed = steps.get(taken).map(|s| (*s, trace.told[taken].as_str()));
+    drawing::draw(&Subject {
         title: &title(verdict, code),
         remark: &format!("steps: {}", taken),
         named,
@@ -82,7 +82,7 @@ fn of_trace(text: &[u8], code: u32, bytes: &[u8], told: &[String], named: &Named
         free: false,
         race: None,
         not_allowed,
-    }))
+    })
 }
 
 pub fn run(call: &mut Call) -> Result<Answer, Failure> {
@@ -105,17 +105,17 @@ fn run_trace(call: &mut Call, code: u32) -> Result<Answer, Failure> {
         return Err(Failure("a chart is of a trace or of the cured sheet, not both".to_string()));
     }
     let (source, sheet) = (call.file(0, "trace")?, call.sheet(1)?);
-    let (bytes, told) = replay::trace(&source)?;
+    let trace = replay::trace(&source)?;
     let mut answer = Answer::new();
-    let named = face::messages(&sheet.bytes).map(|messages| Named { messages });
-    let drawn = match (named, face::replay(&sheet.bytes, code, &bytes)) {
-        (_, Standing::Refused(r)) => Err(r),
-        (Err(r), _) => Err(r),
-        (Ok(named), _) => of_trace(&sheet.bytes, code, &bytes, &told, &named),
-    };
-    match drawn {
-        Ok(svg) => answer.out = svg.into_bytes(),
-        Err(r) => commands::refuse(&mut answer, if r.number == 12 { &source } else { &sheet }, r, &Handed { code, trace: bytes.len(), ..Handed::default() }),
+    match face::replay(&sheet.bytes, code, &trace.bytes) {
+        Ok(standing) => {
+            let named = commands::named(&sheet.bytes)?;
+            answer.out = of_trace(&sheet.bytes, code, &trace, standing, &named).into_bytes();
+        }
+        Err(r) => {
+            let refused = if r.number == TRACE { &source } else { &sheet };
+            commands::refuse(&mut answer, refused, r, &Handed { code, trace: trace.bytes.len(), ..Handed::default() });
+        }
     }
     Ok(answer)
 }
@@ -148,7 +148,7 @@ fn chosen_chart(sheet: &Source, code: u32) -> Drawn {
     };
     let c: Chosen = match chosen::sheet(text, second) {
         Some(c) => c,
-        None => return Err(Failure(format!("{}: no chart: one A row takes both of its sheets, and the walk does not fit one sheet file", sheet.name))),
+        None => return Err(Failure(format!("{}: no chart: {}", sheet.name, chosen::NO_SHEET))),
     };
     Ok(Ok(match lock {
         Some(lock) => of_lock(&c.text, code, &c.named, &lock, &options),

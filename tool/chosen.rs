@@ -4,6 +4,9 @@ use crate::face;
 use crate::rows::{self, Met, Row};
 use crate::words::Named;
 
+/// Why a choice list has no sheet file of its own.
+pub const NO_SHEET: &str = "one A row takes both of its sheets, and the walk does not fit one sheet file";
+
 pub struct Chosen {
     pub text: Vec<u8>,
     /// The messages, with the lines of the file that has the choices.
@@ -55,7 +58,7 @@ fn words(row: &Row) -> String {
     format!("{} {} {}\n", char::from(row.kind), row.one, row.two)
 }
 
-/// The rows of the walk as one sheet, block behind block, where they fit.
+/// The rows of the walk as one sheet, block after block, where they fit.
 fn in_one_sheet(met: &[Met]) -> Option<Chosen> {
     let (mut out, mut lines, mut ended) = (b"kind one two\nS 0 0\n".to_vec(), vec![0, 0, 0], false);
     for m in met {

@@ -1,4 +1,4 @@
-//! A chart: the boards side by side, time down the page, and what each jammed board waits for. Labels and dots are drawn behind all arrows, so that none
+//! A chart: the boards side by side, time down the page, and what each jammed board waits for. Labels and dots are drawn after all arrows, so that none
 //! lies under one.
 
 use crate::face::{Race, Step, Waits};
@@ -33,7 +33,7 @@ pub struct Subject<'a> {
     pub course: &'a [usize],
     pub free: bool,
     pub race: Option<Race>,
-    /// The step behind the others that is not allowed, and its words.
+    /// The step after the others that is not allowed, and its words.
     pub not_allowed: Option<(Step, &'a str)>,
 }
 
@@ -144,7 +144,7 @@ impl Drawing<'_> {
         }
     }
 
-    /// The boards' numbers again, behind every so many rows.
+    /// The boards' numbers again, after every so many rows.
     fn rulers(&mut self) {
         for i in 1..=self.at.rows / RULER {
             let top = self.at.top(i * RULER - 1) + ROW_HEIGHT;
@@ -219,7 +219,7 @@ impl Drawing<'_> {
         self.picture.text(class, place, self.at.top(row) + BASE, &message.to_string());
     }
 
-    /// A delivery: the message's number behind the arrow's end, or its box.
+    /// A delivery: the message's number past the arrow's end, or its box.
     fn deliveries(&mut self) {
         for m in 0..self.of.named.messages.len() {
             let row = match self.at.row(m, 1) {

@@ -172,7 +172,6 @@ pub enum Standing {
     Stuck(Waits),
     Open,
     NotAllowed(usize),
-    Refused(Refusal),
 }
 
 pub enum Choices {
@@ -259,15 +258,15 @@ pub fn permitted(text: &[u8], code: u32, table: &[u8]) -> Verdict {
     verdict(a, &trace)
 }
 
-pub fn replay(text: &[u8], code: u32, trace: &[u8]) -> Standing {
+pub fn replay(text: &[u8], code: u32, trace: &[u8]) -> Result<Standing, Refusal> {
     let mut scratch = [0u64; SCRATCH_WORDS];
     let a = unsafe { trace_check(text.as_ptr(), text.len(), code, scratch.as_mut_ptr(), SCRATCH_WORDS, trace.as_ptr(), trace.len()) };
     match a.word {
-        0 => Standing::Finished,
-        1 => Standing::Stuck(waits(a.waits)),
-        2 => Standing::Open,
-        3 => Standing::NotAllowed(a.one as usize),
-        _ => Standing::Refused(refusal(a.one, a.two)),
+        0 => Ok(Standing::Finished),
+        1 => Ok(Standing::Stuck(waits(a.waits))),
+        2 => Ok(Standing::Open),
+        3 => Ok(Standing::NotAllowed(a.one as usize)),
+        _ => Err(refusal(a.one, a.two)),
     }
 }
 
@@ -308,14 +307,14 @@ impl Monitor {
         taken(unsafe { monitor_switch(*self, code, text.as_ptr(), text.len(), scratch.as_mut_ptr(), SCRATCH_WORDS) })
     }
 
-    pub fn standing(&self, text: &[u8]) -> Standing {
+    pub fn standing(&self, text: &[u8]) -> Result<Standing, Refusal> {
         let mut scratch = [0u64; SCRATCH_WORDS];
         let a = unsafe { monitor_standing(*self, text.as_ptr(), text.len(), scratch.as_mut_ptr(), SCRATCH_WORDS) };
         match a.word {
-            0 => Standing::Finished,
-            1 => Standing::Stuck(waits(a.waits)),
-            2 => Standing::Open,
-            _ => Standing::Refused(refusal(a.one, a.two)),
+            0 => Ok(Standing::Finished),
+            1 => Ok(Standing::Stuck(waits(a.waits))),
+            2 => Ok(Standing::Open),
+            _ => Err(refusal(a.one, a.two)),
         }
     }
 

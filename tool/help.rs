@@ -16,7 +16,7 @@ pub enum Code {
 pub struct Command {
     pub name: &'static str,
     pub code: Code,
-    /// The fewest and the most files behind the command.
+    /// The fewest and the most files after the command.
     pub files: (usize, usize),
     pub usage: &'static str,
     pub phrase: &'static str,
@@ -164,6 +164,13 @@ pub const COMMANDS: [Command; 15] = [
     },
 ];
 
+/// What is asked of the tool itself.
+pub const OTHERS: [(&str, &str); 3] = [
+    ("help [COMMAND]", "These words, or those of one command."),
+    ("version", "The versions of the tool and of the library."),
+    ("manual", "The manual page, from these words: channel_tool manual | man -l - shows it."),
+];
+
 pub fn command(name: &str) -> Option<&'static Command> {
     COMMANDS.iter().find(|c| c.name == name)
 }
@@ -181,10 +188,16 @@ fn channels(answer: &mut Answer) {
     }
 }
 
-const STATUS: &str = "\
-Exit status: 0 the answer is good (free, fit, sound, finished, open, written); 1 it is not (locked, stuck,
-not allowed, clash, gap); 2 refused, and standard error says why; 3 no answer: wrong words, or something could
-not be read or written.";
+pub const INPUT: &str =
+    "A sheet is a file, or `-` or nothing for standard input. With `-o FILE` the answer is written there, whole or not at all.";
+
+/// The exit status, by its number.
+pub const STATUS: [&str; 4] = [
+    "the answer is good: free, fit, sound, finished, open, written",
+    "it is not: locked, stuck, not allowed, clash, gap",
+    "refused, and standard error says why",
+    "no answer: wrong words, or something could not be read or written",
+];
 
 /// All commands, or the one that is named.
 pub fn say(name: Option<&str>) -> Option<Answer> {
@@ -197,17 +210,20 @@ pub fn say(name: Option<&str>) -> Option<Answer> {
         return Some(answer);
     }
     answer.line("usage: channel_tool COMMAND [CHANNEL] [FILES] [-o FILE]");
-    answer.line("A sheet is a file, or `-` or nothing for standard input. With `-o FILE` the answer is written there, whole or not at all.");
+    answer.line(INPUT);
     answer.line("");
     for c in &COMMANDS {
         one(&mut answer, c);
     }
-    answer.line("channel_tool help [COMMAND]");
-    answer.line("channel_tool version");
+    for (usage, phrase) in OTHERS {
+        answer.line(&format!("channel_tool {}", usage));
+        answer.line(&format!("    {}", phrase));
+    }
     answer.line("");
     channels(&mut answer);
     answer.line("");
-    answer.line(STATUS);
+    answer.line("Exit status:");
+    STATUS.iter().enumerate().for_each(|(status, meaning)| answer.line(&format!("    {}  {}", status, meaning)));
     Some(answer)
 }
 

@@ -14,6 +14,16 @@ pub struct Source {
     pub bytes: Vec<u8>,
 }
 
+impl Source {
+    /// For what is judged line by line: a part of it could be taken for all of it.
+    pub fn is_whole(&self, what: &str) -> Result<(), Failure> {
+        if self.bytes.len() > MOST_BYTES {
+            return Err(Failure(format!("{}: over {} bytes, which no {} needs", self.name, MOST_BYTES, what)));
+        }
+        Ok(())
+    }
+}
+
 /// More than any sheet, table, trace or list needs: what is longer is not read further, and is refused as too long.
 pub const MOST_BYTES: usize = 1 << 20;
 pub const STANDARD_INPUT: &str = "standard input";
@@ -85,9 +95,7 @@ fn read_whole(from: &mut dyn Read) -> io::Result<Vec<u8>> {
 
 /// The event numbers of a list, with any white space between them.
 pub fn list(source: &Source) -> Result<Vec<u16>, Failure> {
-    if source.bytes.len() > MOST_BYTES {
-        return Err(Failure(format!("{}: over {} bytes, which no list needs", source.name, MOST_BYTES)));
-    }
+    source.is_whole("list")?;
     let mut events = Vec::new();
     for word in source.bytes.split(|b| b.is_ascii_whitespace()).filter(|w| !w.is_empty()) {
         let number = std::str::from_utf8(word).ok().filter(|w| w.bytes().all(|b| b.is_ascii_digit()));

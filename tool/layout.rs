@@ -30,7 +30,7 @@ pub struct Scene<'a> {
     pub course: &'a [usize],
     /// All events stand in their course, as done.
     pub free: bool,
-    /// A row behind the steps is kept for one that is not allowed.
+    /// A row after the steps is kept for one that is not allowed.
     pub not_allowed: bool,
 }
 
@@ -75,8 +75,8 @@ impl Layout {
             taken[usize::from(s.message)][usize::from(s.kind)] = Some(row);
         }
         let jams = scene.waits.iter().flatten().count();
-        let behind = scene.steps.len() + usize::from(scene.not_allowed);
-        let mut rows = if scene.free { 0 } else { behind + jams + 2 };
+        let after = scene.steps.len() + usize::from(scene.not_allowed);
+        let mut rows = if scene.free { 0 } else { after + jams + 2 };
         let mut later = vec![None; 2 * scene.messages.len()];
         for e in scene.course {
             if taken[e / 2][2 * (e % 2)].is_none() {
@@ -84,7 +84,7 @@ impl Layout {
                 rows += 1;
             }
         }
-        Layout { width: x.max(WIDTH_LEAST), head: HEADS_TOP + ROW_HEIGHT * jams, rows, jammed: behind + 1, columns, taken, later, jams }
+        Layout { width: x.max(WIDTH_LEAST), head: HEADS_TOP + ROW_HEIGHT * jams, rows, jammed: after + 1, columns, taken, later, jams }
     }
 
     /// The right side of what the page holds.

@@ -8,6 +8,7 @@ mod face;
 mod help;
 mod input;
 mod layout;
+mod manual;
 mod output;
 mod refusals;
 mod report;
@@ -59,25 +60,27 @@ fn split(all: Vec<OsString>) -> Result<Words, Failure> {
 
 fn say_help(words: &[OsString]) -> Result<Answer, Failure> {
     let name = words.first().map(|w| w.to_string_lossy().into_owned());
-    if words.len() > 1 {
-        return Err(wrong("surplus words behind `help`", None));
-    }
+    no_more(&words[words.len().min(1)..], "help")?;
     let none = || wrong(&format!("`{}` is no command", name.as_deref().unwrap_or("")), None);
     match name.as_deref() {
-        Some("help") | Some("version") => help::say(None).ok_or_else(none),
+        Some("help") | Some("version") | Some("manual") => help::say(None).ok_or_else(none),
         other => help::say(other).ok_or_else(none),
     }
 }
 
-fn say_version(words: &[OsString]) -> Result<Answer, Failure> {
-    if !words.is_empty() {
-        return Err(wrong("surplus words behind `version`", None));
+fn no_more(words: &[OsString], after: &str) -> Result<(), Failure> {
+    if words.is_empty() {
+        return Ok(());
     }
+    Err(wrong(&format!("surplus words after `{}`", after), None))
+}
+
+fn say_version() -> Answer {
     let library = face::version();
     let mut answer = Answer::new();
     answer.line(&format!("channel_tool {}", VERSION.trim()));
     answer.line(&format!("library {}.{}.{}", library / 10_000, library / 100 % 100, library % 100));
-    Ok(answer)
+    answer
 }
 
 /// The channel, where the words have one: a command that may have none takes the first word for it if it names a channel.
@@ -121,7 +124,8 @@ fn answer(all: &Words) -> Result<Answer, Failure> {
     };
     match first.as_str() {
         "help" => say_help(&rest),
-        "version" => say_version(&rest),
+        "version" => no_more(&rest, "version").map(|()| say_version()),
+        "manual" => no_more(&rest, "manual").map(|()| manual::say(VERSION.trim())),
         name => match help::command(name) {
             Some(c) => call(c, rest, all),
             None => Err(wrong(&format!("`{}` is no command", name), None)),

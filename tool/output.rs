@@ -81,7 +81,7 @@ fn write_file(name: &OsString, bytes: &[u8]) -> io::Result<()> {
             return OpenOptions::new().write(true).open(name)?.write_all(bytes);
         }
     }
-    // a link stays a link: the file behind it is the one that is renamed over
+    // a link stays a link: the file that it names is the one that is replaced
     let target = fs::canonicalize(name).unwrap_or_else(|_| PathBuf::from(name));
     let beside = beside(&target)?;
     let written = write_new(&beside, bytes, known.as_ref()).and_then(|()| fs::rename(&beside, &target));

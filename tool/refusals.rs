@@ -2,22 +2,43 @@
 //! The cause is looked for in the line that the library named; what the line does not show is left at the library's word.
 
 use crate::face::{self, Refusal, Senders};
-use crate::input::shown;
+use crate::input::{shown, MOST_BYTES};
 use crate::rows::{self, Row};
 use crate::words;
 
-const NUMBER_MOST: usize = 511;
+/// The refusals by their numbers, as the paper and the requests count them.
+pub const CHANNEL: u32 = 1;
+const LENGTH: u32 = 3;
+const HEADING: u32 = 4;
+const ROW: u32 = 5;
+const PLACE: u32 = 6;
+const ABSENT: u32 = 7;
+const DEPTH: u32 = 8;
+const CALLS: u32 = 9;
+const MESSAGES: u32 = 10;
+const CIRCLE: u32 = 11;
+pub const TRACE: u32 = 12;
+const CHOICES: u32 = 13;
+pub const SWITCH: u32 = 14;
+const ROWS: u32 = 15;
+const JOBS: u32 = 16;
+pub const TABLE: u32 = 18;
+const FORBIDDEN: u32 = 19;
+const TAP: u32 = 20;
+
+const NUMBER_MOST: usize = face::EVENTS - 1;
 const SET_MOST: usize = 65_535;
 const ROWS_MOST: usize = 512;
 const RULES_MOST: usize = 64;
 const SHEET_MOST: usize = 31;
 const LEVEL_MOST: usize = 8;
+const CALLS_MOST: usize = 1024;
+const CHOICES_MOST: usize = 8;
 
 /// What was handed to the library besides the sheet, as far as a refusal may be about it.
 #[derive(Clone, Copy, Default)]
 pub struct Handed<'a> {
     pub code: u32,
-    pub table: &'a [u8],
     pub trace: usize,
     pub lists: [&'a [u16]; 2],
     pub choices: bool,
@@ -26,27 +47,26 @@ pub struct Handed<'a> {
 /// The refusal of a sheet, as one line.
 pub fn of_sheet(r: Refusal, text: &[u8], handed: &Handed) -> String {
     let cause = match r.number {
-        1 => Some(format!("no channel has the code {}: they are 0 to {}", handed.code, face::CHANNELS - 1)),
-        3 => Some(length_cause(text.len())),
-        4 => heading_cause(text, "kind, one and two", rows::order(first_line(text)).is_some()),
-        5 => row_cause(text, r.line as usize, handed.choices),
-        6 => place_cause(text, r.line as usize),
-        7 => Some(absent_cause(text, r.line as usize)),
-        8 => depth_cause(text, r.line as usize),
-        9 => Some("the walk makes call 1,025 here, and may make 1,024".to_string()),
-        10 => Some(format!("the walk meets message {} here, and may meet {}", face::MESSAGES + 1, face::MESSAGES)),
-        11 => circle_cause(text, r.line as usize),
-        12 => Some(trace_cause(handed.trace)),
-        13 => Some("the walk meets its ninth A row here, and may meet eight".to_string()),
-        15 => Some(rows_cause(text)),
-        16 => Some(format!("{} jobs are held already", face::PLACES)),
-        18 => return of_table(r, handed.table),
-        19 => forbidden_cause(text, r.line as usize),
-        20 => tap_cause(text, handed.lists, r.line as usize),
+        CHANNEL => Some(format!("no channel has the code {}: they are 0 to {}", handed.code, face::CHANNELS - 1)),
+        LENGTH => Some(length_cause(text.len())),
+        HEADING => heading_cause(text, "kind, one and two", rows::order(first_line(text)).is_some()),
+        ROW => row_cause(text, r.line as usize, handed.choices),
+        PLACE => place_cause(text, r.line as usize),
+        ABSENT => Some(absent_cause(text, r.line as usize)),
+        DEPTH => depth_cause(text, r.line as usize),
+        CALLS => Some(format!("the walk makes call {} here, and may make {}", CALLS_MOST + 1, CALLS_MOST)),
+        MESSAGES => Some(format!("the walk meets message {} here, and may meet {}", face::MESSAGES + 1, face::MESSAGES)),
+        CIRCLE => circle_cause(text, r.line as usize),
+        TRACE => Some(trace_cause(handed.trace)),
+        CHOICES => Some(format!("the walk meets A row {} here, and may meet {}", CHOICES_MOST + 1, CHOICES_MOST)),
+        ROWS => Some(rows_cause(text)),
+        JOBS => Some(format!("{} jobs are held already", face::PLACES)),
+        FORBIDDEN => forbidden_cause(text, r.line as usize),
+        TAP => tap_cause(text, handed.lists, r.line as usize),
         _ => None,
     };
-    // the line of 20 is the number of a list, and no line of the sheet
-    let line = if r.number == 20 { 0 } else { r.line as usize };
+    // the line of this one is the number of a list, and no line of the sheet
+    let line = if r.number == TAP { 0 } else { r.line as usize };
     sentence(r, line, text, cause)
 }
 
@@ -91,9 +111,14 @@ fn sentence(r: Refusal, line: usize, text: &[u8], cause: Option<String>) -> Stri
 fn length_cause(length: usize) -> String {
     match length {
         0 => "there is nothing in it".to_string(),
-        n if n > crate::input::MOST_BYTES => format!("it has over {} bytes, and may have {}", crate::input::MOST_BYTES, face::TEXT_BYTES),
-        n => format!("it has {} bytes, and may have {}", n, face::TEXT_BYTES),
+        n => length_words("it", n, face::TEXT_BYTES),
     }
+}
+
+/// A length that is over its most. What is longer than any input may be was not read to its end.
+fn length_words(what: &str, length: usize, most: usize) -> String {
+    let (over, told) = if length > MOST_BYTES { ("over ", MOST_BYTES) } else { ("", length) };
+    format!("{} has {}{} bytes, and may have {}", what, over, told, most)
 }
 
 fn first_line(text: &[u8]) -> &[u8] {
@@ -165,18 +190,27 @@ fn number_cause(field: &[u8], most: usize) -> Option<String> {
     }
 }
 
+/// The three fields of a line, or why it has them not.
+fn three_fields<'a>(text: &'a [u8], line: usize, what: &str) -> Result<Vec<&'a [u8]>, String> {
+    let (words, ended) = line_of(text, line);
+    if let Some(cause) = spacing_cause(words, ended) {
+        return Err(cause);
+    }
+    let fields: Vec<&[u8]> = words.split(|b| *b == b' ').collect();
+    if fields.len() != 3 {
+        return Err(format!("it has {}, and a {} has three", words::count(fields.len(), "field"), what));
+    }
+    Ok(fields)
+}
+
 fn row_cause(text: &[u8], line: usize, choices: bool) -> Option<String> {
     if line > ROWS_MOST + 1 {
         return Some(format!("it is row {}, and a sheet file has at most {}", line - 1, ROWS_MOST));
     }
-    let (words, ended) = line_of(text, line);
-    if let Some(c) = spacing_cause(words, ended) {
-        return Some(c);
-    }
-    let fields: Vec<&[u8]> = words.split(|b| *b == b' ').collect();
-    if fields.len() != 3 {
-        return Some(format!("it has {}, and a row has three", words::count(fields.len(), "field")));
-    }
+    let fields = match three_fields(text, line, "row") {
+        Ok(fields) => fields,
+        Err(cause) => return Some(cause),
+    };
     let order = rows::order(first_line(text))?;
     letter_cause(fields[order[0]], choices)
         .or_else(|| number_cause(fields[order[1]], NUMBER_MOST))
@@ -318,7 +352,7 @@ fn rows_cause(text: &[u8]) -> String {
 
 fn trace_cause(length: usize) -> String {
     if length > face::TRACE_BYTES {
-        return format!("the trace has {} bytes, and may have {}", length, face::TRACE_BYTES);
+        return length_words("the trace", length, face::TRACE_BYTES);
     }
     format!("the trace has {}, and a step has two", words::count(length, "byte"))
 }
@@ -330,15 +364,17 @@ fn forbidden_cause(text: &[u8], line: usize) -> Option<String> {
 }
 
 fn tap_cause(text: &[u8], lists: [&[u16]; 2], which: usize) -> Option<String> {
-    let list = lists.get(which.checked_sub(1)?)?;
+    let at = which.checked_sub(1)?;
+    let (list, name) = (lists.get(at)?, ["first", "second"].get(at)?);
     let events = 2 * face::messages(text).ok()?.len();
     for (i, e) in list.iter().enumerate() {
         if usize::from(*e) >= events {
-            let name = ["first", "second"][which - 1];
-            return Some(format!("the {} list has event {}, and the sheet has {} only", name, e, words::count(events, "event")));
+            // what is too large for a list was read as the largest number of one
+            let over = if *e == u16::MAX { " or more" } else { "" };
+            return Some(format!("the {} list has event {}{}, and the sheet has {} only", name, e, over, words::count(events, "event")));
         }
         if list[..i].contains(e) {
-            return Some(format!("the {} list has event {} twice", ["first", "second"][which - 1], e));
+            return Some(format!("the {} list has event {} twice", name, e));
         }
     }
     None
@@ -348,14 +384,10 @@ fn rule_cause(table: &[u8], line: usize) -> Option<String> {
     if line > RULES_MOST + 1 {
         return Some(format!("it is rule {}, and a table has at most {}", line - 1, RULES_MOST));
     }
-    let (words, ended) = line_of(table, line);
-    if let Some(c) = spacing_cause(words, ended) {
-        return Some(c);
-    }
-    let fields: Vec<&[u8]> = words.split(|b| *b == b' ').collect();
-    if fields.len() != 3 {
-        return Some(format!("it has {}, and a rule has three", words::count(fields.len(), "field")));
-    }
+    let fields = match three_fields(table, line, "rule") {
+        Ok(fields) => fields,
+        Err(cause) => return Some(cause),
+    };
     number_cause(fields[0], SET_MOST).or_else(|| number_cause(fields[1], SET_MOST)).or_else(|| match fields[2] {
         b"0" | b"1" => None,
         other => Some(format!("`{}` is no verdict: 1 is permitted and 0 is not", shown(other))),

@@ -72,7 +72,7 @@ fn page_of_choices(sheet: &Source) -> Result<Result<String, Refusal>, Failure> {
     };
     let c = match chosen::sheet(&sheet.bytes, second) {
         Some(c) => c,
-        None => return Err(Failure(format!("{}: no page: one A row takes both of its sheets, and the walk does not fit one sheet file", sheet.name))),
+        None => return Err(Failure(format!("{}: no page: {}", sheet.name, chosen::NO_SHEET))),
     };
     let mut locks = Vec::new();
     for code in 0..face::CHANNELS {
@@ -184,7 +184,7 @@ impl Page<'_> {
                 None => continue,
             };
             self.put(&format!("<h3>{}</h3>", escaped(&words::channel(code))));
-            if let Standing::Stuck(waits) = face::replay(self.text, code, &commands::trace_bytes(&lock.steps)) {
+            if let Ok(Standing::Stuck(waits)) = face::replay(self.text, code, &commands::trace_bytes(&lock.steps)) {
                 let sentences = self.named.stuck(&waits, &self.named.held(&lock.steps));
                 self.list(&sentences);
             }

@@ -51,7 +51,7 @@ pub fn rows(text: &[u8], last: usize) -> Vec<Row> {
     all.iter().enumerate().take(last).skip(1).filter_map(|(i, l)| row(order, i + 1, l)).collect()
 }
 
-/// The rows of a sheet, behind its S row.
+/// The rows of a sheet, after its S row.
 pub fn sheet(rows: &[Row], number: usize) -> &[Row] {
     let start = rows.iter().position(|r| r.kind == b'S' && r.one == number).map_or(rows.len(), |s| s + 1);
     let length = rows[start..].iter().position(|r| r.kind == b'S').unwrap_or(rows.len() - start);
@@ -70,14 +70,14 @@ pub enum Met {
 pub fn walk(rows: &[Row], second: u32) -> Vec<Met> {
     let (mut met, mut open, mut options) = (Vec::new(), vec![sheet(rows, 0)], 0u32);
     while let Some(rest) = open.pop() {
-        let (row, behind) = match rest.split_first() {
-            Some((r, b)) => (*r, b),
+        let (row, after) = match rest.split_first() {
+            Some((r, rest)) => (*r, rest),
             None => {
                 met.push(Met::BlockEnd);
                 continue;
             }
         };
-        open.push(behind);
+        open.push(after);
         match row.kind {
             b'A' => {
                 let taken = if second >> (options % 32) & 1 == 1 { row.two } else { row.one };

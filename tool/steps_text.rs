@@ -29,6 +29,8 @@ pub fn line(bytes: &[u8]) -> Line {
         [code, answer, _, _, _] if words::channel_code(code).is_some() && ANSWERS.contains(&answer) => Line::Remark,
         [word, number] if word.eq_ignore_ascii_case("switch") => words::channel_code(number).map_or(Line::Unknown, Line::Switch),
         [word, number] => step(word, number),
+        // as `steps` has it, with the message's boards and line
+        [word, number, place, ..] if place.starts_with('(') => step(word, number),
         _ => Line::Unknown,
     }
 }

@@ -102,6 +102,16 @@ impl Named {
         format!("message {} ({})", m, self.place(m))
     }
 
+    /// `send 4 (board 1 to board 0, line 7)`
+    pub fn step(&self, s: Step) -> String {
+        format!("{} ({})", step(s), self.place(usize::from(s.message)))
+    }
+
+    /// `message 1 (..), message 4 (..)`
+    pub fn several(&self, messages: &[usize]) -> String {
+        messages.iter().map(|m| self.message(*m)).collect::<Vec<_>>().join(", ")
+    }
+
     /// `event 1 (receive of message 0, board 0 to board 1, line 3)`
     pub fn event(&self, e: usize) -> String {
         format!("event {} ({}, {})", e, deed(e), self.place(e / 2))
@@ -126,7 +136,7 @@ impl Named {
         format!("{} before {}", self.event(r.event), self.event(2 * r.message + 1))
     }
 
-    /// The messages that each board's buffer holds behind steps that are allowed.
+    /// The messages that each board's buffer holds after steps that are allowed.
     pub fn held(&self, steps: &[Step]) -> Vec<Vec<usize>> {
         let mut held = vec![Vec::new(); crate::face::BOARDS];
         for s in steps {

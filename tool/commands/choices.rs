@@ -1,8 +1,8 @@
 //! `choices`: the answer over all choice lists of a file with A rows.
 
-use super::{refuse, say_steps, Call};
+use super::{refuse, say_lock, Call};
 use crate::chosen;
-use crate::face::{self, Choices, Standing};
+use crate::face::{self, Choices};
 use crate::input::Failure;
 use crate::output::{Answer, Status};
 use crate::refusals::Handed;
@@ -21,14 +21,12 @@ pub fn run(call: &mut Call) -> Result<Answer, Failure> {
             answer.worsen(Status::Bad);
             answer.line(&format!("{} {}", code, words::locked(&lock)));
             chosen::options(&sheet.bytes, length, second).iter().for_each(|o| answer.line(o));
-            say_steps(&mut answer, &lock.steps);
             match chosen::sheet(&sheet.bytes, second) {
-                Some(c) => {
-                    if let Standing::Stuck(waits) = face::replay(&c.text, code, &super::trace_bytes(&lock.steps)) {
-                        c.named.stuck(&waits, &c.named.held(&lock.steps)).iter().for_each(|l| answer.line(l));
-                    }
+                Some(c) => say_lock(&mut answer, &c.text, code, &lock, &c.named),
+                None => {
+                    lock.steps.iter().for_each(|s| answer.line(&words::step(*s)));
+                    answer.note(&format!("what the boards wait for is not told: {}", chosen::NO_SHEET));
                 }
-                None => answer.note("what the boards wait for is not told: one A row takes both of its sheets, and the walk does not fit one sheet file"),
             }
         }
     }

@@ -1,9 +1,9 @@
 //! `dispatch`: several jobs, a turn at a time, with the turn and the answer of each.
 
-use super::{named, refuse, say_steps, say_stuck, Call};
+use super::{named, refuse, say_lock, Call};
 use crate::face::{Dispatch, Turn, Verdict};
 use crate::input::{Failure, Source};
-use crate::output::{Answer, Status};
+use crate::output::Answer;
 use crate::refusals::Handed;
 use crate::words;
 use std::collections::BTreeMap;
@@ -71,9 +71,7 @@ fn say_answer(answer: &mut Answer, turn: u32, number: u32, job: &Job, verdict: &
     };
     answer.line(&format!("turn {}: job {} answered: {}", turn, number, told));
     if let Verdict::Locked(lock) = verdict {
-        answer.worsen(Status::Bad);
-        say_steps(answer, &lock.steps);
-        say_stuck(answer, &job.sheet.bytes, job.code, lock, &named(&job.sheet.bytes)?);
+        say_lock(answer, &job.sheet.bytes, job.code, lock, &named(&job.sheet.bytes)?);
     }
     Ok(())
 }

@@ -14,14 +14,14 @@ pub mod taps;
 pub mod trace;
 pub mod watch;
 
-use crate::face::{self, Lock, Refusal, Standing, Step};
+use crate::face::{self, Lock, Refusal, Standing, Step, Verdict};
 use crate::input::{Failure, Inputs, Source};
 use crate::output::{Answer, Status};
 use crate::refusals::{self, Handed};
 use crate::words::{self, Named};
 use std::ffi::OsString;
 
-/// The words behind a command: the channel, if it takes one, the files, and its options.
+/// The words after a command: the channel, if it takes one, the files, and its options.
 pub struct Call {
     pub code: Option<u32>,
     pub files: Vec<OsString>,
@@ -57,6 +57,12 @@ pub fn refuse(answer: &mut Answer, sheet: &Source, r: Refusal, handed: &Handed) 
     answer.worsen(Status::Refused);
 }
 
+/// Tells a refusal of a table of permitted senders.
+pub fn refuse_table(answer: &mut Answer, table: &Source, r: Refusal) {
+    answer.note(&format!("{}: {}", table.name, refusals::of_table(r, &table.bytes)));
+    answer.worsen(Status::Refused);
+}
+
 /// The messages of a sheet that a call accepted.
 pub fn named(text: &[u8]) -> Result<Named, Failure> {
     match face::messages(text) {
@@ -69,17 +75,24 @@ pub fn trace_bytes(steps: &[Step]) -> Vec<u8> {
     steps.iter().flat_map(|s| [s.kind, s.message]).collect()
 }
 
-pub fn say_steps(answer: &mut Answer, steps: &[Step]) {
-    for s in steps {
-        answer.line(&words::step(*s));
+/// The steps of a lock, and what each board then waits for.
+pub fn say_lock(answer: &mut Answer, text: &[u8], code: u32, lock: &Lock, named: &Named) {
+    answer.worsen(Status::Bad);
+    lock.steps.iter().for_each(|s| answer.line(&named.step(*s)));
+    if let Ok(Standing::Stuck(waits)) = face::replay(text, code, &trace_bytes(&lock.steps)) {
+        named.stuck(&waits, &named.held(&lock.steps)).iter().for_each(|l| answer.line(l));
     }
 }
 
-/// The sentences of the boards that wait behind the steps of a lock.
-pub fn say_stuck(answer: &mut Answer, text: &[u8], code: u32, lock: &Lock, named: &Named) {
-    if let Standing::Stuck(waits) = face::replay(text, code, &trace_bytes(&lock.steps)) {
-        for line in named.stuck(&waits, &named.held(&lock.steps)) {
-            answer.line(&line);
+/// The answer of a check on a channel: its line as the paper prints it and, where it is locked, the steps. A refusal is handed back.
+pub fn say_verdict(answer: &mut Answer, text: &[u8], code: u32, verdict: &Verdict) -> Result<Option<Refusal>, Failure> {
+    answer.line(&words::paper_line(code, verdict));
+    match verdict {
+        Verdict::Free => Ok(None),
+        Verdict::Locked(lock) => {
+            say_lock(answer, text, code, lock, &named(text)?);
+            Ok(None)
         }
+        Verdict::Refused(r) => Ok(Some(*r)),
     }
 }

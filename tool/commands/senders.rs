@@ -1,6 +1,6 @@
 //! `senders`: whether a table of permitted senders is sound.
 
-use super::Call;
+use super::{refuse_table, Call};
 use crate::face::{self, Senders};
 use crate::input::Failure;
 use crate::output::{Answer, Status};
@@ -11,10 +11,7 @@ pub fn run(call: &mut Call) -> Result<Answer, Failure> {
     let mut answer = Answer::new();
     let judged = face::senders(&table.bytes);
     match judged {
-        Senders::Refused(r) => {
-            answer.note(&format!("{}: {}", table.name, refusals::of_table(r, &table.bytes)));
-            answer.worsen(Status::Refused);
-        }
+        Senders::Refused(r) => refuse_table(&mut answer, &table, r),
         Senders::Sound => answer.line("sound"),
         Senders::Gap(_) | Senders::Clash { .. } => {
             answer.line(&refusals::judgement(&judged));

@@ -5,7 +5,6 @@ use crate::face::{self, Taps};
 use crate::input::{list, Failure};
 use crate::output::{Answer, Status};
 use crate::refusals::Handed;
-use crate::words;
 
 pub fn run(call: &mut Call) -> Result<Answer, Failure> {
     let (first, second) = (call.file(0, "first list")?, call.file(1, "second list")?);
@@ -16,12 +15,11 @@ pub fn run(call: &mut Call) -> Result<Answer, Failure> {
         Taps::Fit(course) => {
             let named = named(&sheet.bytes)?;
             answer.line("fit");
-            course.iter().for_each(|e| answer.line(&format!("event {}: {} on board {}", e, words::deed(*e), named.board(*e))));
+            course.iter().for_each(|e| answer.line(&named.event(*e)));
         }
         Taps::Clash(e) => {
             let named = named(&sheet.bytes)?;
-            answer.line(&format!("clash: {} would have to precede itself", words::event(e)));
-            answer.line(&named.message(e / 2));
+            answer.line(&format!("clash: {} would have to precede itself", named.event(e)));
             answer.worsen(Status::Bad);
         }
         Taps::Refused(r) => refuse(&mut answer, &sheet, r, &Handed { lists: [&first, &second], ..Handed::default() }),

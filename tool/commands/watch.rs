@@ -5,7 +5,7 @@ use super::{named, refuse, Call};
 use crate::face::{self, Monitor, Refusal, Standing, Taken};
 use crate::input::{failure, Failure, Source, STANDARD_INPUT};
 use crate::output::{self, Answer, Status};
-use crate::refusals::Handed;
+use crate::refusals::{Handed, CHANNEL, SWITCH};
 use crate::run::{self, Run};
 use crate::steps_text::{self, Line};
 use crate::words::{self, Named};
@@ -46,16 +46,17 @@ pub fn run(call: &mut Call) -> Result<Answer, Failure> {
 
 impl Watch {
     fn feed_file(&mut self, source: &Source) -> Result<(), Failure> {
+        source.is_whole("trace")?;
         if steps_text::is_text(&source.bytes) {
             source.bytes.split(|b| *b == b'\n').for_each(|l| self.take_line(l));
             return Ok(());
         }
-        let (bytes, told) = trace(source)?;
-        if bytes.len() % 2 == 1 {
-            return Err(Failure(format!("{}: {} bytes, and a step has two", source.name, bytes.len())));
+        let trace = trace(source)?;
+        if trace.bytes.len() % 2 == 1 {
+            return Err(Failure(format!("{}: {} bytes, and a step has two", source.name, trace.bytes.len())));
         }
-        for (b, echo) in bytes.chunks_exact(2).zip(&told) {
-            self.step(u32::from(b[0]), u32::from(b[1]), echo);
+        for (s, echo) in trace.steps().iter().zip(&trace.told) {
+            self.step(u32::from(s.kind), u32::from(s.message), echo);
         }
         Ok(())
     }
@@ -133,11 +134,11 @@ impl Watch {
                 self.say_state();
             }
             Taken::Forbidden => self.answer.line(&format!("{}: forbidden", echo)),
-            Taken::Refused(r) if r.number == 14 => {
+            Taken::Refused(r) if r.number == SWITCH => {
                 self.answer.line(&format!("{}: {}: {}", echo, words::refusal(r), self.why_no_switch()));
                 self.answer.worsen(Status::Refused);
             }
-            Taken::Refused(r) if r.number == 1 => {
+            Taken::Refused(r) if r.number == CHANNEL => {
                 self.answer.line(&format!("{}: {}: no channel has the code {}", echo, words::refusal(r), code));
                 self.answer.worsen(Status::Refused);
             }
@@ -154,45 +155,44 @@ impl Watch {
     fn why_no_switch(&self) -> String {
         let full = (0..face::BOARDS).map(|b| (b, self.state.held(b))).find(|(_, held)| held.len() > 1);
         match full {
-            Some((board, held)) => format!("board {} holds messages {}", board, numbers(&held)),
-            None => format!("messages {} are under way", numbers(&self.state.under_way())),
+            Some((board, held)) => format!("board {} holds {}", board, self.named.several(&held)),
+            None => format!("under way: {}", self.named.several(&self.state.under_way())),
         }
     }
 
     fn say_state(&mut self) {
         let way = self.state.under_way();
-        let mut words = format!("channel {}; under way: {}", self.state.code(), if way.is_empty() { "none".to_string() } else { numbers(&way) });
+        let way = if way.is_empty() { "none".to_string() } else { self.named.several(&way) };
+        let mut words = format!("channel {}; under way: {}", self.state.code(), way);
         for board in 0..face::BOARDS {
             let held = self.state.held(board);
             if !held.is_empty() {
-                words.push_str(&format!("; board {} holds {}", board, numbers(&held)));
+                words.push_str(&format!("; board {} holds {}", board, self.named.several(&held)));
             }
         }
         self.answer.line(&words);
         match self.state.standing(&self.sheet.bytes) {
-            Standing::Finished => self.answer.line("finished"),
-            Standing::Stuck(waits) => {
+            Ok(Standing::Finished) => self.answer.line("finished"),
+            Ok(Standing::Stuck(waits)) => {
                 let held: Vec<Vec<usize>> = (0..face::BOARDS).map(|b| self.state.held(b)).collect();
                 self.answer.line("stuck");
                 self.named.stuck(&waits, &held).iter().for_each(|l| self.answer.line(l));
             }
-            _ => {}
+            Ok(_) => {}
+            Err(r) => self.refused("where the run stands", r),
         }
     }
 
     /// How the run ended, for the exit status.
     fn end(&mut self) {
         match self.state.standing(&self.sheet.bytes) {
-            Standing::Finished => self.answer.line("ended finished"),
-            Standing::Stuck(_) => {
+            Ok(Standing::Finished) => self.answer.line("ended finished"),
+            Ok(Standing::Stuck(_)) => {
                 self.answer.line("ended stuck");
                 self.answer.worsen(Status::Bad);
             }
-            _ => self.answer.line("ended open"),
+            Ok(_) => self.answer.line("ended open"),
+            Err(r) => self.refused("where the run ended", r),
         }
     }
-}
-
-fn numbers(list: &[usize]) -> String {
-    list.iter().map(|m| m.to_string()).collect::<Vec<_>>().join(" ")
 }

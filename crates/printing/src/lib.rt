@@ -1,5 +1,6 @@
 // Printing words, numbers and the steps of a trace, for the programs over the check. Where a function answers, it says whether the system took
 // all that was to be printed.
+use answer_words::kinds;
 use libc::STDOUT_FILENO;
 
 pub fn print(text: &[u8]) -> bool {
@@ -21,11 +22,11 @@ pub fn conclude(printed: bool) {
     }
 }
 
-// A step of the trace, for a technician: 0 send, 1 deliver, 2 consume.
+// A step of the trace, for a technician.
 fn print_step(kind: u8, message: u8) {
-    if kind == 0 {
+    if kind == kinds::SEND {
         print(b"send ");
-    } else if kind == 1 {
+    } else if kind == kinds::DELIVER {
         print(b"deliver ");
     } else {
         print(b"consume ");
@@ -36,7 +37,7 @@ fn print_step(kind: u8, message: u8) {
 
 // The step that two bytes tell, or that they tell none.
 pub fn print_told(kind: u8, message: u8) {
-    if kind < 3 {
+    if kind <= kinds::CONSUME {
         print_step(kind, message);
     } else {
         print(b"no step has the code ");

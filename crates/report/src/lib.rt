@@ -1,4 +1,6 @@
 // An answer of the check in words and numbers, for the programs over it.
+use answer_words::checked::FREE;
+use answer_words::checked::LOCKED;
 use answers::ChannelCheckAnswer;
 
 fn print_behind_space(number: u32) -> bool {
@@ -6,9 +8,9 @@ fn print_behind_space(number: u32) -> bool {
 }
 
 fn print_word(word: u32) -> bool {
-    if word == 0 {
+    if word == FREE {
         printing::print(b"free")
-    } else if word == 1 {
+    } else if word == LOCKED {
         printing::print(b"locked")
     } else {
         printing::print(b"refused")

@@ -7,10 +7,10 @@ ghost use Rattle.model.specs.Limits.{channels, messagesMost, textMost, jobsMost
 ghost use Rattle.queue.specs.Bridge.{queueIn, freePlaceIn};
 ghost use Rattle.taken_places.specs.Places.{SparePlace};
 ghost use Rattle.admission.specs.Admission.{refusedBy, FullOf, HoldsNew, ReadsIn, AdmitIn};
+use answer_words::served::ADMITTED;
+use answer_words::served::REFUSED;
 use expansion::Expanded;
-use held_jobs::ADMITTED;
 use held_jobs::Boards;
-use held_jobs::REFUSED;
 use queue::Job;
 use queue::Queue;
 use share::Race;

@@ -2,6 +2,9 @@
 ghost use mathlib.Core.Path.{_≡_};
 ghost use Rattle.verdict.specs.Parts.{numbersFor};
 ghost use Rattle.answers.specs.Numbers.{Small, numbersIn};
+use answer_words::checked::FREE;
+use answer_words::checked::LOCKED;
+use answer_words::checked::REFUSED;
 use verdict::Answer;
 
 // word 0 free, 1 locked (one is the message, two the event, three the number of steps), 2 refused (one is the number, two the line).
@@ -20,14 +23,14 @@ pub fn checked(answer: Answer) -> ChannelCheckAnswer
 {
     match answer {
         Answer::Free => ChannelCheckAnswer {
-            word: 0,
+            word: FREE,
             one: 0,
             two: 0,
             three: 0,
         },
         Answer::Locked(message, event, steps) => {
             ChannelCheckAnswer {
-                word: 1,
+                word: LOCKED,
                 one: message as u32,
                 two: event as u32,
                 three: steps as u32,
@@ -35,7 +38,7 @@ pub fn checked(answer: Answer) -> ChannelCheckAnswer
         }
         Answer::Refused(number, line) => {
             ChannelCheckAnswer {
-                word: 2,
+                word: REFUSED,
                 one: number as u32,
                 two: line as u32,
                 three: 0,

@@ -2,6 +2,8 @@
 ghost use mathlib.Core.Path.{_≡_};
 ghost use Rattle.cure.specs.Parts.{numbersFor};
 ghost use Rattle.answers.specs.Cures.{Small, numbersIn};
+use answer_words::cured::REFUSED;
+use answer_words::cured::WRITTEN;
 use cure::Answer;
 
 // word 0 written (one is the text's length), 1 refused (one is the number, two the line).
@@ -19,12 +21,12 @@ pub fn cured(answer: Answer) -> CureSheetAnswer
 {
     match answer {
         Answer::Written(length) => CureSheetAnswer {
-            word: 0,
+            word: WRITTEN,
             one: length as u32,
             two: 0,
         },
         Answer::Refused(number, line) => CureSheetAnswer {
-            word: 1,
+            word: REFUSED,
             one: number as u32,
             two: line as u32,
         },

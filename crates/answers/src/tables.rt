@@ -3,6 +3,10 @@ ghost use mathlib.Core.Path.{_≡_};
 ghost use Rattle.senders.specs.Judgement.{numbersFor};
 ghost use Rattle.answers.specs.Numbers.{Small};
 ghost use Rattle.answers.specs.Tables.{numbersIn};
+use answer_words::judged::CLASH;
+use answer_words::judged::GAP;
+use answer_words::judged::REFUSED;
+use answer_words::judged::SOUND;
 use senders::Judgement;
 
 // word 0 sound, 1 gap (one is the pair), 2 clash (one is the pair, two and three the lines of its first two rules), 3 refused (one is the
@@ -22,20 +26,20 @@ pub fn judged(judgement: Judgement) -> SendersCheckAnswer
 {
     match judgement {
         Judgement::Sound => SendersCheckAnswer {
-            word: 0,
+            word: SOUND,
             one: 0,
             two: 0,
             three: 0,
         },
         Judgement::Gap(pair) => SendersCheckAnswer {
-            word: 1,
+            word: GAP,
             one: pair as u32,
             two: 0,
             three: 0,
         },
         Judgement::Clash(pair, first, second) => {
             SendersCheckAnswer {
-                word: 2,
+                word: CLASH,
                 one: pair as u32,
                 two: first as u32,
                 three: second as u32,
@@ -43,7 +47,7 @@ pub fn judged(judgement: Judgement) -> SendersCheckAnswer
         }
         Judgement::Refused(number, line) => {
             SendersCheckAnswer {
-                word: 3,
+                word: REFUSED,
                 one: number as u32,
                 two: line as u32,
                 three: 0,

@@ -2,6 +2,9 @@
 ghost use mathlib.Core.Path.{_≡_};
 ghost use Rattle.taps.specs.Parts.{numbersFor};
 ghost use Rattle.answers.specs.Tapped.{Small, numbersIn};
+use answer_words::fitted::CLASH;
+use answer_words::fitted::FIT;
+use answer_words::fitted::REFUSED;
 use taps::Answer;
 
 // word 0 fit (one is how many events are written), 1 clash (one is the event), 2 refused (one is the number, two the line).
@@ -19,17 +22,17 @@ pub fn fitted(answer: Answer) -> TapsCheckAnswer
 {
     match answer {
         Answer::Fit(events) => TapsCheckAnswer {
-            word: 0,
+            word: FIT,
             one: events as u32,
             two: 0,
         },
         Answer::Clash(event) => TapsCheckAnswer {
-            word: 1,
+            word: CLASH,
             one: event as u32,
             two: 0,
         },
         Answer::Refused(number, line) => TapsCheckAnswer {
-            word: 2,
+            word: REFUSED,
             one: number as u32,
             two: line as u32,
         },

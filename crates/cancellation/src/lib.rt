@@ -1,7 +1,7 @@
 // Cancelling a job at the counter: the job with the number leaves the queue, and the words of its place are cleared.
 ghost use Rattle.cancellation.specs.Cancelling.{LeavesIn};
-use held_jobs::CANCELLED;
-use held_jobs::REFUSED;
+use answer_words::served::CANCELLED;
+use answer_words::served::REFUSED;
 use queue::Queue;
 
 // What a cancellation leaves: its word and number, and the queue.

@@ -1,4 +1,6 @@
 // Reads a sheet from standard input and prints its answer on each of the six channels. Where the input cannot be read to its end, there is no answer.
+use answer_words::checked::FREE;
+use answer_words::checked::LOCKED;
 use answers::ChannelCheckAnswer;
 use input::Input;
 
@@ -10,9 +12,9 @@ fn print_after_space(number: u32) -> bool {
 }
 
 fn print_word(word: u32) -> bool {
-    if word == 0 {
+    if word == FREE {
         printing::print(b"free")
-    } else if word == 1 {
+    } else if word == LOCKED {
         printing::print(b"locked")
     } else {
         printing::print(b"refused")

@@ -6,6 +6,9 @@ ghost use Rattle.model.specs.Limits.{choicesMost};
 ghost use Rattle.model.specs.Choice.{choicesNumber};
 ghost use Rattle.levels.specs.Options.{optionsOf};
 ghost use Rattle.choice_answer.specs.Bridge.{numbersFor, numbersIn, Small};
+use answer_words::checked::FREE;
+use answer_words::checked::LOCKED;
+use answer_words::checked::REFUSED;
 
 // Free; locked, with the race's message and event, the number of steps in the trace, and the first locked list's length and number; or
 // refused, with number and line.
@@ -34,7 +37,7 @@ pub fn numbers(answer: Choice) -> ChoiceCheckAnswer
 {
     match answer {
         Choice::Free => ChoiceCheckAnswer {
-            word: 0,
+            word: FREE,
             one: 0,
             two: 0,
             three: 0,
@@ -43,7 +46,7 @@ pub fn numbers(answer: Choice) -> ChoiceCheckAnswer
         },
         Choice::Locked(message, event, steps, met, number) => {
             ChoiceCheckAnswer {
-                word: 1,
+                word: LOCKED,
                 one: message as u32,
                 two: event as u32,
                 three: steps as u32,
@@ -53,7 +56,7 @@ pub fn numbers(answer: Choice) -> ChoiceCheckAnswer
         }
         Choice::Refused(number, line) => {
             ChoiceCheckAnswer {
-                word: 2,
+                word: REFUSED,
                 one: number as u32,
                 two: line as u32,
                 three: 0,

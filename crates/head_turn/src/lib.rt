@@ -10,10 +10,10 @@ ghost use Rattle.queue.specs.Bridge.{jobIn, queueIn, Counted, headOf, FirstPlac
 ghost use Rattle.taken_places.specs.Places.{TakenIn};
 ghost use Rattle.last_turn.specs.Answer.{zeros};
 ghost use Rattle.head_turn.specs.Serving.{TakesTurn, TurnIn};
-use held_jobs::ANSWERED;
-use held_jobs::IDLE;
-use held_jobs::REFUSED;
-use held_jobs::TAKEN;
+use answer_words::served::ANSWERED;
+use answer_words::served::IDLE;
+use answer_words::served::REFUSED;
+use answer_words::served::TAKEN;
 use last_turn::Numbers;
 use queue::Head;
 use queue::Job;

@@ -5,6 +5,8 @@ ghost use lib.ListN.{length};
 ghost use Rattle.model.specs.Limits.{messagesMost, traceLeast};
 ghost use Rattle.relation.specs.Width.{width};
 ghost use Rattle.last_turn.specs.Answer.{allOnBoards, zeros, numbersIn, Concludes};
+use answer_words::checked::FREE;
+use answer_words::checked::LOCKED;
 use share::Race;
 
 // The check's answer as numbers: word 0 free; 1 locked, with the race's message and event and the number of steps.
@@ -22,7 +24,7 @@ impl Numbers {
         ensures { λ r. ⌜ r ≡ zeros ⌝ }
     {
         Numbers {
-            word: 0,
+            word: FREE,
             one: 0,
             two: 0,
             three: 0,
@@ -74,7 +76,7 @@ pub fn conclude(
     }
     let steps = verdict::withhold(words, boards, count, code, e, trace);
     Numbers {
-        word: 1,
+        word: LOCKED,
         one: race.message,
         two: race.event,
         three: steps as u32,

@@ -10,7 +10,7 @@ use lib.Seq.{length-take-le, take-at, getD-set-same, getD-set-other}
 use mir.Syntax.{w16, w64}
 use mir.Val.{Fits}
 use borrow.Author.Tests.{eqb-true, eqb-false}
-use Rattle.model.specs.Limits.{levels, callsMost}
+use Rattle.model.specs.Limits.{levels, callsMost, rowsMost}
 use Rattle.model.specs.Refusal.{Out, ok, refusal}
 use Rattle.model.specs.Rows.{Row}
 use Rattle.model.specs.Place.{lineOf}
@@ -211,11 +211,12 @@ module _ (kind one two : List ℕ) (count asked : ℕ) (given : List ℕ) where
         came-from : getD from (level - 1) 0 < count
         came-from = let n = inside in j .behind (level - 1) (omega arith)
 
-        pub back-next : Fits w64 (getD from (level - 1) 0 + 1)
-        back-next = omega (arith, came-from, lent-sheets .rows .few)
+        -- a few rows after the call; only `writing-back` says how many
+        pub back-next : (k : ℕ) → k ≤ rowsMost → Fits w64 (getD from (level - 1) 0 + k)
+        back-next k h = omega (arith, came-from, lent-sheets .rows .few)
 
-        pub back-less : rank count (level - 1) (getD from (level - 1) 0 + 1) calls < rank count level i calls
-        back-less = let n = inside in omega (arith, lent-sheets .rows .few)
+        pub back-less : (k : ℕ) → rank count (level - 1) (getD from (level - 1) 0 + k) calls < rank count level i calls
+        back-less k = let n = inside in omega (arith, lent-sheets .rows .few)
 
         looking-back : Looking from (level - 1) (getD from (level - 1) 0 + 1) calls met
         unfolding blockOpened lineOps
@@ -238,8 +239,9 @@ module _ (kind one two : List ℕ) (count asked : ℕ) (given : List ℕ) where
 
       -- any other row is there, and the walk goes on after it
       module _ (b : letter ≡ 83 → ⊥) where
-        pub row-line : Fits w64 (i + 2)
-        row-line = omega (arith, here b, lent-sheets .rows .few)
+        -- a few lines after the row's number; only `writing-message` says how many
+        pub row-line : (k : ℕ) → k ≤ rowsMost → Fits w64 (i + k)
+        row-line k h = omega (arith, here b, lent-sheets .rows .few)
 
         pub row-next : Fits w64 (i + 1)
         row-next = omega (arith, here b, lent-sheets .rows .few)
@@ -258,8 +260,8 @@ module _ (kind one two : List ℕ) (count asked : ℕ) (given : List ℕ) where
           kept-long : length (j .state .kept ++ (lineOf i ∷ [])) ≡ met + 1
           kept-long = length-append (j .state .kept) (lineOf i ∷ []) ∙ ap (λ (k : ℕ). k + 1) (j .lines)
 
-          pub line-narrow : Fits w16 (i + 2)
-          line-narrow = omega (arith, here b, lent-sheets .rows .few)
+          pub line-narrow : (k : ℕ) → k ≤ rowsMost → Fits w16 (i + k)
+          line-narrow k h = omega (arith, here b, lent-sheets .rows .few)
 
           -- a place for it
           pub line-room : asked ≤ length given → met < length now

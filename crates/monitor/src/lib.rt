@@ -10,6 +10,9 @@ ghost use Rattle.relation.specs.Scenario.{scenarioIn};
 ghost use Rattle.scenario.specs.Contract.{Fit};
 ghost use Rattle.step.specs.Steps.{stepOrNone};
 ghost use Rattle.monitor.specs.Bridge.{heldIn, monitorOf, zeros, answerIn, refusedAs, forbiddenAs, takenAs, Begins, Takes, Steps, Switches};
+use answer_words::monitored::FORBIDDEN;
+use answer_words::monitored::REFUSED;
+use answer_words::monitored::TAKEN;
 use expansion::Expanded;
 use relation::WIDTH;
 use run::Buffer;
@@ -39,7 +42,7 @@ fn refused(next: Monitor, number: u8, line: usize) -> MonitorAnswer
     ensures { λ r. ⌜ answerIn r ≡ refusedAs number line next ⌝ }
 {
     MonitorAnswer {
-        word: 2,
+        word: REFUSED,
         one: number as u32,
         two: line as u32,
         next,
@@ -51,7 +54,7 @@ fn forbidden(same: Monitor) -> MonitorAnswer
     ensures { λ r. ⌜ answerIn r ≡ forbiddenAs same ⌝ }
 {
     MonitorAnswer {
-        word: 1,
+        word: FORBIDDEN,
         one: 0,
         two: 0,
         next: same,
@@ -64,7 +67,7 @@ fn taken(run: Run, code: u32) -> MonitorAnswer
 {
     let next = Monitor { run, code };
     MonitorAnswer {
-        word: 0,
+        word: TAKEN,
         one: 0,
         two: 0,
         next,

@@ -11,6 +11,10 @@ ghost use Rattle.relation.specs.Scenario.{scenarioIn};
 ghost use Rattle.scenario.specs.Contract.{Fit};
 ghost use Rattle.monitor.specs.Bridge.{heldIn, monitorOf};
 ghost use Rattle.monitor_standing.specs.Bridge.{numbersIn, unwaitedAs, Tells};
+use answer_words::stood::FINISHED;
+use answer_words::stood::OPEN;
+use answer_words::stood::REFUSED;
+use answer_words::stood::STUCK;
 use expansion::Expanded;
 use monitor::Monitor;
 use standing::Stand;
@@ -31,7 +35,7 @@ fn refused(number: u8, line: usize) -> MonitorStandingAnswer
     ensures { λ r. ⌜ r ≡ unwaitedAs refusedWord number line ⌝ }
 {
     MonitorStandingAnswer {
-        word: 3,
+        word: REFUSED,
         one: number as u32,
         two: line as u32,
         waits: [model::NO_WAIT; model::BOARDS],
@@ -63,14 +67,14 @@ fn stand_in(state: Monitor, words: &[u64], boards: &[u8], count: usize) -> Monit
     let run = state.run;
     let stand = standing::stand_of(run, words, &masks, boards, count, c);
     match stand {
-        Stand::Finished => unwaited(0),
+        Stand::Finished => unwaited(FINISHED),
         Stand::Stuck => MonitorStandingAnswer {
-            word: 1,
+            word: STUCK,
             one: 0,
             two: 0,
             waits: waits::waits_of(run, words, &masks, boards, count),
         },
-        Stand::Open => unwaited(2),
+        Stand::Open => unwaited(OPEN),
     }
 }
 

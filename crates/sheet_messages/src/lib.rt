@@ -8,6 +8,8 @@ ghost use Rattle.model.specs.Place.{lineOf};
 ghost use Rattle.model.specs.Holdings.{MessagesListed};
 ghost use Rattle.relation.specs.Width.{width};
 ghost use Rattle.sheet_messages.specs.Listing.{numbersIn, listedAs, refusedAs, Told, Lists};
+use answer_words::listed::LISTED;
+use answer_words::listed::REFUSED;
 use expansion::Expanded;
 use model::EVENTS_MOST;
 use model::MESSAGES_MOST;
@@ -29,7 +31,7 @@ fn listed(count: usize) -> SheetMessagesAnswer
     ensures { λ r. ⌜ numbersIn r ≡ listedAs count ⌝ }
 {
     SheetMessagesAnswer {
-        word: 0,
+        word: LISTED,
         one: count as u32,
         two: 0,
     }
@@ -41,7 +43,7 @@ fn refused(number: u8, line: usize) -> SheetMessagesAnswer
     ensures { λ r. ⌜ numbersIn r ≡ refusedAs number line ⌝ }
 {
     SheetMessagesAnswer {
-        word: 1,
+        word: REFUSED,
         one: number as u32,
         two: line as u32,
     }

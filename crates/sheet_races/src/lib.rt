@@ -9,6 +9,8 @@ ghost use Rattle.model.specs.Holdings.{RacesTold};
 ghost use Rattle.relation.specs.Width.{width};
 ghost use Rattle.race_list.specs.Listing.{racesMost};
 ghost use Rattle.sheet_races.specs.Numbers.{numbersIn, listedNumbers, refusedNumbers, Answers};
+use answer_words::listed::LISTED;
+use answer_words::listed::REFUSED;
 use expansion::Expanded;
 use race_list::Told;
 
@@ -19,10 +21,6 @@ pub struct SheetRacesAnswer {
     pub one: u32,
     pub two: u32,
 }
-
-const LISTED: u32 = 0;
-
-const REFUSED: u32 = 1;
 
 fn listed(told: Told) -> SheetRacesAnswer
     requires { ⌜ (told .all ≤ racesMost) × (told .listed ≤ racesMost) ⌝ }

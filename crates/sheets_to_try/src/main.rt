@@ -3,6 +3,9 @@
 // left. Then the limits of what is lent. A line is printed for each, which says whether it came.
 ghost use Prim.Native.Nat.{_≤_};
 ghost use lib.ListN.{length};
+use answer_words::checked::FREE;
+use answer_words::checked::LOCKED;
+use answer_words::checked::REFUSED;
 use answers::ChannelCheckAnswer;
 use input::Input;
 
@@ -37,9 +40,9 @@ fn word_at(line: &[u8], at: usize) -> u32 {
         return 3;
     }
     match line[at] {
-        b'f' => 0,
-        b'l' => 1,
-        b'r' => 2,
+        b'f' => FREE,
+        b'l' => LOCKED,
+        b'r' => REFUSED,
         _ => 3,
     }
 }
@@ -163,7 +166,7 @@ fn show_all(list: &[u8]) -> bool {
 fn show_lent(what: &[u8], code: u32, scratch: &mut [u64], trace: &mut [u8], number: u32) -> bool {
     let a = channel_check::channel_check(b"kind one two\nS 0 0\n", code, scratch, trace);
     let must = Expected {
-        word: if number == 0 { 0 } else { 2 },
+        word: if number == 0 { FREE } else { REFUSED },
         one: number,
         two: 0,
         three: 0,

@@ -4,6 +4,14 @@ ghost use Prim.Native.Nat.{_<_};
 ghost use Rattle.model.specs.Limits.{messagesMost};
 ghost use Rattle.model.specs.Schedule.{kindOf, stepTold};
 ghost use Rattle.step.specs.Steps.{stepIn, messageIn, eventIn, stepOrNone};
+use answer_words::kinds;
+
+// The kinds, in the width that a caller's number is compared in.
+const SEND: usize = kinds::SEND as usize;
+
+const DELIVER: usize = kinds::DELIVER as usize;
+
+const CONSUME: usize = kinds::CONSUME as usize;
 
 // A message is sent, delivered or consumed.
 pub enum Step {
@@ -18,14 +26,14 @@ pub enum StepOrNone {
 }
 
 impl Step {
-    // The byte of its kind: 0 send, 1 deliver, 2 consume.
+    // The byte of its kind.
     pub fn kind(self) -> u8
         ensures { λ r. ⌜ r ≡ kindOf (stepIn self) ⌝ }
     {
         match self {
-            Step::Send(_) => 0,
-            Step::Deliver(_) => 1,
-            Step::Consume(_) => 2,
+            Step::Send(_) => kinds::SEND,
+            Step::Deliver(_) => kinds::DELIVER,
+            Step::Consume(_) => kinds::CONSUME,
         }
     }
 
@@ -59,9 +67,9 @@ impl Step {
         ensures { λ r. ⌜ stepOrNone r ≡ stepTold kind m ⌝ }
     {
         match kind {
-            0 => StepOrNone::Step(Step::Send(m)),
-            1 => StepOrNone::Step(Step::Deliver(m)),
-            2 => StepOrNone::Step(Step::Consume(m)),
+            SEND => StepOrNone::Step(Step::Send(m)),
+            DELIVER => StepOrNone::Step(Step::Deliver(m)),
+            CONSUME => StepOrNone::Step(Step::Consume(m)),
             _ => StepOrNone::Nothing,
         }
     }

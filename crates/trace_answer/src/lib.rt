@@ -3,6 +3,11 @@ ghost use mathlib.Core.Path.{_≡_};
 ghost use Rattle.model.specs.Replay.{replayNumbers, isTrace};
 ghost use Rattle.trace_steps.specs.Bridge.{replayIn};
 ghost use Rattle.trace_answer.specs.Numbers.{Numbers, Small};
+use answer_words::replayed::FINISHED;
+use answer_words::replayed::NOT_ALLOWED;
+use answer_words::replayed::OPEN;
+use answer_words::replayed::REFUSED;
+use answer_words::replayed::STUCK;
 use trace_steps::Outcome;
 use trace_steps::Replay;
 
@@ -25,31 +30,31 @@ pub fn numbers(outcome: Outcome) -> TraceCheckAnswer
     let verdict = outcome.verdict;
     match verdict {
         Replay::Finished => TraceCheckAnswer {
-            word: 0,
+            word: FINISHED,
             one: 0,
             two: 0,
             waits,
         },
         Replay::Stuck => TraceCheckAnswer {
-            word: 1,
+            word: STUCK,
             one: 0,
             two: 0,
             waits,
         },
         Replay::Open => TraceCheckAnswer {
-            word: 2,
+            word: OPEN,
             one: 0,
             two: 0,
             waits,
         },
         Replay::NotAllowed(index) => TraceCheckAnswer {
-            word: 3,
+            word: NOT_ALLOWED,
             one: index as u32,
             two: 0,
             waits,
         },
         Replay::Refused(number, line) => TraceCheckAnswer {
-            word: 4,
+            word: REFUSED,
             one: number as u32,
             two: line as u32,
             waits,

@@ -57,7 +57,7 @@ array-read-at : tie.Need-array-read-at Inv-loop μ-loop
 array-read-at c = search back-noted
 
 add-at : tie.Need-add-at Inv-loop μ-loop
-add-at c = search back-next
+add-at c = search (back-next, needs)
 
 loop-less-2 : tie.Need-loop-less-2 Inv-loop μ-loop
 loop-less-2 c = search back-less
@@ -66,10 +66,10 @@ loop-again-2 : tie.Need-loop-again-2 Inv-loop μ-loop
 loop-again-2 c = search writing-back
 
 add-lines : tie.Need-add-lines Inv-loop μ-loop
-add-lines c = search row-line
+add-lines c = search (row-line, needs)
 
 cast-lines : tie.Need-cast-lines Inv-loop μ-loop
-cast-lines c = search line-narrow
+cast-lines c = search (line-narrow, needs)
 
 mul-lines : tie.Need-mul-lines Inv-loop μ-loop
 mul-lines c = search needs

@@ -11,7 +11,7 @@ enum-known-outcome : tie.Need-enum-known-outcome
 enum-known-outcome c = search needs
 
 refused-requires : tie.Need-refused-requires
-refused-requires c κs = search refusal-line
+refused-requires c κs = search (refusal-line, needs)
 
 enum-known-outcome-2 : tie.Need-enum-known-outcome-2
 enum-known-outcome-2 c = search needs
@@ -26,7 +26,7 @@ tell-requires : tie.Need-tell-requires
 tell-requires c κs = (search messages-few, search needs)
 
 listed-requires : tie.Need-listed-requires
-listed-requires c κs = search messages-few
+listed-requires c κs = search (messages-few, needs)
 
 same-length : tie.Need-same-length
 same-length c = search needs

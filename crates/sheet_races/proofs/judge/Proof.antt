@@ -12,7 +12,7 @@ enum-known-outcome : tie.Need-enum-known-outcome
 enum-known-outcome c = search needs
 
 refused-requires : tie.Need-refused-requires
-refused-requires c κs = search line-known
+refused-requires c κs = search (line-known, needs)
 
 enum-known-outcome-2 : tie.Need-enum-known-outcome-2
 enum-known-outcome-2 c = search needs

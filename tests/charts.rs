@@ -105,9 +105,9 @@ fn step_of(line: &str) -> Option<(usize, usize)> {
     Some((STEPS.iter().position(|s| *s == word)?, words.next()?.parse().ok()?))
 }
 
-/// What a board waits for, as the other commands say it, in the chart's words.
+/// What a board waits for, as the other commands say it.
 fn jams(out: &str) -> Vec<String> {
-    out.lines().filter(|l| l.starts_with("board ")).map(|l| l.replace(" and waits for", ", waits for")).collect()
+    out.lines().filter(|l| l.starts_with("board ")).map(String::from).collect()
 }
 
 fn event(e: usize) -> String {

@@ -20,7 +20,7 @@ impl Random {
 }
 
 /// The words of every command; `{sheet}` and the others are files of random bytes.
-const COMMANDS: [&str; 21] = [
+const COMMANDS: [&str; 24] = [
     "check {sheet}",
     "steps {code} {sheet}",
     "messages {sheet}",
@@ -40,6 +40,9 @@ const COMMANDS: [&str; 21] = [
     "senders {table}",
     "permitted {code} {table} {sheet}",
     "taps {list} {list} {sheet}",
+    "sheet {sheet}",
+    "diagram {sheet}",
+    "diagram {code} {sheet}",
     "help {code}",
     "{code} {sheet}",
 ];
@@ -52,9 +55,27 @@ fn bytes(r: &mut Random) -> Vec<u8> {
     (0..length).map(|_| if plain { few[r.below(few.len())] } else { r.below(256) as u8 }).collect()
 }
 
+/// A diagram of random statements, or of random bytes after its first word.
+fn diagram(r: &mut Random) -> Vec<u8> {
+    let mut out = b"sequenceDiagram\n".to_vec();
+    if r.below(2) == 0 {
+        out.extend(bytes(r));
+        return out;
+    }
+    let words = ["A->>B: x", "B-->>A: y", "C-)A: z", "A->>A: self", "alt a", "else b", "opt c", "par d", "and e", "rect f", "end", "end", "end", "loop g", "Note over A: n", "%% r",
+        "participant D as d", "A->B", "break h", "activate A", "A-x->>B: two", "\t\u{fc}->>B: u"];
+    for _ in 0..r.below(40) {
+        out.extend(words[r.below(words.len())].bytes());
+        out.push(b'\n');
+    }
+    out
+}
+
 fn sheet(r: &mut Random) -> Vec<u8> {
-    if r.below(3) == 0 {
-        return bytes(r);
+    match r.below(6) {
+        0 | 1 => return bytes(r),
+        2 => return diagram(r),
+        _ => {}
     }
     let (boards, mut out) = (1 + r.below(6), String::from("kind one two\nS 0 0\n"));
     let mut on: Vec<usize> = Vec::new(); // the boards of the open block's events

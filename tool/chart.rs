@@ -5,10 +5,11 @@ use crate::commands::replay::{self, Trace};
 use crate::commands::{self, Call};
 use crate::drawing::{self, Subject};
 use crate::face::{self, Choices, Lock, Race, Refusal, Standing, Taps, Verdict, Waits, BOARDS};
-use crate::input::{Failure, Source};
+use crate::input::Failure;
 use crate::output::Answer;
 use crate::refusals::{Handed, TRACE};
 use crate::rows;
+use crate::sheet::Sheet;
 use crate::words::{self, Named};
 
 const NO_WAITS: Waits = [None; BOARDS];
@@ -47,7 +48,7 @@ pub fn of_lock(text: &[u8], code: u32, named: &Named, lock: &Lock, choices: &[St
         Ok(Standing::Stuck(waits)) => waits,
         _ => NO_WAITS,
     };
-    let mut remark = format!("race: message {}, {}; steps: {}", lock.message, words::event(lock.event), lock.steps.len());
+    let mut remark = format!("race: {}, {}; steps: {}", named.short(lock.message), named.event_short(lock.event), lock.steps.len());
     choices.iter().for_each(|c| remark.push_str(&format!("; {}", c)));
     drawing::draw(&Subject {
         title: &title("locked", code),
@@ -102,53 +103,51 @@ pub fn run(call: &mut Call) -> Result<Answer, Failure> {
 
 fn run_trace(call: &mut Call, code: u32) -> Result<Answer, Failure> {
     if call.cured {
-        return Err(Failure("a chart is of a trace or of the cured sheet, not both".to_string()));
+        return Err(Failure::new("a chart is of a trace or of the cured sheet, not both".to_string()));
     }
     let (source, sheet) = (call.file(0, "trace")?, call.sheet(1)?);
     let trace = replay::trace(&source)?;
     let mut answer = Answer::new();
     match face::replay(&sheet.bytes, code, &trace.bytes) {
         Ok(standing) => {
-            let named = commands::named(&sheet.bytes)?;
+            let named = commands::named(&sheet)?;
             answer.out = of_trace(&sheet.bytes, code, &trace, standing, &named).into_bytes();
         }
-        Err(r) => {
-            let refused = if r.number == TRACE { &source } else { &sheet };
-            commands::refuse(&mut answer, refused, r, &Handed { code, trace: trace.bytes.len(), ..Handed::default() });
-        }
+        Err(r) if r.number == TRACE => commands::refuse_trace(&mut answer, &source, r, trace.bytes.len()),
+        Err(r) => commands::refuse(&mut answer, &sheet, r, &Handed { code, ..Handed::default() }),
     }
     Ok(answer)
 }
 
-fn has_choices(sheet: &Source) -> bool {
+fn has_choices(sheet: &Sheet) -> bool {
     rows::rows(&sheet.bytes, usize::MAX).iter().any(|r| r.kind == b'A')
 }
 
 type Drawn = Result<Result<String, Refusal>, Failure>;
 
-fn answered(sheet: &Source, code: u32) -> Drawn {
+fn answered(sheet: &Sheet, code: u32) -> Drawn {
     if has_choices(sheet) {
         return chosen_chart(sheet, code);
     }
     let text = &sheet.bytes;
     Ok(match face::check(text, code) {
-        Verdict::Free => Ok(of_free(text, &commands::named(text)?, &title("free", code), "a course of its events")),
-        Verdict::Locked(lock) => Ok(of_lock(text, code, &commands::named(text)?, &lock, &[])),
+        Verdict::Free => Ok(of_free(text, &commands::named(sheet)?, &title("free", code), "a course of its events")),
+        Verdict::Locked(lock) => Ok(of_lock(text, code, &commands::named(sheet)?, &lock, &[])),
         Verdict::Refused(r) => Err(r),
     })
 }
 
 /// Of a file with choices, the first list that locks; where none does, the first list.
-fn chosen_chart(sheet: &Source, code: u32) -> Drawn {
+fn chosen_chart(sheet: &Sheet, code: u32) -> Drawn {
     let text = &sheet.bytes;
     let (second, lock, options) = match face::choices(text, code) {
         Choices::Refused(r) => return Ok(Err(r)),
-        Choices::Free => (0, None, chosen::options(text, u32::MAX, 0)),
-        Choices::Locked { lock, length, second } => (second, Some(lock), chosen::options(text, length, second)),
+        Choices::Free => (0, None, chosen::options(sheet, u32::MAX, 0)),
+        Choices::Locked { lock, length, second } => (second, Some(lock), chosen::options(sheet, length, second)),
     };
-    let c: Chosen = match chosen::sheet(text, second) {
+    let c: Chosen = match chosen::sheet(sheet, second) {
         Some(c) => c,
-        None => return Err(Failure(format!("{}: no chart: {}", sheet.name, chosen::NO_SHEET))),
+        None => return Err(Failure::new(format!("{}: no chart: {}", sheet.name, chosen::NO_SHEET))),
     };
     Ok(Ok(match lock {
         Some(lock) => of_lock(&c.text, code, &c.named, &lock, &options),
@@ -156,13 +155,16 @@ fn chosen_chart(sheet: &Source, code: u32) -> Drawn {
     }))
 }
 
-fn cured(sheet: &Source, code: u32) -> Drawn {
+fn cured(sheet: &Sheet, code: u32) -> Drawn {
     let text = match face::cure(&sheet.bytes) {
         Ok(text) => text,
         Err(r) => return Ok(Err(r)),
     };
     match face::check(&text, code) {
         Verdict::Refused(r) => Ok(Err(r)),
-        _ => Ok(Ok(of_free(&text, &commands::named(&text)?, &format!("cured: {}", title("free", code)), "a course of the cured sheet's events"))),
+        _ => {
+            let named = commands::named(sheet)?.in_text(commands::listed(&text)?);
+            Ok(Ok(of_free(&text, &named, &format!("cured: {}", title("free", code)), "a course of the cured sheet's events")))
+        }
     }
 }

@@ -2,6 +2,7 @@
 
 use crate::face;
 use crate::rows::{self, Met, Row};
+use crate::sheet::Sheet;
 use crate::words::Named;
 
 /// Why a choice list has no sheet file of its own.
@@ -13,27 +14,34 @@ pub struct Chosen {
     pub named: Named,
 }
 
-/// A line for each A row that the walk meets, with the sheet that it takes.
-pub fn options(text: &[u8], length: u32, second: u32) -> Vec<String> {
+/// A line for each A row that the walk meets, with the sheet that it takes; of a diagram, for each choice, the way that it takes.
+pub fn options(sheet: &Sheet, length: u32, second: u32) -> Vec<String> {
     let mut out = Vec::new();
-    for met in rows::walk(&rows::rows(text, usize::MAX), second) {
+    for met in rows::walk(&rows::rows(&sheet.bytes, usize::MAX), second) {
         if let Met::Choice(row, taken) = met {
-            out.push(format!("A row {}, line {}: sheet {}", out.len(), row.line, taken));
+            out.push(option(sheet, out.len(), &row, taken, second));
         }
     }
     out.truncate(length as usize);
     out
 }
 
+fn option(sheet: &Sheet, k: usize, row: &Row, taken: usize, second: u32) -> String {
+    match sheet.drawn.as_ref().and_then(|d| d.rows.get(row.line.wrapping_sub(1))) {
+        Some((line, _)) => format!("choice {}, diagram line {}: the {} way", k, line, ["first", "second"][(second >> (k % 32) & 1) as usize]),
+        None => format!("A row {}, line {}: sheet {}", k, row.line, taken),
+    }
+}
+
 /// The sheet of a list, where a sheet file can have it.
-pub fn sheet(text: &[u8], second: u32) -> Option<Chosen> {
-    let all = rows::rows(text, usize::MAX);
+pub fn sheet(sheet: &Sheet, second: u32) -> Option<Chosen> {
+    let all = rows::rows(&sheet.bytes, usize::MAX);
     let met = rows::walk(&all, second);
-    with_calls(text, &all, &met).or_else(|| in_one_sheet(&met))
+    with_calls(sheet, &all, &met).or_else(|| in_one_sheet(sheet, &met))
 }
 
 /// Each A row as a call of the sheet that it takes, where it always takes the same one: all lines stay where they are.
-fn with_calls(text: &[u8], all: &[Row], met: &[Met]) -> Option<Chosen> {
+fn with_calls(sheet: &Sheet, all: &[Row], met: &[Met]) -> Option<Chosen> {
     let mut out = b"kind one two\n".to_vec();
     for row in all {
         let mut taken = met.iter().filter_map(|m| match m {
@@ -47,11 +55,11 @@ fn with_calls(text: &[u8], all: &[Row], met: &[Met]) -> Option<Chosen> {
         let words = if row.kind == b'A' { format!("C {} 0\n", first) } else { words(row) };
         out.extend_from_slice(words.as_bytes());
     }
-    let lines = rows::lines(text).0.len();
+    let lines = rows::lines(&sheet.bytes).0.len();
     if rows::lines(&out).0.len() != lines {
         return None;
     }
-    named(out, |line| line)
+    named(out, sheet, |line| line)
 }
 
 fn words(row: &Row) -> String {
@@ -59,7 +67,7 @@ fn words(row: &Row) -> String {
 }
 
 /// The rows of the walk as one sheet, block after block, where they fit.
-fn in_one_sheet(met: &[Met]) -> Option<Chosen> {
+fn in_one_sheet(sheet: &Sheet, met: &[Met]) -> Option<Chosen> {
     let (mut out, mut lines, mut ended) = (b"kind one two\nS 0 0\n".to_vec(), vec![0, 0, 0], false);
     for m in met {
         match m {
@@ -76,11 +84,11 @@ fn in_one_sheet(met: &[Met]) -> Option<Chosen> {
             Met::BlockEnd | Met::Choice(..) => ended = true,
         }
     }
-    named(out, |line| lines.get(line).copied().unwrap_or(0))
+    named(out, sheet, |line| lines.get(line).copied().unwrap_or(0))
 }
 
-fn named(text: Vec<u8>, line: impl Fn(usize) -> usize) -> Option<Chosen> {
+fn named(text: Vec<u8>, sheet: &Sheet, line: impl Fn(usize) -> usize) -> Option<Chosen> {
     let mut messages = face::messages(&text).ok()?;
     messages.iter_mut().for_each(|m| m.line = line(m.line));
-    Some(Chosen { text, named: Named { messages } })
+    Some(Chosen { text, named: Named::of(messages, sheet) })
 }

@@ -22,6 +22,8 @@ const NO_STEP_LEFT: usize = 230;
 /// A letter of the callout's font is this wide, in tenths; and the space around its words.
 const LETTER_TENTHS: usize = 75;
 const AROUND: usize = 8;
+/// The letters that a board's head has room for.
+const HEAD_LETTERS: usize = 10;
 
 /// What a chart shows.
 pub struct Subject<'a> {
@@ -114,10 +116,6 @@ impl Drawing<'_> {
         self.of.race.map_or(false, |r| r.message == held && self.of.named.messages[held].to == board)
     }
 
-    fn jam_words(board: usize, held: usize, event: usize) -> String {
-        format!("board {} holds message {}, waits for {}", board, held, words::event(event))
-    }
-
     /// A jammed board's line from the delivery on, and its words above the heads.
     fn bands(&mut self) {
         for (place, board, held, event) in self.jams() {
@@ -125,7 +123,7 @@ impl Drawing<'_> {
             let top = self.at.row(held, 1).map_or(0, |r| self.at.middle(r));
             let end = self.at.middle(self.at.jammed + place);
             self.picture.rect('y', [x - BAND_WIDTH / 2, top, BAND_WIDTH, end.saturating_sub(top)]);
-            let (words, base) = (Drawing::jam_words(board, held, event), layout::JAMS_BASE + ROW_HEIGHT * place);
+            let (words, base) = (self.of.named.jam(board, held, event), layout::JAMS_BASE + ROW_HEIGHT * place);
             self.picture.text('j', MARGIN, base, &words);
             if self.is_race(board, held) {
                 self.picture.text('q', MARGIN + words.len() * 86 / 10 + 8, base, "the race");
@@ -139,7 +137,7 @@ impl Drawing<'_> {
             let x = self.at.line(board);
             for top in [self.at.head, self.at.foot()] {
                 self.picture.rect(frame, [x - HEAD_WIDTH / 2, top, HEAD_WIDTH, HEAD_HEIGHT]);
-                self.picture.text(name, x, top + 17, &format!("board {}", board));
+                self.picture.text(name, x, top + 17, &clipped(&self.of.named.board_name(board)));
             }
         }
     }
@@ -277,7 +275,7 @@ impl Drawing<'_> {
     fn callouts(&mut self) {
         for (place, board, held, event) in self.jams() {
             let (left, right) = (self.at.line(board) - layout::LINE / 2, self.at.right());
-            self.callout(left, right, self.at.jammed + place, &Drawing::jam_words(board, held, event));
+            self.callout(left, right, self.at.jammed + place, &self.of.named.jam(board, held, event));
         }
     }
 
@@ -318,4 +316,12 @@ fn near_to(from: usize, to: usize, near: usize) -> usize {
     } else {
         to + near
     }
+}
+
+/// A name as a head has room for it.
+fn clipped(name: &str) -> String {
+    if name.chars().count() <= HEAD_LETTERS {
+        return name.to_string();
+    }
+    name.chars().take(HEAD_LETTERS - 2).chain("..".chars()).collect()
 }

@@ -26,7 +26,7 @@ pub struct Command {
 
 const MANY: usize = usize::MAX;
 
-pub const COMMANDS: [Command; 15] = [
+pub const COMMANDS: [Command; 17] = [
     Command {
         name: "check",
         code: Code::None,
@@ -80,6 +80,24 @@ pub const COMMANDS: [Command; 15] = [
         phrase: "A picture of the answer on a channel, of a trace (two files: trace and sheet), or of the cured sheet (--cured).",
         example: "channel_tool chart 0 case-2-two-senders-race.sheet -o case-2.svg",
         run: chart::run,
+    },
+    Command {
+        name: "sheet",
+        code: Code::None,
+        files: (0, 1),
+        usage: "sheet [DIAGRAM] [-o NEW.sheet]",
+        phrase: "The sheet of a sequence diagram in Mermaid's text; every command takes such a diagram where it takes a sheet.",
+        example: "channel_tool sheet tool-change.mmd -o tool-change.sheet",
+        run: commands::sheet::run,
+    },
+    Command {
+        name: "diagram",
+        code: Code::May,
+        files: (0, 1),
+        usage: "diagram [CHANNEL] [SHEET] [-o NEW.mmd]",
+        phrase: "A sheet, or its jam on a channel, as such a diagram, with a note at each board that waits.",
+        example: "channel_tool diagram fifo tool-change-both-at-once.sheet",
+        run: commands::diagram::run,
     },
     Command {
         name: "cure",

@@ -1,12 +1,27 @@
 //! Files and standard input: read whole, or a failure with the name and the system's reason, never a part.
 
 use crate::face;
+use crate::output::Status;
 use std::ffi::{OsStr, OsString};
 use std::fs::File;
 use std::io::{self, Read};
 
-/// Why there is no answer, in words.
-pub struct Failure(pub String);
+/// Why there is no answer, in words, and the status that says so.
+pub struct Failure {
+    pub why: String,
+    pub status: Status,
+}
+
+impl Failure {
+    pub fn new(why: impl Into<String>) -> Failure {
+        Failure { why: why.into(), status: Status::NoAnswer }
+    }
+
+    /// What was read is unfit, by a rule of the tool's own.
+    pub fn refused(why: impl Into<String>) -> Failure {
+        Failure { why: why.into(), status: Status::Refused }
+    }
+}
 
 /// The bytes of a file, and its name.
 pub struct Source {
@@ -18,7 +33,7 @@ impl Source {
     /// For what is judged line by line: a part of it could be taken for all of it.
     pub fn is_whole(&self, what: &str) -> Result<(), Failure> {
         if self.bytes.len() > MOST_BYTES {
-            return Err(Failure(format!("{}: over {} bytes, which no {} needs", self.name, MOST_BYTES, what)));
+            return Err(Failure::new(format!("{}: over {} bytes, which no {} needs", self.name, MOST_BYTES, what)));
         }
         Ok(())
     }
@@ -38,7 +53,7 @@ pub fn reason(error: &io::Error) -> String {
 }
 
 pub fn failure(name: &str, error: &io::Error) -> Failure {
-    Failure(format!("{}: {}", name, reason(error)))
+    Failure::new(format!("{}: {}", name, reason(error)))
 }
 
 /// What the words of a command name. Standard input can be read once.
@@ -62,7 +77,7 @@ impl Inputs {
     fn read_standard(&mut self, asked: bool, what: &str) -> Result<Source, Failure> {
         self.take(what)?;
         if !asked && face::is_terminal(0) {
-            return Err(Failure(format!("no {} is named, and standard input is a terminal: name a file, or `-` to type it", what)));
+            return Err(Failure::new(format!("no {} is named, and standard input is a terminal: name a file, or `-` to type it", what)));
         }
         let bytes = read_whole(&mut io::stdin().lock()).map_err(|e| failure(STANDARD_INPUT, &e))?;
         Ok(Source { name: STANDARD_INPUT.to_string(), bytes })
@@ -71,10 +86,10 @@ impl Inputs {
     /// Standard input for one use.
     pub fn take(&mut self, what: &str) -> Result<(), Failure> {
         if self.taken {
-            return Err(Failure(format!("standard input is read already, and cannot be the {} too", what)));
+            return Err(Failure::new(format!("standard input is read already, and cannot be the {} too", what)));
         }
         if face::was_closed(0) {
-            return Err(Failure("standard input: Bad file descriptor".to_string()));
+            return Err(Failure::new("standard input: Bad file descriptor".to_string()));
         }
         self.taken = true;
         Ok(())
@@ -102,7 +117,7 @@ pub fn list(source: &Source) -> Result<Vec<u16>, Failure> {
         match number {
             // a number that is too large for a list is no event of any sheet
             Some(n) => events.push(n.parse::<u16>().unwrap_or(u16::MAX)),
-            None => return Err(Failure(format!("{}: a list has event numbers alone, and `{}` is none", source.name, shown(word)))),
+            None => return Err(Failure::new(format!("{}: a list has event numbers alone, and `{}` is none", source.name, shown(word)))),
         }
     }
     Ok(events)

@@ -3,6 +3,7 @@
 mod chart;
 mod chosen;
 mod commands;
+mod diagram;
 mod drawing;
 mod face;
 mod help;
@@ -14,6 +15,7 @@ mod refusals;
 mod report;
 mod rows;
 mod run;
+mod sheet;
 mod steps_text;
 mod svg;
 mod words;
@@ -35,7 +37,7 @@ struct Words {
 }
 
 fn wrong(why: &str, command: Option<&str>) -> Failure {
-    Failure(format!("{}\n{}", why, help::short(command)))
+    Failure::new(format!("{}\n{}", why, help::short(command)))
 }
 
 fn split(all: Vec<OsString>) -> Result<Words, Failure> {
@@ -98,8 +100,14 @@ fn take_code(command: &Command, words: &mut Vec<OsString>) -> Result<Option<u32>
     }
     if code.is_some() {
         words.remove(0);
+        return Ok(code);
     }
-    Ok(code)
+    // a channel that need not be there may come last too
+    let last = words.last().filter(|_| words.len() > command.files.1).and_then(|w| w.to_str()).and_then(words::channel_code);
+    if last.is_some() {
+        words.pop();
+    }
+    Ok(last)
 }
 
 fn call(command: &Command, mut words: Vec<OsString>, all: &Words) -> Result<Answer, Failure> {
@@ -143,10 +151,10 @@ fn run() -> Result<Status, Failure> {
 fn main() -> ExitCode {
     match run() {
         Ok(status) => ExitCode::from(status as u8),
-        Err(Failure(why)) => {
+        Err(failure) => {
             // where standard error fails too, the status is all that can be told
-            let _ = output::write_notes(&format!("{}\n", why));
-            ExitCode::from(Status::NoAnswer as u8)
+            let _ = output::write_notes(&format!("{}\n", failure.why));
+            ExitCode::from(failure.status as u8)
         }
     }
 }

@@ -57,7 +57,7 @@ pub fn write(answer: &Answer, to: Option<&OsString>) -> Result<(), Failure> {
 
 pub fn write_standard(bytes: &[u8]) -> Result<(), Failure> {
     if face::was_closed(1) {
-        return Err(Failure("standard output: Bad file descriptor".to_string()));
+        return Err(Failure::new("standard output: Bad file descriptor".to_string()));
     }
     let mut out = io::stdout().lock();
     out.write_all(bytes).and_then(|()| out.flush()).map_err(|e| failure("standard output", &e))
@@ -68,7 +68,7 @@ pub fn write_notes(notes: &str) -> Result<(), Failure> {
         return Ok(());
     }
     if face::was_closed(2) {
-        return Err(Failure("standard error: Bad file descriptor".to_string()));
+        return Err(Failure::new("standard error: Bad file descriptor".to_string()));
     }
     io::stderr().lock().write_all(notes.as_bytes()).map_err(|e| failure("standard error", &e))
 }

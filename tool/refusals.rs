@@ -4,6 +4,7 @@
 use crate::face::{self, Refusal, Senders};
 use crate::input::{shown, MOST_BYTES};
 use crate::rows::{self, Row};
+use crate::sheet::{Drawn, Sheet};
 use crate::words;
 
 /// The refusals by their numbers, as the paper and the requests count them.
@@ -28,9 +29,9 @@ const TAP: u32 = 20;
 
 const NUMBER_MOST: usize = face::EVENTS - 1;
 const SET_MOST: usize = 65_535;
-const ROWS_MOST: usize = 512;
+pub const ROWS_MOST: usize = 512;
 const RULES_MOST: usize = 64;
-const SHEET_MOST: usize = 31;
+pub const SHEET_MOST: usize = 31;
 const LEVEL_MOST: usize = 8;
 const CALLS_MOST: usize = 1024;
 const CHOICES_MOST: usize = 8;
@@ -39,15 +40,18 @@ const CHOICES_MOST: usize = 8;
 #[derive(Clone, Copy, Default)]
 pub struct Handed<'a> {
     pub code: u32,
-    pub trace: usize,
     pub lists: [&'a [u16]; 2],
     pub choices: bool,
 }
 
 /// The refusal of a sheet, as one line.
-pub fn of_sheet(r: Refusal, text: &[u8], handed: &Handed) -> String {
+pub fn of_sheet(r: Refusal, sheet: &Sheet, handed: &Handed) -> String {
+    let text = &sheet.bytes;
+    if let Some(drawn) = &sheet.drawn {
+        return of_drawn(r, drawn, handed);
+    }
     let cause = match r.number {
-        CHANNEL => Some(format!("no channel has the code {}: they are 0 to {}", handed.code, face::CHANNELS - 1)),
+        CHANNEL => Some(channel_cause(handed.code)),
         LENGTH => Some(length_cause(text.len())),
         HEADING => heading_cause(text, "kind, one and two", rows::order(first_line(text)).is_some()),
         ROW => row_cause(text, r.line as usize, handed.choices),
@@ -55,12 +59,11 @@ pub fn of_sheet(r: Refusal, text: &[u8], handed: &Handed) -> String {
         ABSENT => Some(absent_cause(text, r.line as usize)),
         DEPTH => depth_cause(text, r.line as usize),
         CALLS => Some(format!("the walk makes call {} here, and may make {}", CALLS_MOST + 1, CALLS_MOST)),
-        MESSAGES => Some(format!("the walk meets message {} here, and may meet {}", face::MESSAGES + 1, face::MESSAGES)),
+        MESSAGES => Some(messages_cause()),
         CIRCLE => circle_cause(text, r.line as usize),
-        TRACE => Some(trace_cause(handed.trace)),
-        CHOICES => Some(format!("the walk meets A row {} here, and may meet {}", CHOICES_MOST + 1, CHOICES_MOST)),
+        CHOICES => Some(choices_cause()),
         ROWS => Some(rows_cause(text)),
-        JOBS => Some(format!("{} jobs are held already", face::PLACES)),
+        JOBS => Some(jobs_cause()),
         FORBIDDEN => forbidden_cause(text, r.line as usize),
         TAP => tap_cause(text, handed.lists, r.line as usize),
         _ => None,
@@ -68,6 +71,44 @@ pub fn of_sheet(r: Refusal, text: &[u8], handed: &Handed) -> String {
     // the line of this one is the number of a list, and no line of the sheet
     let line = if r.number == TAP { 0 } else { r.line as usize };
     sentence(r, line, text, cause)
+}
+
+/// The refusal of a trace, as one line.
+pub fn of_trace(r: Refusal, length: usize) -> String {
+    sentence(r, 0, b"", Some(trace_cause(length)))
+}
+
+/// The refusal of a sheet that was made from a diagram: in the diagram's lines.
+fn of_drawn(r: Refusal, drawn: &Drawn, handed: &Handed) -> String {
+    let row = (r.line as usize).checked_sub(1).and_then(|at| drawn.rows.get(at));
+    let cause = match r.number {
+        CHANNEL => Some(channel_cause(handed.code)),
+        ROW => Some("an `alt` or `opt` is a choice between two ways: use `channel_tool choices`".to_string()),
+        DEPTH => Some(format!("choices inside choices: {} may be open", LEVEL_MOST)),
+        MESSAGES => Some(messages_cause()),
+        CHOICES => Some(choices_cause()),
+        FORBIDDEN => Some("the table does not permit this message".to_string()),
+        JOBS => Some(jobs_cause()),
+        _ => None,
+    };
+    let line = row.filter(|_| r.number != TAP).map_or(0, |(line, _)| *line);
+    sentence(r, line, &drawn.text, cause).replacen(", line ", ", diagram line ", 1)
+}
+
+fn channel_cause(code: u32) -> String {
+    format!("no channel has the code {}: they are 0 to {}", code, face::CHANNELS - 1)
+}
+
+fn messages_cause() -> String {
+    format!("the walk meets message {} here, and may meet {}", face::MESSAGES + 1, face::MESSAGES)
+}
+
+fn choices_cause() -> String {
+    format!("the walk meets A row {} here, and may meet {}", CHOICES_MOST + 1, CHOICES_MOST)
+}
+
+fn jobs_cause() -> String {
+    format!("{} jobs are held already", face::PLACES)
 }
 
 /// The refusal of a table of permitted senders, as one line.

@@ -4,10 +4,11 @@ use crate::chart;
 use crate::chosen;
 use crate::commands::{self, Call};
 use crate::face::{self, Choices, Lock, Race, Refusal, Standing, Verdict};
-use crate::input::{shown, Failure, Source};
+use crate::input::{shown, Failure};
 use crate::output::{Answer, Status};
 use crate::refusals::Handed;
 use crate::rows;
+use crate::sheet::{trimmed, Sheet};
 use crate::svg::escaped;
 use crate::words::{self, Named};
 
@@ -22,7 +23,7 @@ pre{background:#f4f4f4;padding:.6em;overflow-wrap:anywhere;white-space:pre-wrap}
 
 /// What the library answers on every channel.
 struct Page<'a> {
-    sheet: &'a Source,
+    sheet: &'a Sheet,
     /// The text that is drawn: the sheet's own, or that of the choice list named.
     text: &'a [u8],
     named: Named,
@@ -47,7 +48,7 @@ pub fn run(call: &mut Call) -> Result<Answer, Failure> {
     Ok(answer)
 }
 
-fn page(sheet: &Source) -> Result<Result<String, Refusal>, Failure> {
+fn page(sheet: &Sheet) -> Result<Result<String, Refusal>, Failure> {
     if rows::rows(&sheet.bytes, usize::MAX).iter().any(|row| row.kind == b'A') {
         return page_of_choices(sheet);
     }
@@ -59,30 +60,30 @@ fn page(sheet: &Source) -> Result<Result<String, Refusal>, Failure> {
             Verdict::Refused(r) => return Ok(Err(r)),
         }
     }
-    let named = commands::named(&sheet.bytes)?;
+    let named = commands::named(sheet)?;
     Ok(Ok(Page { sheet, text: &sheet.bytes, named, locks, choices: Vec::new(), out: String::new() }.written()?))
 }
 
 /// Of a file with choices: the list that locks on channel 0, or the first.
-fn page_of_choices(sheet: &Source) -> Result<Result<String, Refusal>, Failure> {
+fn page_of_choices(sheet: &Sheet) -> Result<Result<String, Refusal>, Failure> {
     let (second, options) = match face::choices(&sheet.bytes, 0) {
         Choices::Refused(r) => return Ok(Err(r)),
-        Choices::Free => (0, chosen::options(&sheet.bytes, u32::MAX, 0)),
-        Choices::Locked { length, second, .. } => (second, chosen::options(&sheet.bytes, length, second)),
+        Choices::Free => (0, chosen::options(sheet, u32::MAX, 0)),
+        Choices::Locked { length, second, .. } => (second, chosen::options(sheet, length, second)),
     };
-    let c = match chosen::sheet(&sheet.bytes, second) {
+    let c = match chosen::sheet(sheet, second) {
         Some(c) => c,
-        None => return Err(Failure(format!("{}: no page: {}", sheet.name, chosen::NO_SHEET))),
+        None => return Err(Failure::new(format!("{}: no page: {}", sheet.name, chosen::NO_SHEET))),
     };
     let mut locks = Vec::new();
     for code in 0..face::CHANNELS {
         match face::check(&c.text, code) {
             Verdict::Free => locks.push(None),
             Verdict::Locked(lock) => locks.push(Some(lock)),
-            Verdict::Refused(r) => return Err(Failure(format!("the library refuses the sheet of a choice list that it accepted: {}", words::refusal(r)))),
+            Verdict::Refused(r) => return Err(Failure::new(format!("the library refuses the sheet of a choice list that it accepted: {}", words::refusal(r)))),
         }
     }
-    let page = Page { sheet, text: &c.text, named: Named { messages: c.named.messages }, locks, choices: options, out: String::new() };
+    let page = Page { sheet, text: &c.text, named: c.named.clone(), locks, choices: options, out: String::new() };
     Ok(Ok(page.written()?))
 }
 
@@ -116,7 +117,7 @@ impl Page<'_> {
         self.races()?;
         self.jams();
         self.cure()?;
-        self.text();
+        self.texts();
         self.put("</body>\n</html>");
         Ok(self.out)
     }
@@ -127,7 +128,7 @@ impl Page<'_> {
         if !self.choices.is_empty() {
             let options = self.choices.join("; ");
             self.paragraph("The file has choices. Over all choice lists:");
-            let over_all: Vec<String> = (0..face::CHANNELS).map(|code| over_all_lists(&self.sheet.bytes, code)).collect();
+            let over_all: Vec<String> = (0..face::CHANNELS).map(|code| over_all_lists(self.sheet, code)).collect();
             self.list(&over_all);
             self.paragraph(&format!("All that follows is of one choice list alone: {}.", options));
         }
@@ -145,12 +146,13 @@ impl Page<'_> {
     fn messages(&mut self) {
         self.heading("Messages");
         self.put("<div class=\"wide\"><table>\n<tr><th>message</th><th>from</th><th>to</th><th>send</th><th>receive</th><th>line</th><th>row</th></tr>");
-        let lines = rows::lines(&self.sheet.bytes).0;
+        let lines = rows::lines(self.sheet.written()).0;
         let mut table = String::new();
         for (i, m) in self.named.messages.iter().enumerate() {
-            let row = lines.get(m.line.wrapping_sub(1)).map_or(String::new(), |l| shown(l));
-            let places = format!("<td>board {}</td><td>board {}</td><td>event {}</td><td>event {}</td>", m.from, m.to, 2 * i, 2 * i + 1);
-            table.push_str(&format!("<tr><td>message {}</td>{}<td>line {}</td><td>{}</td></tr>\n", i, places, m.line, escaped(&row)));
+            let row = lines.get(m.line.wrapping_sub(1)).map_or(String::new(), |l| shown(trimmed(l)));
+            let boards = [m.from, m.to].map(|b| format!("<td>{}</td>", escaped(&self.named.board_name(b)))).concat();
+            let places = format!("{}<td>event {}</td><td>event {}</td>", boards, 2 * i, 2 * i + 1);
+            table.push_str(&format!("<tr><td>{}</td>{}<td>line {}</td><td>{}</td></tr>\n", escaped(&self.named.short(i)), places, m.line, escaped(&row)));
         }
         self.put(&table);
         self.put("</table></div>");
@@ -211,30 +213,39 @@ impl Page<'_> {
         self.paragraph(&format!("The loosest sheet of the same messages that is free on every channel gives up {}:", words::count(given_up.len(), "order")));
         self.list(&given_up);
         self.put(&format!("<pre>{}</pre>", escaped(&String::from_utf8_lossy(&cured))));
-        let drawn = chart::of_free(&cured, &commands::named(&cured)?, "cured: free on every channel", "a course of the cured sheet's events");
+        let named = self.named.in_text(commands::listed(&cured)?);
+        let drawn = chart::of_free(&cured, &named, "cured: free on every channel", "a course of the cured sheet's events");
         self.put(&drawn);
         Ok(())
     }
 
-    /// The sheet itself, with the numbers of its lines.
-    fn text(&mut self) {
-        self.heading("The sheet");
-        let lines = rows::lines(&self.sheet.bytes).0;
+    /// The sheet itself, and the diagram that it was made from.
+    fn texts(&mut self) {
+        if self.sheet.drawn.is_some() {
+            self.text("The diagram", self.sheet.written());
+        }
+        self.text("The sheet", &self.sheet.bytes);
+    }
+
+    /// A text with the numbers of its lines.
+    fn text(&mut self, heading: &str, text: &[u8]) {
+        self.heading(heading);
+        let lines = rows::lines(text).0;
         let numbered: Vec<String> = lines.iter().enumerate().map(|(i, l)| format!("{:>4}  {}", i + 1, shown(l))).collect();
         self.put(&format!("<pre>{}</pre>", escaped(&numbered.join("\n"))));
     }
 }
 
 /// The answer over all choice lists of a file: another list than the one on the page may lock.
-fn over_all_lists(text: &[u8], code: u32) -> String {
-    let told = match face::choices(text, code) {
+fn over_all_lists(sheet: &Sheet, code: u32) -> String {
+    let told = match face::choices(&sheet.bytes, code) {
         Choices::Free => "free on every list".to_string(),
-        Choices::Locked { length, second, .. } => format!("locked, first with {}", chosen::options(text, length, second).join("; ")),
+        Choices::Locked { length, second, .. } => format!("locked, first with {}", chosen::options(sheet, length, second).join("; ")),
         Choices::Refused(r) => words::refusal(r),
     };
     format!("{}: {}", words::channel(code), told)
 }
 
 fn listed(text: &[u8], code: u32) -> Result<Vec<Race>, Failure> {
-    face::races(text, code).map_err(|r| Failure(format!("the library lists no races of a sheet that it accepted: {}", words::refusal(r))))
+    face::races(text, code).map_err(|r| Failure::new(format!("the library lists no races of a sheet that it accepted: {}", words::refusal(r))))
 }

@@ -106,7 +106,7 @@ impl Run<'_> {
             return Some(format!("{} is consumed already", self.named.message(m)));
         }
         if !self.state.is_held(of.to, m) {
-            return Some(format!("{} is not in the buffer of board {}", self.named.message(m), of.to));
+            return Some(format!("{} is not in the buffer of {}", self.named.message(m), self.named.board_name(of.to)));
         }
         self.not_ready(2 * m + 1)
     }
@@ -117,12 +117,12 @@ impl Run<'_> {
         let events = 0..2 * self.named.messages.len();
         let left: Vec<usize> = events.filter(|x| *x != event && self.named.board(*x) == board && !self.state.is_done(*x)).collect();
         let first = lowest_before(self.text, &left, event)?;
-        Some(format!("{} is not ready: board {} waits for {}", self.named.event(event), board, self.named.event(first)))
+        Some(format!("{} is not ready: {} waits for {}", self.named.event(event), self.named.board_name(board), self.named.event(first)))
     }
 
     fn full(&self, board: usize, eager: bool) -> Option<String> {
         let m = *self.state.held(board).first().filter(|_| eager)?;
-        Some(format!("the buffer of board {} is full: it holds {}", board, self.named.message(m)))
+        Some(format!("the buffer of {} is full: it holds {}", self.named.board_name(board), self.named.message(m)))
     }
 
     fn taken(&self) -> Option<String> {

@@ -11,7 +11,7 @@ pub enum Line {
 }
 
 /// The first words of lines that `steps`, `choices` and `replay` print besides steps.
-const REMARKS: [&str; 7] = ["board", "message", "A", "stuck", "finished", "open", "#"];
+const REMARKS: [&str; 8] = ["board", "message", "A", "choice", "stuck", "finished", "open", "#"];
 const ANSWERS: [&str; 3] = ["free", "locked", "refused"];
 
 /// Whether a trace is text: the bytes of a trace begin with a step code, which no text has.
@@ -29,8 +29,10 @@ pub fn line(bytes: &[u8]) -> Line {
         [code, answer, _, _, _] if words::channel_code(code).is_some() && ANSWERS.contains(&answer) => Line::Remark,
         [word, number] if word.eq_ignore_ascii_case("switch") => words::channel_code(number).map_or(Line::Unknown, Line::Switch),
         [word, number] => step(word, number),
-        // as `steps` has it, with the message's boards and line
-        [word, number, place, ..] if place.starts_with('(') => step(word, number),
+        // as `steps` has it, with the message's words, boards and line
+        [word, number, place, ..] if place.starts_with(['(', '"']) => step(word, number),
+        // what a board with a name of its own waits for
+        _ if text.contains(" holds message ") => Line::Remark,
         _ => Line::Unknown,
     }
 }

@@ -1,6 +1,7 @@
 //! Channels, messages with their boards and lines, events, races, and what boards wait for, in words.
 
 use crate::face::{Lock, Message, Race, Refusal, Step, Verdict, Waits};
+use crate::sheet::Sheet;
 
 pub const CHANNEL_NAMES: [&str; 6] =
     ["eager free-running", "lazy free-running", "eager FIFO", "lazy FIFO", "synchronous, eager", "token ring, eager"];
@@ -57,11 +58,6 @@ pub fn deed(event: usize) -> String {
     format!("{} of message {}", ["send", "receive"][event % 2], event / 2)
 }
 
-/// `event 1 (receive of message 0)`
-pub fn event(event: usize) -> String {
-    format!("event {} ({})", event, deed(event))
-}
-
 /// A number and its noun: `1 race`, `2 races`.
 pub fn count(number: usize, noun: &str) -> String {
     format!("{} {}{}", number, noun, if number == 1 { "" } else { "s" })
@@ -84,27 +80,65 @@ pub fn refused(r: Refusal) -> String {
     format!("refused {} {} 0", r.number, r.line)
 }
 
-/// The messages of a walk, to name them by.
+/// The messages of a walk, to name them by: with the numbers and lines of a sheet, or with the names, words and lines of the diagram that it was made from.
+#[derive(Clone)]
 pub struct Named {
     pub messages: Vec<Message>,
+    boards: Vec<String>,
+    labels: Vec<String>,
+    line: &'static str,
 }
 
 impl Named {
+    pub fn of(messages: Vec<Message>, sheet: &Sheet) -> Named {
+        let mut named = Named { messages, boards: Vec::new(), labels: Vec::new(), line: "line" };
+        if let Some(drawn) = &sheet.drawn {
+            named.boards = drawn.names.clone();
+            named.line = "diagram line";
+            for m in named.messages.iter_mut() {
+                let (line, label) = drawn.rows.get(m.line.wrapping_sub(1)).cloned().unwrap_or_default();
+                m.line = line;
+                named.labels.push(label);
+            }
+        }
+        named
+    }
+
+    /// The same boards and words, with the lines of another text of the same messages.
+    pub fn in_text(&self, messages: Vec<Message>) -> Named {
+        Named { messages, boards: self.boards.clone(), labels: self.labels.clone(), line: "line" }
+    }
+
+    /// `board 1`, or its name.
+    pub fn board_name(&self, board: usize) -> String {
+        self.boards.get(board).cloned().unwrap_or_else(|| format!("board {}", board))
+    }
+
+    /// `message 4`, and its words if it has some: `message 4 "clamped"`
+    pub fn short(&self, m: usize) -> String {
+        format!("message {}{}", m, self.quoted(m))
+    }
+
     fn place(&self, m: usize) -> String {
         match self.messages.get(m) {
-            Some(t) => format!("board {} to board {}, line {}", t.from, t.to, t.line),
+            Some(t) => format!("{} to {}, {} {}", self.board_name(t.from), self.board_name(t.to), self.line, t.line),
             None => "not in the sheet".to_string(),
         }
     }
 
     /// `message 4 (board 1 to board 0, line 7)`
     pub fn message(&self, m: usize) -> String {
-        format!("message {} ({})", m, self.place(m))
+        format!("{} ({})", self.short(m), self.place(m))
     }
 
-    /// `send 4 (board 1 to board 0, line 7)`
+    /// `send 4 (board 1 to board 0, line 7)`, and the message's words ahead of its place if it has some
     pub fn step(&self, s: Step) -> String {
-        format!("{} ({})", step(s), self.place(usize::from(s.message)))
+        let m = usize::from(s.message);
+        format!("{}{} ({})", step(s), self.quoted(m), self.place(m))
+    }
+
+    fn quoted(&self, m: usize) -> String {
+        self.labels.get(m).filter(|l| !l.is_empty()).map_or(String::new(), |l| format!(" \"{}\"", l))
     }
 
     /// `message 1 (..), message 4 (..)`
@@ -112,9 +146,18 @@ impl Named {
         messages.iter().map(|m| self.message(*m)).collect::<Vec<_>>().join(", ")
     }
 
+    fn deed(&self, e: usize) -> String {
+        format!("{} of {}", ["send", "receive"][e % 2], self.short(e / 2))
+    }
+
+    /// `event 1 (receive of message 0)`
+    pub fn event_short(&self, e: usize) -> String {
+        format!("event {} ({})", e, self.deed(e))
+    }
+
     /// `event 1 (receive of message 0, board 0 to board 1, line 3)`
     pub fn event(&self, e: usize) -> String {
-        format!("event {} ({}, {})", e, deed(e), self.place(e / 2))
+        format!("event {} ({}, {})", e, self.deed(e), self.place(e / 2))
     }
 
     /// The board that an event is on.
@@ -152,13 +195,18 @@ impl Named {
         held
     }
 
+    /// `board 1 holds message 1 and waits for event 1 (receive of message 0)`
+    pub fn jam(&self, board: usize, held: usize, event: usize) -> String {
+        format!("{} holds {} and waits for {}", self.board_name(board), self.short(held), self.event_short(event))
+    }
+
     /// A sentence for each board that waits, and then the messages that the sentences name.
     pub fn stuck(&self, waits: &Waits, held: &[Vec<usize>]) -> Vec<String> {
-        let (mut lines, mut named) = (jams(waits, held), Vec::new());
+        let (mut lines, mut named) = (Vec::new(), Vec::new());
         for (board, wait) in waits.iter().enumerate() {
-            if let Some(e) = wait {
-                named.extend(held[board].first().copied());
-                named.push(e / 2);
+            if let (Some(e), Some(m)) = (wait, held[board].first()) {
+                lines.push(self.jam(board, *m, *e));
+                named.extend([*m, e / 2]);
             }
         }
         named.sort_unstable();
@@ -166,15 +214,4 @@ impl Named {
         lines.extend(named.iter().map(|m| self.message(*m)));
         lines
     }
-}
-
-/// `board 1 holds message 1 and waits for event 1 (receive of message 0)`, for each board that waits.
-pub fn jams(waits: &Waits, held: &[Vec<usize>]) -> Vec<String> {
-    let mut lines = Vec::new();
-    for (board, wait) in waits.iter().enumerate() {
-        if let (Some(e), Some(m)) = (wait, held[board].first()) {
-            lines.push(format!("board {} holds message {} and waits for {}", board, m, event(*e)));
-        }
-    }
-    lines
 }

@@ -20,8 +20,8 @@ pub fn run(call: &mut Call) -> Result<Answer, Failure> {
         Choices::Locked { lock, length, second } => {
             answer.worsen(Status::Bad);
             answer.line(&format!("{} {}", code, words::locked(&lock)));
-            chosen::options(&sheet.bytes, length, second).iter().for_each(|o| answer.line(o));
-            match chosen::sheet(&sheet.bytes, second) {
+            chosen::options(&sheet, length, second).iter().for_each(|o| answer.line(o));
+            match chosen::sheet(&sheet, second) {
                 Some(c) => say_lock(&mut answer, &c.text, code, &lock, &c.named),
                 None => {
                     lock.steps.iter().for_each(|s| answer.line(&words::step(*s)));

@@ -2,15 +2,16 @@
 
 use super::{named, refuse, say_lock, Call};
 use crate::face::{Dispatch, Turn, Verdict};
-use crate::input::{Failure, Source};
+use crate::input::Failure;
 use crate::output::Answer;
 use crate::refusals::Handed;
+use crate::sheet::{self, Sheet};
 use crate::words;
 use std::collections::BTreeMap;
 use std::ffi::OsString;
 
 struct Job {
-    sheet: Source,
+    sheet: Sheet,
     code: u32,
 }
 
@@ -20,9 +21,9 @@ fn job(word: &OsString, call: &mut Call) -> Result<Job, Failure> {
     let parts = text.rsplit_once(':').and_then(|(name, code)| Some((name, words::channel_code(code)?)));
     let (name, code) = match parts {
         Some(p) => p,
-        None => return Err(Failure(format!("`{}` is no job: SHEETFILE:CHANNEL", text))),
+        None => return Err(Failure::new(format!("`{}` is no job: SHEETFILE:CHANNEL", text))),
     };
-    let sheet = call.inputs.read(Some(&OsString::from(name)), "sheet")?;
+    let sheet = sheet::of(call.inputs.read(Some(&OsString::from(name)), "sheet")?)?;
     Ok(Job { sheet, code })
 }
 
@@ -33,7 +34,7 @@ pub fn run(call: &mut Call) -> Result<Answer, Failure> {
     for j in &jobs {
         match dispatch.admit(&j.sheet.bytes, j.code) {
             Ok((number, place)) => {
-                let messages = named(&j.sheet.bytes)?.messages.len();
+                let messages = named(&j.sheet)?.messages.len();
                 let told = words::count(messages, "message");
                 answer.line(&format!("job {} in place {}: {}, {}, {}", number, place, j.sheet.name, words::channel(j.code), told));
                 held.insert(number, j);
@@ -55,9 +56,9 @@ fn take_turns(dispatch: &mut Dispatch, held: &BTreeMap<u32, &Job>, answer: &mut 
             Turn::Unanswered => {}
             Turn::Answered { number, verdict } => match held.get(&number) {
                 Some(job) => say_answer(answer, turn, number, job, &verdict)?,
-                None => return Err(Failure(format!("the library answers job {}, which was not admitted", number))),
+                None => return Err(Failure::new(format!("the library answers job {}, which was not admitted", number))),
             },
-            Turn::Refused(r) => return Err(Failure(format!("the library refuses a turn: {}", words::refusal(r)))),
+            Turn::Refused(r) => return Err(Failure::new(format!("the library refuses a turn: {}", words::refusal(r)))),
         }
     }
     Ok(())
@@ -71,7 +72,7 @@ fn say_answer(answer: &mut Answer, turn: u32, number: u32, job: &Job, verdict: &
     };
     answer.line(&format!("turn {}: job {} answered: {}", turn, number, told));
     if let Verdict::Locked(lock) = verdict {
-        say_lock(answer, &job.sheet.bytes, job.code, lock, &named(&job.sheet.bytes)?);
+        say_lock(answer, &job.sheet.bytes, job.code, lock, &named(&job.sheet)?);
     }
     Ok(())
 }

@@ -12,7 +12,7 @@ pub fn run(call: &mut Call) -> Result<Answer, Failure> {
     let mut answer = Answer::new();
     match face::messages(&sheet.bytes) {
         Ok(messages) => {
-            let named = Named { messages };
+            let named = Named::of(messages, &sheet);
             for m in 0..named.messages.len() {
                 answer.line(&format!("{}: send is event {}, receive is event {}", named.message(m), 2 * m, 2 * m + 1));
             }

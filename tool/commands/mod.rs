@@ -3,21 +3,24 @@
 pub mod check;
 pub mod choices;
 pub mod cure;
+pub mod diagram;
 pub mod dispatch;
 pub mod messages;
 pub mod permitted;
 pub mod races;
 pub mod replay;
 pub mod senders;
+pub mod sheet;
 pub mod steps;
 pub mod taps;
 pub mod trace;
 pub mod watch;
 
-use crate::face::{self, Lock, Refusal, Standing, Step, Verdict};
+use crate::face::{self, Lock, Message, Refusal, Standing, Step, Verdict};
 use crate::input::{Failure, Inputs, Source};
 use crate::output::{Answer, Status};
 use crate::refusals::{self, Handed};
+use crate::sheet::Sheet;
 use crate::words::{self, Named};
 use std::ffi::OsString;
 
@@ -33,8 +36,8 @@ pub struct Call {
 
 impl Call {
     /// The sheet: the file at this place among the words, or standard input.
-    pub fn sheet(&mut self, at: usize) -> Result<Source, Failure> {
-        self.inputs.read(self.files.get(at), "sheet")
+    pub fn sheet(&mut self, at: usize) -> Result<Sheet, Failure> {
+        crate::sheet::of(self.inputs.read(self.files.get(at), "sheet")?)
     }
 
     pub fn file(&mut self, at: usize, what: &str) -> Result<Source, Failure> {
@@ -52,8 +55,14 @@ impl Call {
 }
 
 /// Tells a refusal of a sheet.
-pub fn refuse(answer: &mut Answer, sheet: &Source, r: Refusal, handed: &Handed) {
-    answer.note(&format!("{}: {}", sheet.name, refusals::of_sheet(r, &sheet.bytes, handed)));
+pub fn refuse(answer: &mut Answer, sheet: &Sheet, r: Refusal, handed: &Handed) {
+    answer.note(&format!("{}: {}", sheet.name, refusals::of_sheet(r, sheet, handed)));
+    answer.worsen(Status::Refused);
+}
+
+/// Tells a refusal of a trace.
+pub fn refuse_trace(answer: &mut Answer, trace: &Source, r: Refusal, length: usize) {
+    answer.note(&format!("{}: {}", trace.name, refusals::of_trace(r, length)));
     answer.worsen(Status::Refused);
 }
 
@@ -64,11 +73,13 @@ pub fn refuse_table(answer: &mut Answer, table: &Source, r: Refusal) {
 }
 
 /// The messages of a sheet that a call accepted.
-pub fn named(text: &[u8]) -> Result<Named, Failure> {
-    match face::messages(text) {
-        Ok(messages) => Ok(Named { messages }),
-        Err(r) => Err(Failure(format!("the library lists no messages of a sheet that it accepted: {}", words::refusal(r)))),
-    }
+pub fn named(sheet: &Sheet) -> Result<Named, Failure> {
+    Ok(Named::of(listed(&sheet.bytes)?, sheet))
+}
+
+/// The messages of a text that a call accepted.
+pub fn listed(text: &[u8]) -> Result<Vec<Message>, Failure> {
+    face::messages(text).map_err(|r| Failure::new(format!("the library lists no messages of a sheet that it accepted: {}", words::refusal(r))))
 }
 
 pub fn trace_bytes(steps: &[Step]) -> Vec<u8> {
@@ -85,12 +96,12 @@ pub fn say_lock(answer: &mut Answer, text: &[u8], code: u32, lock: &Lock, named:
 }
 
 /// The answer of a check on a channel: its line as the paper prints it and, where it is locked, the steps. A refusal is handed back.
-pub fn say_verdict(answer: &mut Answer, text: &[u8], code: u32, verdict: &Verdict) -> Result<Option<Refusal>, Failure> {
+pub fn say_verdict(answer: &mut Answer, sheet: &Sheet, code: u32, verdict: &Verdict) -> Result<Option<Refusal>, Failure> {
     answer.line(&words::paper_line(code, verdict));
     match verdict {
         Verdict::Free => Ok(None),
         Verdict::Locked(lock) => {
-            say_lock(answer, text, code, lock, &named(text)?);
+            say_lock(answer, &sheet.bytes, code, lock, &named(sheet)?);
             Ok(None)
         }
         Verdict::Refused(r) => Ok(Some(*r)),

@@ -22,7 +22,7 @@ pub fn run(call: &mut Call) -> Result<Answer, Failure> {
         answer.line(&format!("{}: {}", words::channel(code), number));
         if !races.is_empty() {
             answer.worsen(Status::Bad);
-            let named = named(&sheet.bytes)?;
+            let named = named(&sheet)?;
             races.iter().for_each(|r| answer.line(&named.race(*r)));
         }
     }

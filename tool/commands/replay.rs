@@ -1,6 +1,6 @@
 //! `replay`: what the step rules say of a trace, from bytes or from text.
 
-use super::{named, refuse, trace_bytes, Call};
+use super::{named, refuse, refuse_trace, trace_bytes, Call};
 use crate::face::{self, Monitor, Standing, Step, Taken};
 use crate::input::{Failure, Source};
 use crate::output::{Answer, Status};
@@ -49,7 +49,7 @@ pub fn trace(source: &Source) -> Result<Trace, Failure> {
         match steps_text::line(line) {
             Line::Step(kind, message) => trace.push(kind, message),
             Line::Remark => {}
-            _ => return Err(Failure(format!("{}: line {} is no step: send M, deliver M or consume M", source.name, i + 1))),
+            _ => return Err(Failure::new(format!("{}: line {} is no step: send M, deliver M or consume M", source.name, i + 1))),
         }
     }
     Ok(trace)
@@ -63,7 +63,7 @@ pub fn run(call: &mut Call) -> Result<Answer, Failure> {
         Ok(Standing::Finished) => answer.line("finished"),
         Ok(Standing::Open) => answer.line("open"),
         Ok(Standing::Stuck(waits)) => {
-            let named = named(&sheet.bytes)?;
+            let named = named(&sheet)?;
             answer.worsen(Status::Bad);
             answer.line("stuck");
             named.stuck(&waits, &named.held(&trace.steps())).iter().for_each(|l| answer.line(l));
@@ -71,14 +71,12 @@ pub fn run(call: &mut Call) -> Result<Answer, Failure> {
         Ok(Standing::NotAllowed(index)) => {
             answer.worsen(Status::Bad);
             answer.line(&format!("step {} is not allowed: {}", index, trace.told[index]));
-            if let Some(why) = why(&sheet.bytes, code, &trace, index, &named(&sheet.bytes)?) {
+            if let Some(why) = why(&sheet.bytes, code, &trace, index, &named(&sheet)?) {
                 answer.line(&why);
             }
         }
-        Err(r) => {
-            let refused = if r.number == TRACE { &source } else { &sheet };
-            refuse(&mut answer, refused, r, &Handed { code, trace: trace.bytes.len(), ..Handed::default() });
-        }
+        Err(r) if r.number == TRACE => refuse_trace(&mut answer, &source, r, trace.bytes.len()),
+        Err(r) => refuse(&mut answer, &sheet, r, &Handed { code, ..Handed::default() }),
     }
     Ok(answer)
 }

@@ -9,7 +9,7 @@ use crate::refusals::Handed;
 pub fn run(call: &mut Call) -> Result<Answer, Failure> {
     let (sheet, code) = (call.sheet(0)?, call.code());
     let mut answer = Answer::new();
-    if let Some(r) = say_verdict(&mut answer, &sheet.bytes, code, &face::check(&sheet.bytes, code))? {
+    if let Some(r) = say_verdict(&mut answer, &sheet, code, &face::check(&sheet.bytes, code))? {
         refuse(&mut answer, &sheet, r, &Handed { code, ..Handed::default() });
     }
     Ok(answer)

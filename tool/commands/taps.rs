@@ -13,12 +13,12 @@ pub fn run(call: &mut Call) -> Result<Answer, Failure> {
     let mut answer = Answer::new();
     match face::taps(&sheet.bytes, &first, &second) {
         Taps::Fit(course) => {
-            let named = named(&sheet.bytes)?;
+            let named = named(&sheet)?;
             answer.line("fit");
             course.iter().for_each(|e| answer.line(&named.event(*e)));
         }
         Taps::Clash(e) => {
-            let named = named(&sheet.bytes)?;
+            let named = named(&sheet)?;
             answer.line(&format!("clash: {} would have to precede itself", named.event(e)));
             answer.worsen(Status::Bad);
         }

@@ -7,6 +7,7 @@ use crate::input::{failure, Failure, Source, STANDARD_INPUT};
 use crate::output::{self, Answer, Status};
 use crate::refusals::{Handed, CHANNEL, SWITCH};
 use crate::run::{self, Run};
+use crate::sheet::Sheet;
 use crate::steps_text::{self, Line};
 use crate::words::{self, Named};
 use std::io::{self, BufRead, BufReader, Read};
@@ -15,7 +16,7 @@ use std::io::{self, BufRead, BufReader, Read};
 const LINE_BYTES: u64 = 4096;
 
 struct Watch {
-    sheet: Source,
+    sheet: Sheet,
     named: Named,
     state: Monitor,
     answer: Answer,
@@ -27,13 +28,13 @@ pub fn run(call: &mut Call) -> Result<Answer, Failure> {
     let mut answer = Answer::new();
     let state = match Monitor::open(&sheet.bytes, code) {
         Taken::Taken(state) => *state,
-        Taken::Forbidden => return Err(Failure("the library forbids the opening of a run".to_string())),
+        Taken::Forbidden => return Err(Failure::new("the library forbids the opening of a run".to_string())),
         Taken::Refused(r) => {
             refuse(&mut answer, &sheet, r, &Handed { code, ..Handed::default() });
             return Ok(answer);
         }
     };
-    let named = named(&sheet.bytes)?;
+    let named = named(&sheet)?;
     answer.line(&format!("opened on {}: {}", words::channel(code), words::count(named.messages.len(), "message")));
     let mut watch = Watch { sheet, named, state, answer };
     match fed {
@@ -53,7 +54,7 @@ impl Watch {
         }
         let trace = trace(source)?;
         if trace.bytes.len() % 2 == 1 {
-            return Err(Failure(format!("{}: {} bytes, and a step has two", source.name, trace.bytes.len())));
+            return Err(Failure::new(format!("{}: {} bytes, and a step has two", source.name, trace.bytes.len())));
         }
         for (s, echo) in trace.steps().iter().zip(&trace.told) {
             self.step(u32::from(s.kind), u32::from(s.message), echo);
@@ -78,7 +79,7 @@ impl Watch {
                 return Ok(());
             }
             if read as u64 == LINE_BYTES && line.last() != Some(&b'\n') {
-                return Err(Failure(format!("{}: a line of over {} bytes is no step", STANDARD_INPUT, LINE_BYTES)));
+                return Err(Failure::new(format!("{}: a line of over {} bytes is no step", STANDARD_INPUT, LINE_BYTES)));
             }
             self.take_line(&line);
         }
@@ -155,7 +156,7 @@ impl Watch {
     fn why_no_switch(&self) -> String {
         let full = (0..face::BOARDS).map(|b| (b, self.state.held(b))).find(|(_, held)| held.len() > 1);
         match full {
-            Some((board, held)) => format!("board {} holds {}", board, self.named.several(&held)),
+            Some((board, held)) => format!("{} holds {}", self.named.board_name(board), self.named.several(&held)),
             None => format!("under way: {}", self.named.several(&self.state.under_way())),
         }
     }
@@ -167,7 +168,7 @@ impl Watch {
         for board in 0..face::BOARDS {
             let held = self.state.held(board);
             if !held.is_empty() {
-                words.push_str(&format!("; board {} holds {}", board, self.named.several(&held)));
+                words.push_str(&format!("; {} holds {}", self.named.board_name(board), self.named.several(&held)));
             }
         }
         self.answer.line(&words);

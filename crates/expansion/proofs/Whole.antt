@@ -3,7 +3,7 @@
 use Prim.Native.Nat.{ℕ, _+_, _-_, _*_, _<_, _≤_}
 use native.Mathlib.Omega.{arith}
 use mathlib.Core.Path.{_≡_, refl, sym, _∙_, ap, subst}
-use mathlib.Core.Bool.{true}
+use mathlib.Core.Bool.{Bool, true}
 use mathlib.Core.List.{List, _++_, append-nil}
 use lib.ListN.{length, getD, replicate, length-replicate, drop-of-length-le}
 use Rattle.model.specs.Limits.{boards, messagesMost, levels}
@@ -173,6 +173,10 @@ module _ (options : ℕ) (kind one two : List ℕ) (count : ℕ) where
               }
 
 -- The walk from the beginning: every event is on board 0, and nothing is past.
+pub nothing-past : replicate (boards * width) 0 ≡ zeros (boards * width)
+unfolding zeros
+nothing-past = refl
+
 module _ (words : List ℕ) (l : length words ≡ 2 * messagesMost * width) where
   abbrev nothing : Store
   nothing = storeOf (zeros (2 * messagesMost)) words (zeros (boards * width))

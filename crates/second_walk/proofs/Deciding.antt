@@ -1,10 +1,11 @@
 -- What is decided of one round and of two, from what their parts handed on. Assumes nothing.
-use Prim.Native.Nat.{ℕ}
+use Prim.Native.Nat.{ℕ, _*_}
 use native.Mathlib.Omega.{arith}
 use mathlib.Core.Path.{_≡_, refl, sym, _∙_, ap, subst, subst⁻¹}
 use mathlib.Core.List.{List, []}
 use mathlib.Core.Option.{none}
 use lib.ListN.{length}
+use Rattle.model.specs.Limits.{messagesMost}
 use Rattle.model.specs.Refusal.{Out, ok, refusal, andThen}
 use Rattle.model.specs.Rows.{Row}
 use Rattle.model.specs.Expansion.{Progress, expand}
@@ -16,10 +17,17 @@ use Rattle.model.specs.Answer as model
 use Rattle.model.specs.Answer.{expandedWith, expandedOf, verdictOf, answerFor, numbersOf, traceAfter}
 use Rattle.model.specs.Rounds.{rounds, walkedAgain, firstVerdict, secondVerdict, roundsVerdict, roundsAnswer}
 use Rattle.model.proofs.Refusal.{not-refused, and-then-ok}
+use Rattle.model.proofs.Standing.{read-fits}
+use Rattle.model.proofs.Accepted.{walk-count, walk-boards}
+use Rattle.relation.specs.Width.{width}
 use Rattle.relation.specs.Scenario.{scenarioIn}
+use Rattle.sheet.specs.Bridge.{rowsOf}
+use Rattle.expansion.specs.Lent.{RowsRead}
 use Rattle.expansion.specs.Outcome.{outcomeOf}
 use Rattle.expansion.specs.declared.Expanded.{Expanded}
 use Rattle.expansion.specs.declared.Expanded.the-variants as expanded
+use Rattle.scenario.specs.Contract.{Fit}
+use Rattle.scenario.proofs.Parts.{fit-from}
 use Rattle.verdict.specs.declared.Answer.{Answer}
 use Rattle.verdict.specs.declared.Answer.the-variants as answer
 use Rattle.verdict.specs.Parts as parts
@@ -140,3 +148,14 @@ module _ (file : List Row) (code : ℕ) (k : OneLocks (rowsRepeatable file) code
         ∙ ap (λ (v : model.Answer). firstVerdict v (verdictOf (scenarioOf (rounds (k .one) 2)) code)) (sym lock)
         ∙ ap (λ (p : Out Exchange). roundsAnswer p code) (sym (k .isOne)) in
         subst (λ v. Judges v trace traceExit q) same j
+
+-- the boards and the words of the rows walked once
+pub one-fit : (kind one two : List ℕ) (count : ℕ) (start : List ℕ) → RowsRead kind one two count start → (boards words : List ℕ) (r : Expanded)
+    → outcomeOf r boards words ≡ expandedOf (rowsOf kind one two count) → (messages : ℕ) → r ≡ expanded.Messages messages
+    → length boards ≡ 2 * messagesMost → length words ≡ 2 * messagesMost * width → Fit messages boards words
+one-fit kind one two count start lent boards words r h messages i b w =
+    let file = rowsOf kind one two count in
+    let S = scenarioIn messages boards words in
+    let e : expandedWith [] file ≡ ok S = sym h ∙ ap (λ (q : Expanded). outcomeOf q boards words) i in
+    let fits = read-fits (lent .read .0) (lent .read .1) file (lent .read .2) in
+    fit-from messages boards words b w (walk-count [] file fits S e) (walk-boards [] file fits S e)

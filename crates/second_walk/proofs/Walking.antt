@@ -88,9 +88,9 @@ module _ (kind one two : List ℕ) (count : ℕ) (start : List ℕ) (lent : Rows
   few = omega (arith, rows-length kind one two 0 count, sheets-lent kind one two count start lent 0 .rows .few)
 
   -- the first walk is refused
-  pub first-refused : (code number line : ℕ) → r ≡ ended.Refused number line → rowsRepeatable file ≡ refusal number line
+  pub first-refused : (number line : ℕ) → r ≡ ended.Refused number line → rowsRepeatable file ≡ refusal number line
   unfolding rowsRepeatable andThen
-  first-refused code number line i =
+  first-refused number line i =
       let e : expand metOps [] file nothingMet ≡ refusal number line =
       sym (walk-plain file plain (optionsOf options))
       ∙ once-refused (optionsOf options) file fits nothing (nothing-begins words l) number line (ends-refused r t _ h number line i) in

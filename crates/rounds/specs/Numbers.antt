@@ -20,11 +20,11 @@ abbrev pub numbersIn : RoundsCheckAnswer → Numbers
 numbersIn r = record { word = r .word; one = r .one; two = r .two; three = r .three }
 
 -- the numbers behind the word fit 32 bits
-pub record Small (r : Numbers) (rounds : ℕ) : Type 0 where
+pub record Small (r : Numbers) (number : ℕ) : Type 0 where
   pub one : r .one < 2 ^ 32
   pub two : r .two < 2 ^ 32
   pub three : r .three < 2 ^ 32
-  pub rounds : rounds < 2 ^ 32
+  pub rounds : number < 2 ^ 32
 
 -- the numbers told are those of an answer
 pub record Told (answer : Rounds) (r : RoundsCheckAnswer) : Type 0 where

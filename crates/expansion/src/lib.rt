@@ -121,6 +121,7 @@ pub fn walk_once(
     ensures { λ r. ⌜ Ends r (storeOf (now (boards .exit)) (now (words .exit)) (now (past .exit))) (walkedOn (optionsOf options) (rowsOf (now (kind .entry)) (now (one .entry)) (now (two .entry)) count) (beginning (now (words .entry)))) ⌝ }
 {
     clear_boards(boards);
+    let nothing = Walk::fresh();
     walk_on(
         kind,
         one,
@@ -131,7 +132,7 @@ pub fn walk_once(
         boards,
         words,
         past,
-        Walk::fresh(),
+        nothing,
     )
 }
 
@@ -152,7 +153,17 @@ pub fn expand_list(
     ensures { λ r. ⌜ countedOf r (now (boards .exit)) (now (words .exit)) ≡ countedWith (optionsOf options) (rowsOf (now (kind .entry)) (now (one .entry)) (now (two .entry)) count) ⌝ }
 {
     let mut past = [0u64; PAST];
-    let ended = walk_once(kind, one, two, count, start, options, boards, words, &mut past);
+    let ended = walk_once(
+        kind,
+        one,
+        two,
+        count,
+        start,
+        options,
+        boards,
+        words,
+        &mut past,
+    );
     match ended {
         Ended::Refused(number, line) => Counted::Refused(number, line),
         Ended::At(walk) => Counted::Messages(walk.count, walk.choices),

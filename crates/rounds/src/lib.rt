@@ -67,7 +67,15 @@ fn judge(text: &[u8], code: usize, words: &mut [u64], trace: &mut [u8]) -> Round
     let mut two = [0u16; model::ROWS_MOST];
     let mut start = [0u16; model::SHEETS];
     let mut boards = [0u8; model::EVENTS_MOST];
-    let verdict = sheet::read(text, false, &mut kind, &mut one, &mut two, &mut start, words);
+    let verdict = sheet::read(
+        text,
+        false,
+        &mut kind,
+        &mut one,
+        &mut two,
+        &mut start,
+        words,
+    );
     match verdict {
         Verdict::Refused(number, line) => Rounds::Refused(number, line),
         Verdict::Rows(count) => {

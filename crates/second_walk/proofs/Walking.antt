@@ -5,7 +5,7 @@ use mathlib.Core.Path.{_≡_, refl, sym, _∙_, ap, subst}
 use mathlib.Core.List.{List, []}
 use mathlib.Core.Option.{Option, none, some}
 use lib.ListN.{length}
-use Rattle.model.specs.Limits.{boards, messagesMost, rowsMost}
+use Rattle.model.specs.Limits.{boards, messagesMost, rowsMost, callsMost}
 use Rattle.model.specs.Refusal.{Out, ok, refusal, andThen}
 use Rattle.model.specs.Rows.{Row}
 use Rattle.model.specs.Expansion.{Progress, expand}
@@ -67,6 +67,24 @@ module _ (r : Ended) (t : Store) (expected : Out (Progress Store)) (h : Ends r t
         rowLong = omega (arith, m .countMost);
         boardsBelow = λ x l. m .boardsMost x;
       }
+
+-- a walk goes on from where another rests: with no more messages, and room for what is past
+pub rests-on : (w v : Walk) (events words past past′ : List ℕ) → Rests w (storeOf events words past) → length past′ ≡ boards * width → v .calls ≤ callsMost
+    → v .first ≡ v .count → v .count ≤ w .count → Rests v (storeOf events words past′)
+rests-on w v events words past past′ r l few empty less =
+    let m = r .room in
+    record {
+      few = few;
+      empty = empty;
+      room = record {
+        eventsLong = m .eventsLong;
+        wordsLong = m .wordsLong;
+        pastLong = l;
+        firstMost = omega arith;
+        countMost = omega (arith, m .countMost);
+        boardsMost = m .boardsMost;
+      };
+    }
 
 ends-refused : (r : Ended) (t : Store) (expected : Out (Progress Store)) → Ends r t expected → (number line : ℕ) → r ≡ ended.Refused number line
     → expected ≡ refusal number line

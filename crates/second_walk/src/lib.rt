@@ -16,6 +16,8 @@ ghost use Rattle.second_walk.specs.Judged.{timesVerdict, Judges};
 use blocks::PAST;
 use expansion::Ended;
 use expansion::Expanded;
+use expansion::walk_on;
+use expansion::walk_once;
 use lowest_race::Lowest;
 use verdict::Answer;
 
@@ -35,8 +37,8 @@ pub enum Twice {
     Refused(u8, usize),
 }
 
-// A list of options for rows that have no A row.
-const NO_OPTIONS: usize = 0;
+// The list of options for rows that have no A row.
+const PLAIN: usize = 0;
 
 const ONE_ROUND: usize = 1;
 
@@ -44,7 +46,7 @@ const TWO_ROUNDS: usize = 2;
 
 // The rows walked twice, the second walk going on where the first ended. One round's race is looked for between the walks; that it is
 // locked is said only where no refusal comes after it.
-pub fn walk_twice(
+fn walk_twice(
     kind: &[u8],
     one: &[u16],
     two: &[u16],
@@ -62,25 +64,47 @@ pub fn walk_twice(
 {
     let mut past = [0u64; PAST];
     let rule = race::rule_of(code);
-    let first = expansion::walk_once(kind, one, two, count, start, NO_OPTIONS, boards, words, &mut past);
+    let first = walk_once(
+        kind,
+        one,
+        two,
+        count,
+        start,
+        PLAIN,
+        boards,
+        words,
+        &mut past,
+    );
     match first {
         Ended::Refused(number, line) => Twice::Refused(number, line),
         Ended::At(once) => {
-            let lowest = lowest_race::lowest_race(words, boards, once.count, rule);
-            let second = expansion::walk_on(kind, one, two, count, start, NO_OPTIONS, boards, words, &mut past, once);
+            let messages = once.count;
+            let lowest = lowest_race::lowest_race(words, boards, messages, rule);
+            let second = walk_on(
+                kind,
+                one,
+                two,
+                count,
+                start,
+                PLAIN,
+                boards,
+                words,
+                &mut past,
+                once,
+            );
             match second {
-                Ended::Refused(number, line) => Twice::Refused(number, line),
+                Ended::Refused(limit, line) => Twice::Refused(limit, line),
                 Ended::At(twice) => match lowest {
                     Lowest::Nothing => Twice::OneFree(twice.count),
                     Lowest::Race(_, _) => Twice::OneLocked,
-                }
+                },
             }
         }
     }
 }
 
 // What is decided of so many rounds, whose scenario is in boards and words.
-pub fn decide_rounds(
+fn decide_rounds(
     words: &[u64],
     boards: &[u8],
     count: usize,

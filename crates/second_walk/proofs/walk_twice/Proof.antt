@@ -1,8 +1,12 @@
 -- `second_walk::walk_twice` meets its contract. Assumes nothing.
+use Prim.Native.Nat.{ℕ, _*_}
 use native.Mathlib.Omega.{arith}
+use lib.ListN.{length-replicate}
 use borrow.Author.Needs.{needs}
+use Rattle.model.specs.Limits.{boards}
+use Rattle.relation.specs.Width.{width}
 use Rattle.expansion.proofs.Whole.{nothing-past}
-use Rattle.second_walk.proofs.Walking.{ends-rests, ends-lent, first-refused, second-refused, one-locks, one-frees}
+use Rattle.second_walk.proofs.Walking.{ends-rests, rests-on, ends-lent, first-refused, second-refused, one-locks, one-frees}
 use Rattle.second_walk.proofs.walk_twice.Statement.{statement}
 use Rattle.second_walk.proofs.walk_twice.Tie as tie
 
@@ -31,7 +35,11 @@ slice-aggregate-walk-on c = search needs
 
 walk-on-requires : tie.Need-walk-on-requires
 walk-on-requires c κs =
-    ((c .before .before .before .before .before .before .before .before .before .before .before .before .before .before .before .before .before .before .before .before .before .before .before .before .before .pre .0), ends-rests _ _ _ (c .before .before .before .before .before .before .before .before .before .before .before .before .before .before .walk-once .ensures) _ (c .before .before .before .before .before .before .before .first2 .given .1))
+    let rests = (ends-rests _ _ _ (c .before .before .before .before .before .before .before .before .before .before .before .before .before .before .walk-once .ensures) _ (c .before .before .before .before .before .before .before .first2 .given .1)) in (
+      (c .before .before .before .before .before .before .before .before .before .before .before .before .before .before .before .before .before .before .before .before .before .before .before .before .before .pre .0),
+      rests-on _ _ _ _ _ _ rests (omega (arith, rests .room .pastLong, length-replicate {A = ℕ} (boards * width) 0)) (omega (arith, rests .few))
+          (omega (arith, rests .empty)) (omega arith),
+    )
 
 enum-known-second : tie.Need-enum-known-second
 enum-known-second c = search needs

@@ -1,7 +1,9 @@
-/* Runs one implementation on one fixed sheet, on all six channels or one: for callgrind to count.
- * usage: bench proved|careful|text SHEET MESSAGES [CODE]; `text` prints the sheet itself.
- *        bench proved|careful SHEET MESSAGES counter JOBS; the sheet as so many jobs of a dispatcher, a line a call. */
+/* Runs one implementation on one fixed sheet: for callgrind to count.
+ * usage: bench proved|careful SHEET MESSAGES [CALL] [CODE]; a call, or all, on a channel, or all six. The call `empty` is trace_check of no steps.
+ *        bench proved|careful SHEET MESSAGES counter JOBS; the sheet as so many jobs of a dispatcher, a line a call.
+ *        bench text SHEET MESSAGES; the sheet itself. */
 #include "check.h"
+#include <ctype.h>
 #include <stdio.h>
 #include <stdlib.h>
 #include <string.h>
@@ -31,7 +33,7 @@ static void longest_trace(int n) {
     line("P", 2 * n - 3, 2 * n - 1);
 }
 
-/* Each message is sent behind the receive of the one before: one long chain over the boards. */
+/* Each message is sent after the receive of the one before: one long chain over the boards. */
 static void chain(int n) {
     begin();
     for (int m = 0; m < n; m++) {
@@ -40,7 +42,7 @@ static void chain(int n) {
     }
 }
 
-/* The chain, but for its last message, which nothing orders behind the others: its receive is put behind the one before, a race. */
+/* The chain, but for its last message, which nothing orders after the others: its receive is put after the one before, a race. */
 static void last_race(int n) {
     chain(n - 1);
     line("M", (n + 3) % 16, (n - 1) % 16);
@@ -56,7 +58,7 @@ static void most_rows(int n) {
     for (int i = 40; i < n; i++) line("M", 15, 15);
 }
 
-/* As many P rows as the file has room for, each behind the last on one of two boards: the later messages first. */
+/* As many P rows as the file has room for, each after the last on one of two boards: the later messages first. */
 static void dense(int n) {
     begin();
     for (int m = 0; m < n; m++) line("M", 0, 1);
@@ -107,20 +109,33 @@ static void case_2(int n) {
     line("P", 1, 3);
 }
 
-/* 1,024 calls of empty sheets; n is not used. */
-static void calls(int n) {
-    (void)n;
+/* 1,024 calls of a sheet that is still open, and after them in sheet 0 so many messages. */
+static void calling(int messages) {
     begin();
     for (int i = 0; i < 31; i++) line("C", 1, 0);
     line("C", 2, 0);
+    for (int i = 0; i < messages; i++) line("M", 0, 1);
     line("S", 1, 0);
     for (int i = 0; i < 32; i++) line("C", 2, 0);
     line("S", 2, 0);
 }
 
+/* 1,024 calls of empty sheets; n is not used. */
+static void calls(int n) {
+    (void)n;
+    calling(0);
+}
+
 /* 1,024 calls of a sheet of blocks: several hundred thousand of them. */
 static void blocks(int n) {
     calls(n);
+    for (int i = 0; i < 440; i++) line("B", 0, 0);
+}
+
+/* The same with one message, the last that is walked: who looks for its row passes all the blocks. */
+static void late_message(int n) {
+    (void)n;
+    calling(1);
     for (int i = 0; i < 440; i++) line("B", 0, 0);
 }
 
@@ -160,7 +175,7 @@ static void streams(int n) {
     }
 }
 
-/* Eight A rows behind a chain: 256 lists, each a walk of n messages, free; with a race in the second sheet, the second list locks. */
+/* Eight A rows after a chain: 256 lists, each a walk of n messages, free; with a race in the second sheet, the second list locks. */
 static void choosing(int n, int race) {
     begin();
     for (int m = 0; m < n - 16; m++) {
@@ -227,15 +242,39 @@ static void races_counted(int n) {
     races_len = 0;
 }
 
+/* The table of permitted senders forbids a message from board 15 to itself: the last message. */
+static int forbids;
+
+static void forbidden(int n) {
+    begin();
+    for (int m = 0; m < n - 1; m++) line("M", m % 13, (m + 1) % 13);
+    line("M", 15, 15);
+    forbids = 1;
+}
+
+static void forbidden_chain(int n) {
+    chain(n - 1);
+    line("M", 15, 15);
+    forbids = 1;
+}
+
 static const struct { const char *name; void (*make)(int); } sheets[] = {
     {"longest-trace", longest_trace}, {"chain", chain}, {"dense", dense}, {"calls", calls}, {"blocks", blocks}, {"refused", refused},
     {"chain-twice", chain_twice}, {"last-race", last_race}, {"most-rows", most_rows}, {"order-rows", order_rows}, {"few", few}, {"case-2", case_2},
     {"early-race", early_race}, {"streams", streams}, {"choices", choices}, {"choices-locked", choices_locked},
     {"taps-up", taps_up}, {"taps-down", taps_down}, {"taps-crossed", taps_crossed}, {"taps-clash", taps_clash},
-    {"many-races", many_races}, {"races-counted", races_counted},
+    {"many-races", many_races}, {"races-counted", races_counted}, {"late-message", late_message},
+    {"forbidden", forbidden}, {"forbidden-chain", forbidden_chain},
 };
 
-/* A run opened, the check's own steps fed to the monitor one at a time, and a switch at its end. */
+/* A word and its numbers, and what each board waits for. */
+static void say_waits(const char *what, uint32_t word, uint32_t one, uint32_t two, const uint16_t *waits) {
+    printf("%s: %u %u %u, waits", what, word, one, two);
+    for (size_t b = 0; b < CHANNEL_CHECK_BOARDS; b++) printf(" %u", waits[b]);
+    printf("\n");
+}
+
+/* A run opened, the check's own steps fed to the monitor one at a time, where it then stands, and a switch at its end. */
 static void watch(int proved, uint32_t code, const uint8_t *steps, uint32_t count, uint64_t *scratch) {
     enum { WORDS = CHANNEL_CHECK_SCRATCH_WORDS };
     const uint8_t *sheet = (const uint8_t *)text;
@@ -245,12 +284,32 @@ static void watch(int proved, uint32_t code, const uint8_t *steps, uint32_t coun
         a = (proved ? monitor_step : careful_monitor_step)(a.next, steps[2 * i], steps[2 * i + 1], sheet, len, scratch, WORDS);
         sum = 31 * sum + a.word;
     }
+    monitor_standing_answer s = (proved ? monitor_standing : careful_monitor_standing)(a.next, sheet, len, scratch, WORDS);
+    say_waits("standing", s.word, s.one, s.two, s.waits);
     a = (proved ? monitor_switch : careful_monitor_switch)(a.next, 5, sheet, len, scratch, WORDS);
     for (size_t i = 0; i < sizeof a.next.done / 8; i++) sum = 31 * sum + (unsigned)(a.next.done[i] ^ a.next.way[i] ^ a.next.done[i] >> 32);
     printf("watched: %u %u %u, %u\n", a.word, a.one, a.two, sum);
 }
 
-/* One call, and its answer, with a sum of the trace so that two implementations can be compared. */
+static void replay(int proved, uint32_t code, uint64_t *scratch, const uint8_t *trace, size_t trace_len) {
+    trace_check_answer t = (proved ? trace_check : careful_trace_check)((const uint8_t *)text, len, code, scratch, CHANNEL_CHECK_SCRATCH_WORDS, trace, trace_len);
+    say_waits("replayed", t.word, t.one, t.two, t.waits);
+}
+
+/* The call that is asked for; NULL: all but `empty`. */
+static const char *only;
+
+static int is_asked(const char *call) { return !only || strcmp(only, call) == 0; }
+
+static void choose(int proved, uint32_t code, uint64_t *scratch) {
+    uint8_t trace[CHANNEL_CHECK_TRACE_BYTES] = {0};
+    unsigned sum = 0;
+    choice_check_answer l = (proved ? choice_check : careful_choice_check)((const uint8_t *)text, len, code, scratch, CHANNEL_CHECK_SCRATCH_WORDS, trace, CHANNEL_CHECK_TRACE_BYTES);
+    for (size_t i = 0; i < sizeof trace; i++) sum = 31 * sum + trace[i];
+    printf("choices: %u %u %u %u %u %u, trace %u\n", l.word, l.one, l.two, l.three, l.length, l.choices, sum);
+}
+
+/* The check, and its answer, with a sum of the trace so that two implementations can be compared; then the calls that take its steps. */
 static void run(int proved, uint32_t code) {
     static uint64_t scratch[CHANNEL_CHECK_SCRATCH_WORDS];
     static uint8_t trace[CHANNEL_CHECK_TRACE_BYTES];
@@ -259,14 +318,10 @@ static void run(int proved, uint32_t code) {
     for (size_t i = 0; i < sizeof trace; i++) sum = 31 * sum + trace[i];
     printf("%zu bytes, code %u: %u %u %u %u, trace %u\n", len, code, a.word, a.one, a.two, a.three, sum);
     if (expected && memcmp(&a, expected, sizeof a) != 0) fprintf(stderr, "FAILED: another answer than the sheet is for\n"), exit(1);
-    trace_check_answer t = (proved ? trace_check : careful_trace_check)((const uint8_t *)text, len, code, scratch, CHANNEL_CHECK_SCRATCH_WORDS, trace, a.word == 1 ? 2 * a.three : 0);
-    printf("replayed: %u %u %u, waits", t.word, t.one, t.two);
-    for (size_t b = 0; b < TRACE_CHECK_BOARDS; b++) printf(" %u", t.waits[b]);
-    printf("\n");
-    choice_check_answer l = (proved ? choice_check : careful_choice_check)((const uint8_t *)text, len, code, scratch, CHANNEL_CHECK_SCRATCH_WORDS, trace, CHANNEL_CHECK_TRACE_BYTES);
-    for (size_t i = 0; i < sizeof trace; i++) sum = 31 * sum + trace[i];
-    printf("choices: %u %u %u %u %u %u, trace %u\n", l.word, l.one, l.two, l.three, l.length, l.choices, sum);
-    watch(proved, code, trace, a.word == 1 ? a.three : 0, scratch);
+    uint32_t steps = a.word == 1 ? a.three : 0;
+    if (is_asked("trace_check")) replay(proved, code, scratch, trace, 2 * steps);
+    if (is_asked("choice_check")) choose(proved, code, scratch);
+    if (is_asked("monitor_step") || is_asked("monitor_standing")) watch(proved, code, trace, steps, scratch);
 }
 
 /* All races of the sheet: the answer, and a sum of the output. */
@@ -278,13 +333,29 @@ static void list(int proved, uint32_t code) {
     printf("races: %u %u %u, output %u\n", a.word, a.one, a.two, sum);
 }
 
-/* 64 rules that partition the pairs, a sender and four receivers each; all permit. */
+/* The messages of the sheet, once, since it is given no channel: the answer, and a sum of the output. */
+static void tell_messages(int proved) {
+    static uint64_t scratch[CHANNEL_CHECK_SCRATCH_WORDS];
+    static uint16_t output[SHEET_MESSAGES_OUTPUT_NUMBERS];
+    sheet_messages_answer a = (proved ? sheet_messages : careful_sheet_messages)((const uint8_t *)text, len, scratch, CHANNEL_CHECK_SCRATCH_WORDS, output, SHEET_MESSAGES_OUTPUT_NUMBERS);
+    unsigned sum = 0;
+    for (size_t i = 0; i < SHEET_MESSAGES_OUTPUT_NUMBERS; i++) sum = 31 * sum + output[i];
+    printf("messages: %u %u %u, output %u\n", a.word, a.one, a.two, sum);
+}
+
+static void replay_nothing(int proved, uint32_t code) {
+    static uint64_t scratch[CHANNEL_CHECK_SCRATCH_WORDS];
+    const uint8_t none = 0;
+    replay(proved, code, scratch, &none, 0);
+}
+
+/* 64 rules that partition the pairs, a sender and four receivers each; all permit, but for the last where the sheet is for one that forbids. */
 static char table[2048];
 static size_t table_len;
 
 static void partition(void) {
     table_len = (size_t)sprintf(table, "from to verdict\n");
-    for (int i = 0; i < 64; i++) table_len += (size_t)sprintf(table + table_len, "%d %d 1\n", 1 << i / 4, 15 << 4 * (i % 4));
+    for (int i = 0; i < 64; i++) table_len += (size_t)sprintf(table + table_len, "%d %d %d\n", 1 << i / 4, 15 << 4 * (i % 4), i < 63 || !forbids);
 }
 
 /* The check of the sheet with that table. */
@@ -344,19 +415,31 @@ static void tap(int proved) {
     printf("tapped: %u %u %u, output %u\n", a.word, a.one, a.two, sum);
 }
 
+/* The calls that are given a channel. The check is always made: others take its steps. */
+static void on_channel(int proved, uint32_t code) {
+    if (only && strcmp(only, "empty") == 0) replay_nothing(proved, code);
+    else run(proved, code);
+    if (is_asked("permitted_check")) permit(proved, code);
+    if (is_asked("sheet_races")) list(proved, code);
+}
+
 int main(int argc, char **argv) {
+    uint32_t from = 0, to = 6;
     if (argc < 4) return 2;
     for (size_t i = 0; i < sizeof sheets / sizeof *sheets; i++)
         if (strcmp(argv[2], sheets[i].name) == 0) sheets[i].make(atoi(argv[3]));
     if (len == 0) return 2;
     if (strcmp(argv[1], "text") == 0) return fwrite(text, 1, len, stdout) != len;
     int proved = strcmp(argv[1], "proved") == 0;
-    if (argc > 5) return counter(proved, (uint32_t)atoi(argv[5])), 0;
+    if (argc > 5 && strcmp(argv[4], "counter") == 0) return counter(proved, (uint32_t)atoi(argv[5])), 0;
+    for (int i = 4; i < argc; i++)
+        if (isdigit((unsigned char)*argv[i])) from = (uint32_t)atoi(argv[i]), to = from + 1;
+        else only = argv[i];
     partition();
-    for (uint32_t code = 0; code < 6; code++)
-        if (argc < 5 || (uint32_t)atoi(argv[4]) == code) run(proved, code), permit(proved, code), list(proved, code);
-    cure(proved);
-    judge_table(proved);
-    tap(proved);
+    for (uint32_t code = from; code < to; code++) on_channel(proved, code);
+    if (is_asked("cure_sheet")) cure(proved);
+    if (is_asked("senders_check")) judge_table(proved);
+    if (is_asked("taps_check")) tap(proved);
+    if (is_asked("sheet_messages")) tell_messages(proved);
     return 0;
 }

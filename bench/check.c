@@ -37,7 +37,7 @@ typedef struct {
     size_t count;
 } sheet;
 
-/* three fields of a line from `at`; the position behind its end, or 0 */
+/* three fields of a line from `at`; the position after its end, or 0 */
 static size_t cut(const uint8_t *text, size_t len, size_t at, size_t from[3], size_t to[3]) {
     size_t field = 0;
     from[0] = at;
@@ -86,7 +86,7 @@ static size_t column_of(const uint8_t *text, const size_t from[3], const size_t 
     return 3;
 }
 
-/* the columns of kind, one and two; the position behind the heading, or 0 */
+/* the columns of kind, one and two; the position after the heading, or 0 */
 static size_t heading(const uint8_t *text, size_t len, size_t column[3]) {
     static const char *names[3] = {"kind", "one", "two"};
     size_t from[3], to[3], at = cut(text, len, 0, from, to);
@@ -95,7 +95,7 @@ static size_t heading(const uint8_t *text, size_t len, size_t column[3]) {
     return at;
 }
 
-/* row `row` from `at`, A rows where `choices` says so; the position behind it, or 0 */
+/* row `row` from `at`, A rows where `choices` says so; the position after it, or 0 */
 static size_t row_at(const uint8_t *text, size_t len, size_t at, const size_t column[3], int choices, sheet *s, size_t row) {
     size_t from[3], to[3], next = cut(text, len, at, from, to);
     if (next == 0 || to[column[0]] - from[column[0]] != 1) return 0;
@@ -459,23 +459,33 @@ static void board_waits(const walk *w, const masks *k, const run *r, uint16_t *w
                 waits[b] = waits_for(w, k, r, 64 * i + (size_t)__builtin_ctzll(bits) + 1);
 }
 
+/* the first n bits of the row are set */
+static int all_set(const uint64_t *row, size_t n) {
+    for (size_t i = 0; i < n / 64; i++)
+        if (row[i] != UINT64_MAX) return 0;
+    return n % 64 == 0 || (~row[n / 64] & ((UINT64_C(1) << n % 64) - 1)) == 0;
+}
+
+/* where a run stands: finished, stuck with what each board waits for, or open */
+static trace_check_answer stand(const walk *w, const masks *k, channel c, const run *r) {
+    if (all_set(r->done, 2 * w->count)) return told(0, 0, 0);
+    for (size_t m = 0; m < w->count; m++)
+        if (may_send(w, k, c, r, m) || may_deliver(w, k, c, r, m) || may_consume(w, k, r, m)) return told(2, 0, 0);
+    trace_check_answer a = told(1, 0, 0);
+    board_waits(w, k, r, a.waits);
+    return a;
+}
+
 static trace_check_answer replay(const walk *w, channel c, const uint8_t *trace, size_t len) {
     masks k;
     run r;
-    int finished = 1;
     boards_masks(w, &k);
     memset(&r, 0, sizeof r);
     for (size_t i = 0; i < len / 2; i++) {
         if (!may(w, &k, c, &r, trace[2 * i], trace[2 * i + 1])) return told(3, (uint32_t)i, 0);
         take(w, &r, trace[2 * i], trace[2 * i + 1]);
     }
-    for (size_t x = 0; x < 2 * w->count && finished; x++) finished = has(r.done, x);
-    if (finished) return told(0, 0, 0);
-    for (size_t m = 0; m < w->count; m++)
-        if (may_send(w, &k, c, &r, m) || may_deliver(w, &k, c, &r, m) || may_consume(w, &k, &r, m)) return told(2, 0, 0);
-    trace_check_answer a = told(1, 0, 0);
-    board_waits(w, &k, &r, a.waits);
-    return a;
+    return stand(w, &k, c, &r);
 }
 
 trace_check_answer careful_trace_check(const uint8_t *text, size_t text_len, uint32_t code, uint64_t *scratch, size_t scratch_len,
@@ -583,6 +593,14 @@ monitor_answer careful_monitor_open(const uint8_t *text, size_t text_len, uint32
     return a;
 }
 
+static run run_of(const monitor *state) {
+    run r;
+    memcpy(r.done, state->done, sizeof r.done);
+    memcpy(r.way, state->way, sizeof r.way);
+    memcpy(r.held, state->buffers, sizeof r.held);
+    return r;
+}
+
 monitor_answer careful_monitor_step(monitor state, uint32_t kind, uint32_t message, const uint8_t *text, size_t text_len,
                                     uint64_t *scratch, size_t scratch_len) {
     walk w;
@@ -591,11 +609,8 @@ monitor_answer careful_monitor_step(monitor state, uint32_t kind, uint32_t messa
     if (r.number) {
         a.word = 2, a.one = r.number, a.two = r.line;
     } else if (kind < 3 && message < w.count) {
-        run now;
         masks k;
-        memcpy(now.done, state.done, sizeof now.done);
-        memcpy(now.way, state.way, sizeof now.way);
-        memcpy(now.held, state.buffers, sizeof now.held);
+        run now = run_of(&state);
         boards_masks(&w, &k);
         if (may(&w, &k, channels[state.code], &now, (uint8_t)kind, message)) {
             take(&w, &now, (uint8_t)kind, message);
@@ -627,6 +642,65 @@ monitor_answer careful_monitor_switch(monitor state, uint32_t code, const uint8_
     else a.next.code = code;
     leave(r, scratch);
     return a;
+}
+
+monitor_standing_answer careful_monitor_standing(monitor state, const uint8_t *text, size_t text_len, uint64_t *scratch, size_t scratch_len) {
+    walk w;
+    masks k;
+    refusal r = watch(text, text_len, state.code, scratch, scratch_len, &w);
+    trace_check_answer t = told(3, r.number, r.line);
+    if (!r.number) {
+        run now = run_of(&state);
+        boards_masks(&w, &k);
+        t = stand(&w, &k, channels[state.code], &now);
+    }
+    leave(r, scratch);
+    monitor_standing_answer a = {t.word, t.one, t.two, {0}};
+    memcpy(a.waits, t.waits, sizeof a.waits);
+    return a;
+}
+
+/* ------------------------------------------------------------------ the messages of a sheet */
+
+/* The walk for its messages alone, with no order: the M row of each, until so many are met. */
+static refusal meet(const sheet *s, size_t asked, uint16_t *rows, size_t *met) {
+    size_t from[LEVELS], level = 0, calls = 0, row = s->start[0];
+    for (*met = 0; *met < asked;) {
+        while (row < s->count && (s->kind[row] == 'B' || s->kind[row] == 'P')) row++;
+        uint32_t line = (uint32_t)row + 2;
+        uint8_t kind = row < s->count ? s->kind[row] : 'S';
+        if (kind == 'M') {
+            if (*met == MESSAGES) return (refusal){10, line};
+            rows[(*met)++] = (uint16_t)row++;
+        } else if (kind == 'C') {
+            if (level == LEVELS) return (refusal){8, line};
+            if (calls++ == CALLS) return (refusal){9, line};
+            from[level++] = row;
+            row = s->start[s->one[row]];
+        } else {
+            if (level == 0) break;
+            row = from[--level] + 1;
+        }
+    }
+    return (refusal){0, 0};
+}
+
+sheet_messages_answer careful_sheet_messages(const uint8_t *text, size_t text_len, uint64_t *scratch, size_t scratch_len, uint16_t *output,
+                                             size_t output_len) {
+    sheet s;
+    uint16_t rows[MESSAGES];
+    size_t count = 0;
+    if (scratch_len < WORDS || output_len < 3 * MESSAGES) return (sheet_messages_answer){1, 2, 0};
+    refusal r = read(text, text_len, &s, scratch, 0);
+    if (!r.number) r = meet(&s, SIZE_MAX, rows, &count);
+    memset(scratch, 0, WORDS * 8);
+    if (r.number) return (sheet_messages_answer){1, r.number, r.line};
+    for (size_t m = 0; m < count; m++) {
+        output[3 * m] = rows[m] + 2;
+        output[3 * m + 1] = s.one[rows[m]];
+        output[3 * m + 2] = s.two[rows[m]];
+    }
+    return (sheet_messages_answer){0, (uint32_t)count, 0};
 }
 
 /* ------------------------------------------------------------------ the cure */
@@ -932,21 +1006,12 @@ senders_check_answer careful_senders_check(const uint8_t *table, size_t table_le
     return judge_table(&t);
 }
 
-/* the line of message m's M row: the walk again, counting messages alone */
+/* the line of message m's M row */
 static uint32_t line_of(const sheet *s, size_t m) {
-    size_t from[LEVELS], level = 0, at = s->start[0];
-    for (;;) {
-        uint8_t kind = at < s->count ? s->kind[at] : 'S';
-        if (kind == 'C') {
-            from[level++] = at;
-            at = s->start[s->one[at]];
-        } else if (kind == 'S') {
-            at = from[--level] + 1;
-        } else {
-            if (kind == 'M' && m-- == 0) return (uint32_t)at + 2;
-            at++;
-        }
-    }
+    uint16_t rows[MESSAGES];
+    size_t met;
+    meet(s, m + 1, rows, &met);
+    return rows[m] + 2u;
 }
 
 static channel_check_answer judge_permitted(const uint8_t *text, size_t len, uint32_t code, uint64_t *scratch, uint8_t *trace,

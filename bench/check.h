@@ -13,6 +13,9 @@ monitor_answer careful_monitor_step(monitor state, uint32_t kind, uint32_t messa
                                     uint64_t *scratch, size_t scratch_len);
 monitor_answer careful_monitor_switch(monitor state, uint32_t code, const uint8_t *text, size_t text_len, uint64_t *scratch,
                                       size_t scratch_len);
+monitor_standing_answer careful_monitor_standing(monitor state, const uint8_t *text, size_t text_len, uint64_t *scratch, size_t scratch_len);
+sheet_messages_answer careful_sheet_messages(const uint8_t *text, size_t text_len, uint64_t *scratch, size_t scratch_len, uint16_t *output,
+                                             size_t output_len);
 cure_sheet_answer careful_cure_sheet(const uint8_t *text, size_t text_len, uint64_t *scratch, size_t scratch_len, uint8_t *output,
                                      size_t output_len);
 dispatcher careful_dispatcher_empty(void);

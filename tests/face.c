@@ -1087,7 +1087,7 @@ static void rounds_at_limits(void) {
     repeat("C 2 0\nS 1 0\n", 1);
     repeat("C 2 0\n", 31);
     repeat("S 2 0\n", 1);
-    rounds_say(named("9 on the second walk", made), "012345", (rounds_check_answer){2, 9, 19, 0, 0}, "");
+    rounds_say(named("9 on the second walk", made), "012345", (rounds_check_answer){2, 9, 51, 0, 0}, "");
 }
 
 static void repeats(void) {

@@ -172,7 +172,7 @@ fn in_rounds(sheet: &Sheet, code: u32) -> Drawn {
     };
     let named = commands::named(sheet)?.repeated(rounds);
     Ok(Ok(match judged {
-        Rounds::Free => of_free(&text, &named, &title(commands::rounds::FREE, code), "a course of the events of two rounds"),
+        Rounds::Free => of_free(&text, &named, &format!("{}, however often it is repeated", title("free", code)), "a course of the events of two rounds"),
         Rounds::Locked { lock, .. } => of_lock(&text, code, &named, &lock, &[format!("on round {}", rounds)]),
     }))
 }

@@ -1075,7 +1075,7 @@ static void rounds_at_limits(void) {
     rounds_say(named("10 on the second walk", made), "012345", (rounds_check_answer){2, 10, MESSAGES / 2 + 2, 0, 0}, "");
     begin(H "S 0 0\nM 0 1\nM 2 1\nP 1 3\n");
     repeat("M 5 5\n", MESSAGES / 2);
-    rounds_say(named("10 ahead of a lock", made), "012345", (rounds_check_answer){2, 10, MESSAGES / 2 + 3, 0, 0}, "");
+    rounds_say(named("10 ahead of a lock", made), "012345", (rounds_check_answer){2, 10, MESSAGES / 2 + 2, 0, 0}, "");
     begin(H "S 0 0\n");
     repeat("C 1 0\n", 16);
     repeat("S 1 0\n", 1);

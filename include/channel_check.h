@@ -29,6 +29,7 @@
  * The calls, by task:
  *
  *     judge a sheet on a channel                        channel_check
+ *     judge it repeated, any number of times            rounds_check
  *     list its messages, with their lines and boards    sheet_messages
  *     list all races of a channel                       sheet_races
  *     write the loosest sheet that is free              cure_sheet
@@ -214,6 +215,42 @@ typedef struct {
 channel_check_answer channel_check(const uint8_t *text, size_t text_len, uint32_t code,
                                    uint64_t *scratch, size_t scratch_len, uint8_t *trace,
                                    size_t trace_len);
+
+/* ---------------------------------------------------------- an exchange that is repeated */
+
+enum rounds_check_word {
+    /* however often the exchange is repeated, no timing can stop the boards */
+    ROUNDS_CHECK_FREE = 0,
+    /* some timing stops them. one, two, three: as channel_check's, on so many rounds; rounds: the
+     * fewest that lock, 1 or 2 */
+    ROUNDS_CHECK_LOCKED = 1,
+    /* 1 to 11, 9 and 10 over two walks */
+    ROUNDS_CHECK_REFUSED = 2
+};
+
+typedef struct {
+    uint32_t word, one, two, three, rounds;
+} rounds_check_answer;
+
+/* The check of an exchange that is repeated, each board going on to its next round as soon as it
+ * has done its own part of the last. k rounds are the walk of sheet 0 made k times, one after the
+ * other, each beginning with a new block. Messages are numbered on: message m of round r, from 0,
+ * is r times the messages of one round, plus m.
+ *
+ * All arguments, and the buffers at exit, are as channel_check's.
+ *
+ * locked: with rounds 1 the answer and the trace are channel_check's own; with 2 they are those of
+ * two rounds. Refused: as channel_check for one walk; then 9 or 10, as the second walk meets them,
+ * the limits counted over both. So a sheet of more than CHANNEL_CHECK_MESSAGES / 2 messages is
+ * refused, even if one round of it is locked: two rounds of it are more than a walk holds.
+ *
+ * Proved, over every number of rounds without a bound: free exactly when on any number of rounds
+ * every allowed order can be carried on until all is consumed; locked exactly when on some number
+ * of rounds some allowed order ends stuck; the steps handed back are such an order of `rounds`
+ * rounds, and no fewer lock. */
+rounds_check_answer rounds_check(const uint8_t *text, size_t text_len, uint32_t code,
+                                 uint64_t *scratch, size_t scratch_len, uint8_t *trace,
+                                 size_t trace_len);
 
 /* ---------------------------------------------------------- a trace from any tool */
 

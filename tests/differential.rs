@@ -14,6 +14,8 @@ mod holdings;
 mod monitors;
 #[path = "reference.rs"]
 mod reference;
+#[path = "rounds.rs"]
+mod rounds;
 #[path = "senders.rs"]
 mod senders;
 #[path = "taps.rs"]
@@ -199,6 +201,7 @@ struct Seen {
     senders: senders::Seen,
     taps: taps::Seen,
     holdings: holdings::Seen,
+    rounds: rounds::Seen,
 }
 
 impl Seen {
@@ -220,6 +223,7 @@ impl Seen {
         self.senders.add(&o.senders);
         self.taps.add(&o.taps);
         self.holdings.add(&o.holdings);
+        self.rounds.add(&o.rounds);
     }
 
     fn limits_of(&mut self, s: &Scenario) {
@@ -241,6 +245,7 @@ impl Seen {
         self.senders.print();
         self.taps.print();
         self.holdings.print();
+        self.rounds.print();
         println!("traces replayed {}, free orders taken {}, sheets searched whole {}", self.replayed, self.wandered, self.searched);
     }
 
@@ -248,7 +253,7 @@ impl Seen {
         let eager = [0, 2, 4, 5].iter().all(|c| self.locked[*c] > 0);
         let some = |all: &[u64]| all.iter().all(|n| *n > 0);
         let judged = self.replayed * self.wandered * self.searched > 0;
-        let calls = self.traces.whole() && self.choices.whole() && self.monitors.whole() && self.cures.whole() && self.wired.whole() && self.dispatchers.whole() && self.senders.whole() && self.taps.whole() && self.holdings.whole();
+        let calls = self.traces.whole() && self.choices.whole() && self.monitors.whole() && self.cures.whole() && self.wired.whole() && self.dispatchers.whole() && self.senders.whole() && self.taps.whole() && self.holdings.whole() && self.rounds.whole();
         eager && some(&self.free) && some(&self.refused[1..]) && some(&self.limits) && judged && calls
     }
 }
@@ -321,6 +326,9 @@ fn try_requests(r: &mut Random, seen: &mut Seen, text: &[u8], sheet: &Result<Sce
     }
     if r.one_in(4) {
         holdings::try_holdings(r, &mut seen.holdings, text, sheet);
+    }
+    if r.one_in(4) {
+        rounds::try_rounds(r, &mut seen.rounds, text, sheet);
     }
 }
 

@@ -3,7 +3,7 @@
  * every word and on traces of every length up to two beyond the limit; choice_check on every word, with lists of every length; the
  * monitor; cure_sheet on every refusal, with texts of 512 rows and one row more; the dispatcher's calls; senders_check on every word, and
  * permitted_check on each refusal, in its order; taps_check on every word and refusal, with lists of many lengths; and what a sheet holds,
- * with outputs of many lengths. The header's enumerators have the numbers that all of this is written in, and the header, the archive and
+ * with outputs of many lengths; and rounds_check, with the limits over two walks. The header's enumerators have the numbers that all of this is written in, and the header, the archive and
  * the file VERSION are of one version. */
 #define _GNU_SOURCE
 #include "../include/channel_check.h"
@@ -1033,6 +1033,78 @@ static void holdings(void) {
     if (channel_check_version() != CHANNEL_CHECK_VERSION) printf("FAILED: the archive's version is %u\n", channel_check_version()), failures++;
 }
 
+/* ------------------------------------------------------------------ an exchange that is repeated */
+
+static int round_words[3], round_refused[12], round_counts[3];
+
+/* one call, with a guard page after text, scratch and trace */
+static void repeated(sheet s, uint32_t code, size_t words, size_t bytes, rounds_check_answer e, const void *steps) {
+    buffer text = lend(s.len), scratch = lend(words * 8), trace = lend(bytes);
+    memcpy(text.at, s.text, s.len);
+    rounds_check_answer a = rounds_check(text.at, s.len, code, (uint64_t *)scratch.at, words, trace.at, bytes);
+    calls++;
+    if (a.word < 3) round_words[a.word]++;
+    if (a.word == 2 && a.one < 12) round_refused[a.one]++;
+    if (a.rounds < 3) round_counts[a.rounds]++;
+    if (memcmp(&a, &e, sizeof a) != 0)
+        printf("  expected %u %u %u %u %u, got %u %u %u %u %u\n", e.word, e.one, e.two, e.three, e.rounds, a.word, a.one, a.two, a.three, a.rounds);
+    expect(memcmp(&a, &e, sizeof a) == 0, s, code, "answer on rounds");
+    left(s, code, text, scratch, trace, e.word == 2 && e.one <= 2, steps, e.word == 1 ? 2 * (size_t)e.three : 0);
+}
+
+static void rounds_say(sheet s, const char *codes, rounds_check_answer e, const void *steps) {
+    for (; *codes; codes++) {
+        uint32_t code = (uint32_t)(*codes - '0');
+        repeated(s, code, WORDS, BYTES, e, steps);
+        repeated(s, code, WORDS + 3, BYTES + 5, e, steps);
+        repeated(s, code, WORDS - 1, BYTES, (rounds_check_answer){2, 2, 0, 0, 0}, "");
+        repeated(s, code, WORDS, BYTES - 1, (rounds_check_answer){2, 2, 0, 0, 0}, "");
+    }
+    repeated(s, 6, 0, 0, (rounds_check_answer){2, 1, 0, 0, 0}, "");
+}
+
+/* the limits over two walks: half of the messages, and half of the calls, are the most */
+static void rounds_at_limits(void) {
+    begin(H "S 0 0\n");
+    repeat("M 0 1\nM 1 0\nP 1 2\nP 0 3\nB 0 0\n", 2);
+    rounds_say(named("a reply each", made), "012345", (rounds_check_answer){0, 0, 0, 0, 0}, "");
+    begin(H "S 0 0\n");
+    repeat("M 0 0\n", MESSAGES / 2);
+    rounds_say(named("half of the messages", made), "012345", (rounds_check_answer){0, 0, 0, 0, 0}, "");
+    repeat("M 0 0\n", 1);
+    rounds_say(named("10 on the second walk", made), "012345", (rounds_check_answer){2, 10, MESSAGES / 2 + 2, 0, 0}, "");
+    begin(H "S 0 0\nM 0 1\nM 2 1\nP 1 3\n");
+    repeat("M 5 5\n", MESSAGES / 2);
+    rounds_say(named("10 ahead of a lock", made), "012345", (rounds_check_answer){2, 10, MESSAGES / 2 + 2, 0, 0}, "");
+    begin(H "S 0 0\n");
+    repeat("C 1 0\n", 16);
+    repeat("S 1 0\n", 1);
+    repeat("C 2 0\n", 31);
+    repeat("S 2 0\n", 1);
+    rounds_say(named("512 calls", made), "012345", (rounds_check_answer){0, 0, 0, 0, 0}, "");
+    begin(H "S 0 0\n");
+    repeat("C 1 0\n", 16);
+    repeat("C 2 0\nS 1 0\n", 1);
+    repeat("C 2 0\n", 31);
+    repeat("S 2 0\n", 1);
+    rounds_say(named("9 on the second walk", made), "012345", (rounds_check_answer){2, 9, 51, 0, 0}, "");
+}
+
+static void repeats(void) {
+    sheet one = named("one message", H "S 0 0\nM 0 1\n"), two = named("sheet 2", H "S 0 0\nM 0 1\nM 2 1\nP 1 3\n");
+    rounds_say(one, "0", (rounds_check_answer){1, 1, 1, 3, 2}, "\0\0\0\1\1\1");
+    rounds_say(one, "12345", (rounds_check_answer){0, 0, 0, 0, 0}, "");
+    rounds_say(two, "0245", (rounds_check_answer){1, 1, 1, 3, 1}, "\0\1\1\1\0\0");
+    rounds_say(two, "13", (rounds_check_answer){0, 0, 0, 0, 0}, "");
+    rounds_say(named("sheet 1", H "S 0 0\n"), "012345", (rounds_check_answer){0, 0, 0, 0, 0}, "");
+    rounds_say(named("3", ""), "012345", (rounds_check_answer){2, 3, 0, 0, 0}, "");
+    rounds_say(named("5 an A row", H "S 0 0\nA 0 0\n"), "012345", (rounds_check_answer){2, 5, 3, 0, 0}, "");
+    rounds_say(named("11", H "S 0 0\nM 0 1\nM 1 0\nP 1 2\nP 3 0\n"), "012345", (rounds_check_answer){2, 11, 6, 0, 0}, "");
+    rounds_at_limits();
+    if (!round_words[0] || !round_counts[1] || !round_counts[2] || !round_refused[1] || !round_refused[2] || !round_refused[9] || !round_refused[10])
+        printf("FAILED: repeated: an answer never came\n"), failures++;
+}
+
 /* ------------------------------------------------------------------ the header's enumerators */
 
 /* enumerators count from a number on, in the order of the paper's table or of the call's cases */
@@ -1069,6 +1141,7 @@ static void enumerators(void) {
     IN_ORDER(0, MONITOR_STANDING_FINISHED, MONITOR_STANDING_STUCK, MONITOR_STANDING_OPEN, MONITOR_STANDING_REFUSED);
     IN_ORDER(0, SHEET_MESSAGES_LISTED, SHEET_MESSAGES_REFUSED);
     IN_ORDER(0, SHEET_RACES_LISTED, SHEET_RACES_REFUSED);
+    IN_ORDER(0, ROUNDS_CHECK_FREE, ROUNDS_CHECK_LOCKED, ROUNDS_CHECK_REFUSED);
 }
 
 int main(void) {
@@ -1082,6 +1155,7 @@ int main(void) {
     permissions();
     taps();
     holdings();
+    repeats();
     words();
     limits();
     refusals();

@@ -20,7 +20,7 @@ impl Random {
 }
 
 /// The words of every command; `{sheet}` and the others are files of random bytes.
-const COMMANDS: [&str; 24] = [
+const COMMANDS: [&str; 27] = [
     "check {sheet}",
     "steps {code} {sheet}",
     "messages {sheet}",
@@ -40,6 +40,9 @@ const COMMANDS: [&str; 24] = [
     "senders {table}",
     "permitted {code} {table} {sheet}",
     "taps {list} {list} {sheet}",
+    "rounds {sheet}",
+    "rounds {code} {sheet}",
+    "chart {code} --rounds {sheet}",
     "sheet {sheet}",
     "diagram {sheet}",
     "diagram {code} {sheet}",

@@ -280,6 +280,34 @@ pub fn expand(rows: &[Row]) -> Result<Scenario, Refusal> {
     scenario(rows, &w)
 }
 
+/// So many rounds: the walk of sheet 0 made so often, one after the other, each beginning with a new block; the limits are counted over all.
+pub fn rounds(rows: &[Row], count: usize) -> Result<Scenario, Refusal> {
+    let mut w = Walk::default();
+    for _ in 0..count {
+        walk(rows, 0, 0, &mut w)?;
+        w.block += 1;
+    }
+    scenario(rows, &w)
+}
+
+/// The answer for an exchange that is repeated, and the rounds: 0, or the fewest that lock.
+pub fn repeated(text: &[u8], code: u32, scratch: usize, trace: usize) -> (u32, Answer) {
+    let one = sheet(text);
+    let once = answer(&one, code, scratch, trace);
+    if matches!(once, Answer::Refused(_)) {
+        return (0, once);
+    }
+    let rows = read(text, false).expect("a sheet that was accepted is read");
+    match (rounds(&rows, 2), once) {
+        (Err(refusal), _) => (0, Answer::Refused(refusal)),
+        (Ok(_), locked @ Answer::Locked { .. }) => (1, locked),
+        (Ok(two), _) => match verdict(&two, code) {
+            Answer::Free => (0, Answer::Free),
+            locked => (2, locked),
+        },
+    }
+}
+
 /// The causal order of what a walk met.
 fn scenario(rows: &[Row], w: &Walk) -> Result<Scenario, Refusal> {
     let n = 2 * w.messages.len();

@@ -32,6 +32,7 @@ static struct {
     monitor_standing_answer stands;
     sheet_messages_answer listed;
     sheet_races_answer raced;
+    rounds_check_answer repeated;
     senders_check_answer judged;
     cure_sheet_answer cured;
     taps_check_answer untapped, fits, clashes;
@@ -58,6 +59,7 @@ static void *run(void *unused) {
     said.stands = monitor_standing(a.next, t, len, scratch, WORDS);
     said.listed = sheet_messages(t, len, scratch, WORDS, held, SHEET_MESSAGES_OUTPUT_NUMBERS);
     said.raced = sheet_races(t, len, code, scratch, WORDS, held, SHEET_MESSAGES_OUTPUT_NUMBERS);
+    said.repeated = rounds_check(t, len, code, scratch, WORDS, trace, CHANNEL_CHECK_TRACE_BYTES);
     said.judged = senders_check((const uint8_t *)table, sizeof table - 1);
     said.permitted = permitted_check(t, len, code, scratch, WORDS, trace, CHANNEL_CHECK_TRACE_BYTES, (const uint8_t *)table, sizeof table - 1);
     said.cured = cure_sheet(t, len, scratch, WORDS, output, CURE_SHEET_OUTPUT_BYTES);
@@ -165,6 +167,7 @@ static void accepted(const sheet *s) {
     says("monitor_standing", said.stands.word, MONITOR_STANDING_OPEN, 0, 0);
     says("sheet_messages", said.listed.word, SHEET_MESSAGES_LISTED, said.listed.one, (uint32_t)(events / 2));
     says("sheet_races", said.raced.word, SHEET_RACES_LISTED, said.raced.one != 0, locks);
+    says("rounds_check", said.repeated.word, 2 * said.listed.one > CHANNEL_CHECK_MESSAGES ? CHANNEL_CHECK_REFUSED : locks, said.repeated.rounds, 2 * said.listed.one > CHANNEL_CHECK_MESSAGES ? 0 : locks);
     says("permitted_check", said.permitted.word, s->is_forbidden ? CHANNEL_CHECK_REFUSED : locks, said.permitted.one, s->is_forbidden ? CHANNEL_CHECK_REFUSAL_FORBIDDEN : 0);
     says("cure_sheet", said.cured.word, CURE_SHEET_WRITTEN, 0, 0);
     says("taps_check, no list", said.untapped.word, TAPS_CHECK_FIT, said.untapped.one, (uint32_t)events);
@@ -187,6 +190,7 @@ static void refused(const sheet *s) {
     says("monitor_standing", said.stands.word, MONITOR_STANDING_REFUSED, said.stands.one, n);
     says("sheet_messages", said.listed.word, SHEET_MESSAGES_REFUSED, said.listed.one, n);
     says("sheet_races", said.raced.word, SHEET_RACES_REFUSED, said.raced.one, n);
+    says("rounds_check", said.repeated.word, ROUNDS_CHECK_REFUSED, said.repeated.one, n);
     says("permitted_check", said.permitted.word, CHANNEL_CHECK_REFUSED, said.permitted.one, n);
     says("cure_sheet", said.cured.word, CURE_SHEET_REFUSED, said.cured.one, n);
     says("taps_check", said.untapped.word, TAPS_CHECK_REFUSED, said.untapped.one, n);

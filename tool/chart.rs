@@ -4,7 +4,7 @@ use crate::chosen::{self, Chosen};
 use crate::commands::replay::{self, Trace};
 use crate::commands::{self, Call};
 use crate::drawing::{self, Subject};
-use crate::face::{self, Choices, Lock, Race, Refusal, Standing, Taps, Verdict, Waits, BOARDS};
+use crate::face::{self, Choices, Lock, Race, Refusal, Rounds, Standing, Taps, Verdict, Waits, BOARDS};
 use crate::input::Failure;
 use crate::output::Answer;
 use crate::refusals::{Handed, TRACE};
@@ -93,17 +93,21 @@ pub fn run(call: &mut Call) -> Result<Answer, Failure> {
     }
     let sheet = call.sheet(0)?;
     let mut answer = Answer::new();
-    let drawn = if call.cured { cured(&sheet, code) } else { answered(&sheet, code) };
+    let drawn = match (call.cured, call.repeated) {
+        (true, _) => cured(&sheet, code),
+        (_, true) => in_rounds(&sheet, code),
+        _ => answered(&sheet, code),
+    };
     match drawn? {
         Ok(svg) => answer.out = svg.into_bytes(),
-        Err(r) => commands::refuse(&mut answer, &sheet, r, &Handed { code, choices: has_choices(&sheet), ..Handed::default() }),
+        Err(r) => commands::refuse(&mut answer, &sheet, r, &Handed { code, choices: has_choices(&sheet), repeated: call.repeated, ..Handed::default() }),
     }
     Ok(answer)
 }
 
 fn run_trace(call: &mut Call, code: u32) -> Result<Answer, Failure> {
-    if call.cured {
-        return Err(Failure::new("a chart is of a trace or of the cured sheet, not both".to_string()));
+    if call.cured || call.repeated {
+        return Err(Failure::new("a chart of a trace is neither of the cured sheet nor of rounds"));
     }
     let (source, sheet) = (call.file(0, "trace")?, call.sheet(1)?);
     let trace = replay::trace(&source)?;
@@ -152,6 +156,24 @@ fn chosen_chart(sheet: &Sheet, code: u32) -> Drawn {
     Ok(Ok(match lock {
         Some(lock) => of_lock(&c.text, code, &c.named, &lock, &options),
         None => of_free(&c.text, &c.named, &title("free", code), &format!("on every choice; a course of its events with {}", options.join("; "))),
+    }))
+}
+
+/// Of an exchange that is repeated: the rounds that lock or, where none do, two rounds.
+fn in_rounds(sheet: &Sheet, code: u32) -> Drawn {
+    let judged = match face::rounds(&sheet.bytes, code) {
+        Ok(judged) => judged,
+        Err(r) => return Ok(Err(r)),
+    };
+    let rounds = if let Rounds::Locked { rounds, .. } = &judged { *rounds } else { 2 };
+    let text = match commands::rounds::text_of(sheet, rounds) {
+        Some(text) => text,
+        None => return Err(Failure::new(format!("{}: no chart: {}", sheet.name, commands::rounds::NO_TEXT))),
+    };
+    let named = commands::named(sheet)?.repeated(rounds);
+    Ok(Ok(match judged {
+        Rounds::Free => of_free(&text, &named, &format!("{}, however often it is repeated", title("free", code)), "a course of the events of two rounds"),
+        Rounds::Locked { lock, .. } => of_lock(&text, code, &named, &lock, &[format!("on round {}", rounds)]),
     }))
 }
 

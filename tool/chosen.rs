@@ -1,6 +1,7 @@
 //! The sheet of one choice list: a file without A rows that has the same walk, so that the other calls can speak of it.
 
 use crate::face;
+use crate::refusals::SHEET_MOST;
 use crate::rows::{self, Met, Row};
 use crate::sheet::Sheet;
 use crate::words::Named;
@@ -64,6 +65,26 @@ fn with_calls(sheet: &Sheet, all: &[Row], met: &[Met]) -> Option<Chosen> {
 
 fn words(row: &Row) -> String {
     format!("{} {} {}\n", char::from(row.kind), row.one, row.two)
+}
+
+/// Two rounds of a sheet as one walk: a sheet that calls it twice or, where that does not fit, its rows twice as one sheet.
+pub fn twice(sheet: &Sheet) -> Option<Vec<u8>> {
+    let all = rows::rows(&sheet.bytes, usize::MAX);
+    let fits = |text: &Vec<u8>| face::messages(text).is_ok();
+    called_twice(&all).filter(fits).or_else(|| {
+        let met = rows::walk(&all, 0);
+        in_one_sheet(sheet, &[&met[..], &[Met::BlockEnd], &met[..]].concat()).map(|c| c.text).filter(fits)
+    })
+}
+
+fn called_twice(all: &[Row]) -> Option<Vec<u8>> {
+    let free = (1..=SHEET_MOST).find(|n| !all.iter().any(|r| r.kind == b'S' && r.one == *n))?;
+    let mut out = format!("kind one two\nS 0 0\nC {0} 0\nC {0} 0\n", free).into_bytes();
+    for row in all {
+        let moved = matches!(row.kind, b'S' | b'C') && row.one == 0;
+        out.extend_from_slice(words(&Row { one: if moved { free } else { row.one }, ..*row }).as_bytes());
+    }
+    Some(out)
 }
 
 /// The rows of the walk as one sheet, block after block, where they fit.

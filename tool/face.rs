@@ -25,6 +25,15 @@ struct CheckAnswer {
 }
 
 #[repr(C)]
+struct RoundsAnswer {
+    word: u32,
+    one: u32,
+    two: u32,
+    three: u32,
+    rounds: u32,
+}
+
+#[repr(C)]
 struct ThreeAnswer {
     word: u32,
     one: u32,
@@ -113,6 +122,7 @@ struct DispatcherAnswer {
 #[rustfmt::skip]
 extern "C" {
     fn channel_check(text: *const u8, text_len: usize, code: u32, scratch: *mut u64, scratch_len: usize, trace: *mut u8, trace_len: usize) -> CheckAnswer;
+    fn rounds_check(text: *const u8, text_len: usize, code: u32, scratch: *mut u64, scratch_len: usize, trace: *mut u8, trace_len: usize) -> RoundsAnswer;
     fn trace_check(text: *const u8, text_len: usize, code: u32, scratch: *mut u64, scratch_len: usize, trace: *const u8, trace_len: usize) -> WaitsAnswer;
     fn choice_check(text: *const u8, text_len: usize, code: u32, scratch: *mut u64, scratch_len: usize, trace: *mut u8, trace_len: usize) -> ChoiceAnswer;
     fn monitor_open(text: *const u8, text_len: usize, code: u32, scratch: *mut u64, scratch_len: usize) -> MonitorAnswer;
@@ -162,6 +172,12 @@ pub enum Verdict {
     Free,
     Locked(Lock),
     Refused(Refusal),
+}
+
+/// What is so of a sheet however often it is repeated, or the fewest rounds that lock.
+pub enum Rounds {
+    Free,
+    Locked { lock: Lock, rounds: usize },
 }
 
 /// The event that each board waits for, if any.
@@ -238,6 +254,19 @@ pub fn check(text: &[u8], code: u32) -> Verdict {
     let (mut scratch, mut trace) = ([0u64; SCRATCH_WORDS], [0u8; TRACE_BYTES]);
     let a = unsafe { channel_check(text.as_ptr(), text.len(), code, scratch.as_mut_ptr(), SCRATCH_WORDS, trace.as_mut_ptr(), TRACE_BYTES) };
     verdict(a, &trace)
+}
+
+pub fn rounds(text: &[u8], code: u32) -> Result<Rounds, Refusal> {
+    let (mut scratch, mut trace) = ([0u64; SCRATCH_WORDS], [0u8; TRACE_BYTES]);
+    let a = unsafe { rounds_check(text.as_ptr(), text.len(), code, scratch.as_mut_ptr(), SCRATCH_WORDS, trace.as_mut_ptr(), TRACE_BYTES) };
+    match a.word {
+        0 => Ok(Rounds::Free),
+        1 => {
+            let lock = Lock { message: a.one as usize, event: a.two as usize, steps: steps(&trace, a.three) };
+            Ok(Rounds::Locked { lock, rounds: a.rounds as usize })
+        }
+        _ => Err(refusal(a.one, a.two)),
+    }
 }
 
 pub fn permitted(text: &[u8], code: u32, table: &[u8]) -> Verdict {

@@ -26,7 +26,7 @@ pub struct Command {
 
 const MANY: usize = usize::MAX;
 
-pub const COMMANDS: [Command; 17] = [
+pub const COMMANDS: [Command; 18] = [
     Command {
         name: "check",
         code: Code::None,
@@ -44,6 +44,15 @@ pub const COMMANDS: [Command; 17] = [
         phrase: "The answer on one channel and, where it is locked, the steps that stop the boards and what each board waits for.",
         example: "channel_tool steps fifo jam-fifo.sheet",
         run: commands::steps::run,
+    },
+    Command {
+        name: "rounds",
+        code: Code::May,
+        files: (0, 1),
+        usage: "rounds [CHANNEL] [SHEET]",
+        phrase: "The answer for an exchange that is repeated any number of times: free, or the round that locks, with its race and steps.",
+        example: "channel_tool rounds 0 one-message.sheet",
+        run: commands::rounds::run,
     },
     Command {
         name: "messages",
@@ -76,8 +85,8 @@ pub const COMMANDS: [Command; 17] = [
         name: "chart",
         code: Code::Must,
         files: (0, 2),
-        usage: "chart CHANNEL [TRACE] [SHEET] [--cured] [-o CHART.svg]",
-        phrase: "A picture of the answer on a channel, of a trace (two files: trace and sheet), or of the cured sheet (--cured).",
+        usage: "chart CHANNEL [TRACE] [SHEET] [--cured | --rounds] [-o CHART.svg]",
+        phrase: "A picture of the answer on a channel, of a trace (two files: trace and sheet), of the cured sheet, or of rounds.",
         example: "channel_tool chart 0 case-2-two-senders-race.sheet -o case-2.svg",
         run: chart::run,
     },

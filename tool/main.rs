@@ -34,6 +34,7 @@ struct Words {
     words: Vec<OsString>,
     to: Option<OsString>,
     cured: bool,
+    repeated: bool,
 }
 
 fn wrong(why: &str, command: Option<&str>) -> Failure {
@@ -41,7 +42,7 @@ fn wrong(why: &str, command: Option<&str>) -> Failure {
 }
 
 fn split(all: Vec<OsString>) -> Result<Words, Failure> {
-    let mut out = Words { words: Vec::new(), to: None, cured: false };
+    let mut out = Words { words: Vec::new(), to: None, cured: false, repeated: false };
     let mut rest = all.into_iter();
     while let Some(word) = rest.next() {
         match word.to_str() {
@@ -51,6 +52,7 @@ fn split(all: Vec<OsString>) -> Result<Words, Failure> {
                 None => return Err(wrong("`-o` names no file", None)),
             },
             Some("--cured") => out.cured = true,
+            Some("--rounds") => out.repeated = true,
             Some("--help") | Some("-h") => out.words.insert(0, OsString::from("help")),
             Some("--version") => out.words.insert(0, OsString::from("version")),
             Some(w) if w.starts_with('-') && w != "-" && !w.starts_with("-:") => return Err(wrong(&format!("`{}` is no option", w), None)),
@@ -119,10 +121,13 @@ fn call(command: &Command, mut words: Vec<OsString>, all: &Words) -> Result<Answ
         let surplus = words[command.files.1].to_string_lossy().into_owned();
         return Err(wrong(&format!("`{}` is a word too many", surplus), Some(command.name)));
     }
-    if all.cured && command.name != "chart" {
-        return Err(wrong("`--cured` is for charts", Some(command.name)));
+    if (all.cured || all.repeated) && command.name != "chart" {
+        return Err(wrong("`--cured` and `--rounds` are for charts", Some(command.name)));
     }
-    (command.run)(&mut Call { code, files: words, cured: all.cured, live: all.to.is_none(), inputs: Inputs::new() })
+    if all.cured && all.repeated {
+        return Err(wrong("a chart is of the cured sheet or of rounds, not both", Some(command.name)));
+    }
+    (command.run)(&mut Call { code, files: words, cured: all.cured, repeated: all.repeated, live: all.to.is_none(), inputs: Inputs::new() })
 }
 
 fn answer(all: &Words) -> Result<Answer, Failure> {

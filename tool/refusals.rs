@@ -42,6 +42,8 @@ pub struct Handed<'a> {
     pub code: u32,
     pub lists: [&'a [u16]; 2],
     pub choices: bool,
+    /// Two walks were made.
+    pub repeated: bool,
 }
 
 /// The refusal of a sheet, as one line.
@@ -58,8 +60,8 @@ pub fn of_sheet(r: Refusal, sheet: &Sheet, handed: &Handed) -> String {
         PLACE => place_cause(text, r.line as usize),
         ABSENT => Some(absent_cause(text, r.line as usize)),
         DEPTH => depth_cause(text, r.line as usize),
-        CALLS => Some(format!("the walk makes call {} here, and may make {}", CALLS_MOST + 1, CALLS_MOST)),
-        MESSAGES => Some(messages_cause()),
+        CALLS => Some(format!("the walk makes call {} here, and may make {}{}", CALLS_MOST + 1, CALLS_MOST, over_both(handed))),
+        MESSAGES => Some(messages_cause(handed)),
         CIRCLE => circle_cause(text, r.line as usize),
         CHOICES => Some(choices_cause()),
         ROWS => Some(rows_cause(text)),
@@ -85,7 +87,7 @@ fn of_drawn(r: Refusal, drawn: &Drawn, handed: &Handed) -> String {
         CHANNEL => Some(channel_cause(handed.code)),
         ROW => Some("an `alt` or `opt` is a choice between two ways: use `channel_tool choices`".to_string()),
         DEPTH => Some(format!("choices inside choices: {} may be open", LEVEL_MOST)),
-        MESSAGES => Some(messages_cause()),
+        MESSAGES => Some(messages_cause(handed)),
         CHOICES => Some(choices_cause()),
         FORBIDDEN => Some("the table does not permit this message".to_string()),
         JOBS => Some(jobs_cause()),
@@ -99,8 +101,17 @@ fn channel_cause(code: u32) -> String {
     format!("no channel has the code {}: they are 0 to {}", code, face::CHANNELS - 1)
 }
 
-fn messages_cause() -> String {
-    format!("the walk meets message {} here, and may meet {}", face::MESSAGES + 1, face::MESSAGES)
+fn messages_cause(handed: &Handed) -> String {
+    format!("the walk meets message {} here, and may meet {}{}", face::MESSAGES + 1, face::MESSAGES, over_both(handed))
+}
+
+/// Where a sheet is judged repeated, two walks of it are made, and a limit is for both.
+fn over_both(handed: &Handed) -> &'static str {
+    if handed.repeated {
+        "; two rounds are walked, and the limit is for both"
+    } else {
+        ""
+    }
 }
 
 fn choices_cause() -> String {

@@ -2,8 +2,8 @@
 
 use crate::chart;
 use crate::chosen;
-use crate::commands::{self, Call};
-use crate::face::{self, Choices, Lock, Race, Refusal, Standing, Verdict};
+use crate::commands::{self, rounds, Call};
+use crate::face::{self, Choices, Lock, Race, Refusal, Rounds, Standing, Verdict};
 use crate::input::{shown, Failure};
 use crate::output::{Answer, Status};
 use crate::refusals::Handed;
@@ -141,6 +141,22 @@ impl Page<'_> {
             self.put(&format!("<tr><td>{}</td><td class=\"{}\">{}</td></tr>", escaped(&words::channel(code)), class, escaped(&words)));
         }
         self.put("</table>");
+        self.repeated();
+    }
+
+    /// What is so where the exchange is repeated.
+    fn repeated(&mut self) {
+        self.put("<h3>Repeated, each board beginning its next round as soon as it has done its own part of the last</h3>");
+        let mut items = Vec::new();
+        for code in 0..face::CHANNELS {
+            let told = match face::rounds(self.text, code) {
+                Ok(Rounds::Free) => rounds::FREE.to_string(),
+                Ok(Rounds::Locked { lock, rounds }) => rounds::locked(&self.named.repeated(rounds), &lock, rounds),
+                Err(r) => format!("not judged: {}; two rounds are walked, and a limit is for both", words::refusal(r)),
+            };
+            items.push(format!("{}: {}", words::channel(code), told));
+        }
+        self.list(&items);
     }
 
     fn messages(&mut self) {

@@ -59,6 +59,7 @@ pub fn sheet(rows: &[Row], number: usize) -> &[Row] {
 }
 
 /// What a walk meets under a choice list: a row of a block, an A row with the sheet that it takes, or the end of a block.
+#[derive(Clone, Copy)]
 pub enum Met {
     Row(Row),
     Choice(Row, usize),

@@ -87,11 +87,13 @@ pub struct Named {
     boards: Vec<String>,
     labels: Vec<String>,
     line: &'static str,
+    /// The messages of one round, where the exchange is repeated.
+    round: Option<usize>,
 }
 
 impl Named {
     pub fn of(messages: Vec<Message>, sheet: &Sheet) -> Named {
-        let mut named = Named { messages, boards: Vec::new(), labels: Vec::new(), line: "line" };
+        let mut named = Named { messages, boards: Vec::new(), labels: Vec::new(), line: "line", round: None };
         if let Some(drawn) = &sheet.drawn {
             named.boards = drawn.names.clone();
             named.line = "diagram line";
@@ -106,7 +108,16 @@ impl Named {
 
     /// The same boards and words, with the lines of another text of the same messages.
     pub fn in_text(&self, messages: Vec<Message>) -> Named {
-        Named { messages, boards: self.boards.clone(), labels: self.labels.clone(), line: "line" }
+        Named { messages, boards: self.boards.clone(), labels: self.labels.clone(), line: "line", round: None }
+    }
+
+    /// The messages of so many rounds, numbered on.
+    pub fn repeated(&self, rounds: usize) -> Named {
+        let mut named = self.clone();
+        named.messages = self.messages.repeat(rounds);
+        named.labels = std::iter::repeat(self.labels.clone()).take(rounds).flatten().collect();
+        named.round = Some(self.messages.len());
+        named
     }
 
     /// `board 1`, or its name.
@@ -121,9 +132,14 @@ impl Named {
 
     fn place(&self, m: usize) -> String {
         match self.messages.get(m) {
-            Some(t) => format!("{} to {}, {} {}", self.board_name(t.from), self.board_name(t.to), self.line, t.line),
+            Some(t) => format!("{}{} to {}, {} {}", self.round_of(m), self.board_name(t.from), self.board_name(t.to), self.line, t.line),
             None => "not in the sheet".to_string(),
         }
+    }
+
+    /// `round 2, ` of a message of the second round, where the exchange is repeated
+    fn round_of(&self, m: usize) -> String {
+        self.round.filter(|n| *n > 0).map_or(String::new(), |n| format!("round {}, ", m / n + 1))
     }
 
     /// `message 4 (board 1 to board 0, line 7)`

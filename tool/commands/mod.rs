@@ -9,6 +9,7 @@ pub mod messages;
 pub mod permitted;
 pub mod races;
 pub mod replay;
+pub mod rounds;
 pub mod senders;
 pub mod sheet;
 pub mod steps;
@@ -29,6 +30,8 @@ pub struct Call {
     pub code: Option<u32>,
     pub files: Vec<OsString>,
     pub cured: bool,
+    /// A chart of the exchange repeated.
+    pub repeated: bool,
     /// Answers go to standard output as they come.
     pub live: bool,
     pub inputs: Inputs,

@@ -6,3 +6,4 @@ mod SimOrder
 mod Together
 pub mod Scenarios
 mod Turns
+pub mod Again

@@ -146,7 +146,7 @@ module _ (w : Walk) (m : Met) (t : Store) (h : Sound (met w m)) (r : Sim w m t) 
       (λ p. let q = before-held x y p in
       and-both (a && b) i (and-both a b (lt-ltb (messageOf x) (w .count) (q .0)) (lt-ltb (messageOf y) (w .count) (q .1))) (q .2))
 
-  scenario-same : S′ ≡ S
+  pub scenario-same : S′ ≡ S
   unfolding scenarioOf exchangeOf
   scenario-same = λ i. record {
     count = w .count;

@@ -120,8 +120,23 @@ module _ (options : List Bool) (file : List Row) (fits : Fits [] file) where
           (record { calls = w₁ .calls; choices = w₁ .choices; first = w₁ .count; count = w₁ .count }) (metOps .withBlock w₁ m) (storeOps .withBlock w₁ t)
           (sheet-fits n [] file fits) (sound-block (met w₁ m) h₁) (opened-block (met w₁ m) h₁) (sim-block w₁ m t h₁ (sim-call w m t h r byChoice))
 
+  -- sheet 0, walked by both from where they stand together
+  walk-match : (w : Walk) (m : Met) (t : Store) → Sound (met w m) → Opened (met w m) [] → Sim w m t
+      → Match (walkRows metOps options (callAt metOps options levels file) (drop (startOf 0 file) file) (lineOf (startOf 0 file)) (met w m))
+      (walkRows storeOps options (callAt storeOps options levels file) (drop (startOf 0 file) file) (lineOf (startOf 0 file)) (stored w t))
+  walk-match w m t =
+      rows-match options (callAt metOps options levels file) (callAt storeOps options levels file) (call-match levels) [] (drop (startOf 0 file) file) (lineOf (startOf 0 file))
+      w m t (sheet-fits 0 [] file fits)
+
   pub expand-match : (t : Store) → Begins t → Match (expand metOps options file nothingMet) (expand storeOps options file t)
   unfolding expand
-  expand-match t z =
-      rows-match options (callAt metOps options levels file) (callAt storeOps options levels file) (call-match levels) [] (drop (startOf 0 file) file) (lineOf (startOf 0 file))
-      freshWalk nothingMet t (sheet-fits 0 [] file fits) sound-start refl (sim-start t z)
+  expand-match t z = walk-match freshWalk nothingMet t sound-start refl (sim-start t z)
+
+  -- and once more, with a new block
+  pub again-match : (w : Walk) (m : Met) (t : Store) → Sound (met w m) → Sim w m t
+      → Match (walkRows metOps options (callAt metOps options levels file) (drop (startOf 0 file) file) (lineOf (startOf 0 file)) (blockOpened metOps (met w m)))
+      (walkRows storeOps options (callAt storeOps options levels file) (drop (startOf 0 file) file) (lineOf (startOf 0 file)) (blockOpened storeOps (stored w t)))
+  unfolding blockOpened
+  again-match w m t h r =
+      walk-match (record { calls = w .calls; choices = w .choices; first = w .count; count = w .count }) (metOps .withBlock w m) (storeOps .withBlock w t)
+      (sound-block (met w m) h) (opened-block (met w m) h) (sim-block w m t h r)

@@ -4,11 +4,13 @@
 use Prim.Native.Nat.{ℕ, zero, suc, _+_, _-_, _*_}
 use mathlib.Core.Bool.{Bool}
 use mathlib.Core.List.{List}
-use lib.ListN.{getD, set}
+use lib.ListN.{getD, set, drop}
+use Rattle.model.specs.Limits.{levels}
 use Rattle.model.specs.Refusal.{Out, ok, andThen}
 use Rattle.model.specs.Rows.{Row}
+use Rattle.model.specs.Place.{lineOf}
 use Rattle.model.specs.Order.{Scenario, nothingMet, metOps, exchangeOf, scenarioOf}
-use Rattle.model.specs.Expansion.{Ops, Progress, expand}
+use Rattle.model.specs.Expansion.{Ops, Progress, startOf, blockOpened, walkRows, callAt, expand}
 use Rattle.relation.specs.Width.{width}
 use Rattle.relation.specs.Rows.{marked}
 use Rattle.relation.specs.Scenario.{scenarioIn}
@@ -68,3 +70,9 @@ concluded s = ok (scenarioIn (s .walk .count) (s .kept .events) (s .kept .words)
 -- the scenario of the rows on a list of options, and the A rows that the walk meets
 unfoldable pub countedWith : List Bool → List Row → Out (Scenario × ℕ)
 countedWith options file = andThen (expand metOps options file nothingMet) (λ s. ok (scenarioOf (exchangeOf s), s .walk .choices))
+
+-- the walk of sheet 0 from a state on, and the next block open after it
+unfoldable pub walkedOn : List Bool → List Row → Progress Store → Out (Progress Store)
+walkedOn options file s =
+    andThen (walkRows storeOps options (callAt storeOps options levels file) (drop (startOf 0 file) file) (lineOf (startOf 0 file)) s)
+    (λ u. ok (blockOpened storeOps u))

@@ -13,6 +13,7 @@ ghost use Rattle.model.specs.Senders.{TableJudged, PermittedCheck};
 ghost use Rattle.model.specs.Taps.{TapsChecked};
 ghost use Rattle.model.specs.Holdings.{MessagesListed, RacesTold};
 ghost use Rattle.model.specs.Standing.{Stands};
+ghost use Rattle.model.specs.Rounds.{RoundsChecked};
 ghost use Rattle.choice_answer.specs.Bridge as chosen;
 ghost use Rattle.dispatcher.specs.Bridge as bridge;
 ghost use Rattle.dispatcher.specs.Bridge.{dispatcherIn, Holds, emptied, lent};
@@ -25,6 +26,7 @@ ghost use Rattle.answers.specs.Tapped as fitted;
 ghost use Rattle.sheet_messages.specs.Listing as listed;
 ghost use Rattle.sheet_races.specs.Numbers as raced;
 ghost use Rattle.monitor_standing.specs.Bridge as stood;
+ghost use Rattle.rounds.specs.Numbers as repeated;
 ghost use Rattle.channel_check.specs.Version.{version};
 pub use answers::ChannelCheckAnswer;
 pub use answers::CureSheetAnswer;
@@ -36,6 +38,7 @@ use dispatcher::DispatcherAnswer;
 use monitor::Monitor;
 use monitor::MonitorAnswer;
 use monitor_standing::MonitorStandingAnswer;
+use rounds::RoundsCheckAnswer;
 use sheet_messages::SheetMessagesAnswer;
 use sheet_races::SheetRacesAnswer;
 use trace_answer::TraceCheckAnswer;
@@ -247,6 +250,19 @@ pub extern "C" fn monitor_standing(
     ensures { λ r. ⌜ Stands heldIn monitorOf state (now (text .entry)) (now (scratch .entry)) (now (scratch .exit)) (stood.numbersIn r) (r .waits) ⌝ }
 {
     monitor_standing::standing_of(state, text, scratch)
+}
+
+// A sheet that is repeated: any text, any channel code, any lengths.
+#[no_mangle]
+pub extern "C" fn rounds_check(
+    text: &[u8],
+    code: u32,
+    scratch: &mut [u64],
+    trace: &mut [u8],
+) -> RoundsCheckAnswer
+    ensures { λ r. ⌜ RoundsChecked (now (text .entry)) code (now (scratch .entry)) (now (scratch .exit)) (now (trace .entry)) (now (trace .exit)) (r .rounds) (repeated.numbersIn r) ⌝ }
+{
+    rounds::rounds_check(text, code, scratch, trace)
 }
 
 const MAJOR: u32 = 1;

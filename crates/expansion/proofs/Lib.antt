@@ -1,3 +1,3 @@
 pub mod Reading
-mod Whole
+pub mod Whole
 pub mod Listed

@@ -13,12 +13,11 @@ use Rattle.model.specs.Refusal.{Out, ok, refusal, andThen, callsRefusal, messag
 use Rattle.model.specs.Rows.{Row, sheet, message, order, block, call, choice}
 use Rattle.model.specs.Place.{lineOf}
 use Rattle.model.specs.Expansion.{Progress, startOf, taken, chosenMore, blockOpened, callMade, messageMet, orderMet, walkRows, callAt}
-use Rattle.model.specs.Order.{Scenario}
 use Rattle.model.proofs.Refusal.{not-refused}
 use Rattle.relation.specs.Width.{width}
 use Rattle.sheet.specs.Bridge.{rowFrom, rowsOf}
 use Rattle.sheet.proofs.Bridge.{row-message, row-order}
-use Rattle.blocks.specs.Store.{Store, storeOps, concluded}
+use Rattle.blocks.specs.Store.{Store, storeOps}
 use Rattle.walk.specs.Block.{rowsFrom, inBlock, blockWalked, AllStand}
 use Rattle.walk.proofs.Meeting.{rows-next, rows-end, in-rows, in-either}
 use Rattle.levels.specs.Options.{optionsOf}
@@ -58,10 +57,6 @@ call-closed options (suc left) file byChoice n line s =
       | false ↦ refusal callsRefusal line
     ]) (sym (called-twice byChoice s))
 
-end-closed : (s : Progress Store) → concluded s ≡ concluded (blockOpened storeOps s)
-unfolding blockOpened storeOps
-end-closed s = refl
-
 module _ (options : ℕ) (kind one two : List ℕ) (count : ℕ) where
   -- the rows behind row i
   abbrev next : ℕ → List Row
@@ -72,7 +67,7 @@ module _ (options : ℕ) (kind one two : List ℕ) (count : ℕ) where
 
   after-closed : (from : List ℕ) (k : ℕ) (s : Progress Store) → after options kind one two count from k s ≡ after options kind one two count from k (blockOpened storeOps s)
   unfolding after
-  after-closed from zero s = end-closed s
+  after-closed from zero s = ap ok (sym (opened-twice s))
   after-closed from (suc k) s =
       ap (λ (u : Progress Store). andThen
       (walkRows storeOps (optionsOf options) (callAt storeOps (optionsOf options) (levels - k) (rowsOf kind one two count)) (rowsFrom kind one two count (getD from k 0 + 1)) (lineOf (getD from k 0 + 1)) u)
@@ -82,10 +77,10 @@ module _ (options : ℕ) (kind one two : List ℕ) (count : ℕ) where
     abbrev calls : Bool → ℕ → ℕ → Progress Store → Out (Progress Store)
     calls = callAt storeOps (optionsOf options) (levels - level) (rowsOf kind one two count)
 
-    abbrev walked : List Row → ℕ → Progress Store → Out (Scenario × ℕ)
+    abbrev walked : List Row → ℕ → Progress Store → Out (Progress Store)
     walked rs line s = andThen (walkRows storeOps (optionsOf options) calls rs line s) (after options kind one two count from level)
 
-    abbrev onward : ℕ × Progress Store → Out (Scenario × ℕ)
+    abbrev onward : ℕ × Progress Store → Out (Progress Store)
     onward p = rest options kind one two count from level (p .0) (p .1)
 
     -- the block's rows, by induction on how many are left

@@ -74,9 +74,9 @@ module _ (options : ℕ) (kind one two : List ℕ) (count : ℕ) (from₀ : List
 
     module _ (letter : ℕ) (read : letter ≡ letterAt kind count i) where
       -- sheet 0 has ended
-      pub seeking-end : letter ≡ 83 → level ≡ 0 → Left (reached.End choices) from
+      pub seeking-end : letter ≡ 83 → level ≡ 0 → Left (reached.End calls choices) from
       seeking-end e z =
-          record { exact = λ met t. j .exact met t ∙ rest-end options kind one two count i letter read from level calls choices met t e z; stands = tt }
+          record { exact = λ met t. j .exact met t ∙ rest-end options kind one two count i letter read from level calls choices met t e z; stands = j .between .few }
 
       -- a B row
       module _ (r : Bool) (test : r ≡ inBlock kind count i) (out : r ≡ false) (q : Bool) (asks : q ≡ isCall letter) (no-call : q ≡ false) (b : letter ≡ 83 → ⊥) where

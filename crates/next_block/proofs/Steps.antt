@@ -15,12 +15,11 @@ use Rattle.model.specs.Refusal.{Out, ok, refusal, andThen, depthRefusal, callsR
 use Rattle.model.specs.Rows.{Row, sheet, block, call, choice}
 use Rattle.model.specs.Place.{lineOf}
 use Rattle.model.specs.Expansion.{Progress, startOf, taken, blockOpened, callMade, walkRows, callAt}
-use Rattle.model.specs.Order.{Scenario}
 use Rattle.model.proofs.Bounded.{not-both}
 use Rattle.relation.specs.Width.{width}
 use Rattle.sheet.specs.Bridge.{rowFrom, rowsOf}
 use Rattle.sheet.proofs.Bridge.{row-sheet, row-call, row-choice, row-block}
-use Rattle.blocks.specs.Store.{Store, storeOps, passed, passedIn, concluded}
+use Rattle.blocks.specs.Store.{Store, storeOps, passed, passedIn}
 use Rattle.walk.specs.Block.{rowsFrom}
 use Rattle.walk.proofs.Meeting.{rows-next, rows-end, rows-drop}
 use Rattle.levels.specs.Options.{optionsOf, isCall, isNinth, sheetCalled, choicesBehind}
@@ -89,11 +88,12 @@ module _ (options : ℕ) (kind one two : List ℕ) (count : ℕ) where
       abbrev s : Progress Store
       s = idle calls choices met t
 
-      pub rest-end : letter ≡ 83 → level ≡ 0 → rest options kind one two count from level i s ≡ concluded s
+      pub rest-end : letter ≡ 83 → level ≡ 0 → rest options kind one two count from level i s ≡ ok s
       unfolding after andThen
       rest-end e z =
           ap (λ (o : Out (Progress Store)). andThen o (after options kind one two count from level)) (sheet-over e (levels - level) s)
           ∙ ap (λ (k : ℕ). after options kind one two count from k s) z
+          ∙ ap ok (empty-opened calls choices met t)
 
       pub rest-back : letter ≡ 83 → (level ≡ 0 → ⊥)
           → rest options kind one two count from level i s ≡ rest options kind one two count from (level - 1) (getD from (level - 1) 0 + 1) s
@@ -165,7 +165,7 @@ module _ (options : ℕ) (kind one two : List ℕ) (count : ℕ) where
                 (row-call (getD kind i 0) (getD one i 0) (getD two i 0) (is ∙ c))
                 ∙ onward (by false)
 
-        abbrev onward : Out (Progress Store) → Out (Scenario × ℕ)
+        abbrev onward : Out (Progress Store) → Out (Progress Store)
         onward o = andThen (andThen o behind) (after options kind one two count from level)
 
         pub rest-deep : level ≡ levels → rest options kind one two count from level i s ≡ refusal depthRefusal (lineOf i)

@@ -7,12 +7,11 @@ use mathlib.Core.Bool.{true}
 use mathlib.Core.List.{List}
 use lib.ListN.{length, getD}
 use Rattle.model.specs.Limits.{rowsMost, levels, callsMost}
-use Rattle.model.specs.Refusal.{Out, refusal, andThen}
+use Rattle.model.specs.Refusal.{Out, ok, refusal, andThen}
 use Rattle.model.specs.Place.{lineOf}
 use Rattle.model.specs.Expansion.{Progress, startOf, blockOpened, walkRows, callAt}
-use Rattle.model.specs.Order.{Scenario}
 use Rattle.sheet.specs.Bridge.{rowsOf}
-use Rattle.blocks.specs.Store.{Store, storeOps, concluded}
+use Rattle.blocks.specs.Store.{Store, storeOps}
 use Rattle.levels.specs.Options.{optionsOf, isCall, sheetCalled}
 use Rattle.walk.specs.Block.{rowsFrom, inBlock, RowsFew, AllStand}
 use Rattle.next_block.specs.declared.Reached.{Reached}
@@ -39,13 +38,13 @@ module _ (options : ℕ) (kind one two : List ℕ) (count : ℕ) where
   rowsWalked left i s =
       walkRows storeOps (optionsOf options) (callAt storeOps (optionsOf options) left (rowsOf kind one two count)) (rowsFrom kind one two count i) (lineOf i) s
 
-  -- what is left where the rows at a level have ended, the calls at these rows being open
-  unfoldable pub after : List ℕ → ℕ → Progress Store → Out (Scenario × ℕ)
-  after from zero s = concluded s
+  -- what is left where the rows at a level have ended, the calls at these rows being open: at the end of sheet 0 the next block is opened
+  unfoldable pub after : List ℕ → ℕ → Progress Store → Out (Progress Store)
+  after from zero s = ok (blockOpened storeOps s)
   after from (suc k) s = andThen (rowsWalked (levels - k) (getD from k 0 + 1) (blockOpened storeOps s)) (after from k)
 
   -- what the whole comes to from a row at a level on
-  abbrev pub rest : List ℕ → ℕ → ℕ → Progress Store → Out (Scenario × ℕ)
+  abbrev pub rest : List ℕ → ℕ → ℕ → Progress Store → Out (Progress Store)
   rest from level i s = andThen (rowsWalked (levels - level) i s) (after from level)
 
   -- the call at a row is open: the rows behind it stand
@@ -76,14 +75,14 @@ module _ (options : ℕ) (kind one two : List ℕ) (count : ℕ) where
     pub row : inBlock kind count i ≡ true
     pub nearer : rank count level i calls ≤ most
 
-  abbrev pub reachedRest : Reached → List ℕ → ℕ → Store → Out (Scenario × ℕ)
+  abbrev pub reachedRest : Reached → List ℕ → ℕ → Store → Out (Progress Store)
   reachedRest (reached.Block level i calls choices) from met t = rest from level i (idle calls choices met t)
-  reachedRest (reached.End choices) from met t = concluded (idle 0 choices met t)
+  reachedRest (reached.End calls choices) from met t = ok (idle calls choices met t)
   reachedRest (reached.Stopped number line) from met t = refusal number line
 
   abbrev pub ReachedStands : Reached → List ℕ → ℕ → Type 0
   ReachedStands (reached.Block level i calls choices) from most = AtBlock from level i calls most
-  ReachedStands (reached.End choices) from most = Unit {0}
+  ReachedStands (reached.End calls choices) from most = calls ≤ callsMost
   ReachedStands (reached.Stopped number line) from most = Unit {0}
 
   -- the walk comes to the same from there on, whatever it has met and collected

@@ -7,11 +7,11 @@ ghost use lib.ListN.{length};
 ghost use Rattle.levels.specs.Options.{isCall};
 ghost use Rattle.next_block.specs.Levels.{BehindBlocks, Sheets, Between, Reaches};
 
-// Where the walk comes to between two blocks: the level and row of the next block, with the calls made and the A rows met; the end of
-// sheet 0, with the A rows met; or a refusal's number and line.
+// Where the walk comes to between two blocks: the level and row of the next block, or the end of sheet 0, each with the calls made and
+// the A rows met; or a refusal's number and line.
 pub enum Reached {
     Block(usize, usize, usize, usize),
-    End(usize),
+    End(usize, usize),
     Stopped(u8, usize),
 }
 
@@ -89,7 +89,7 @@ pub fn next_block(
         }
         if letter == b'S' {
             if level == 0 {
-                return Reached::End(choices);
+                return Reached::End(calls, choices);
             }
             level -= 1;
             at = from[level] + 1;

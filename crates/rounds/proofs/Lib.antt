@@ -1,0 +1,4 @@
+mod Reading
+mod ByAnswer
+mod Whole
+mod Bounds

@@ -1,0 +1,3 @@
+pub mod Plain
+mod Walking
+mod Deciding

@@ -258,13 +258,44 @@ static void forbidden_chain(int n) {
     forbids = 1;
 }
 
+/* Rounds: each message answered, so that no number of rounds locks. */
+static void answered(int n) {
+    begin();
+    for (int m = 0; m < n; m += 2) {
+        line("M", m % 16, (m + 1) % 16);
+        line("M", (m + 1) % 16, m % 16);
+        line("P", 1, 2);
+        line("P", 0, 3);
+        line("B", 0, 0);
+    }
+}
+
+/* A sheet unrolled into one walk of twice its messages: a sheet 0 that calls it twice. */
+static void twice(void (*make)(int), int n) {
+    static char once[sizeof text];
+    make(n / 2);
+    memcpy(once, text, len + 1);
+    char *rest = strchr(strchr(once, '\n') + 1, '\n') + 1; /* after the heading and S 0 0 */
+    begin();
+    line("C", 1, 0);
+    line("C", 1, 0);
+    line("S", 1, 0);
+    len += (size_t)sprintf(text + len, "%s", rest);
+}
+
+static void longest_twice(int n) { twice(longest_trace, n); }
+static void last_race_twice(int n) { twice(last_race, n); }
+static void answered_twice(int n) { twice(answered, n); }
+static void chain_again(int n) { twice(chain, n); }
+
 static const struct { const char *name; void (*make)(int); } sheets[] = {
     {"longest-trace", longest_trace}, {"chain", chain}, {"dense", dense}, {"calls", calls}, {"blocks", blocks}, {"refused", refused},
     {"chain-twice", chain_twice}, {"last-race", last_race}, {"most-rows", most_rows}, {"order-rows", order_rows}, {"few", few}, {"case-2", case_2},
     {"early-race", early_race}, {"streams", streams}, {"choices", choices}, {"choices-locked", choices_locked},
     {"taps-up", taps_up}, {"taps-down", taps_down}, {"taps-crossed", taps_crossed}, {"taps-clash", taps_clash},
     {"many-races", many_races}, {"races-counted", races_counted}, {"late-message", late_message},
-    {"forbidden", forbidden}, {"forbidden-chain", forbidden_chain},
+    {"forbidden", forbidden}, {"forbidden-chain", forbidden_chain}, {"answered", answered},
+    {"twice-longest-trace", longest_twice}, {"twice-last-race", last_race_twice}, {"twice-answered", answered_twice}, {"twice-chain", chain_again},
 };
 
 /* A word and its numbers, and what each board waits for. */
@@ -331,6 +362,16 @@ static void list(int proved, uint32_t code) {
     unsigned sum = 0;
     for (size_t i = 0; i < sizeof races / sizeof *races; i++) sum = 31 * sum + races[i];
     printf("races: %u %u %u, output %u\n", a.word, a.one, a.two, sum);
+}
+
+/* The sheet repeated: the answer, and a sum of the trace. */
+static void repeat(int proved, uint32_t code) {
+    static uint64_t scratch[CHANNEL_CHECK_SCRATCH_WORDS];
+    static uint8_t trace[CHANNEL_CHECK_TRACE_BYTES];
+    rounds_check_answer a = (proved ? rounds_check : careful_rounds_check)((const uint8_t *)text, len, code, scratch, CHANNEL_CHECK_SCRATCH_WORDS, trace, CHANNEL_CHECK_TRACE_BYTES);
+    unsigned sum = 0;
+    for (size_t i = 0; i < sizeof trace; i++) sum = 31 * sum + trace[i];
+    printf("repeated: %u %u %u %u %u, trace %u\n", a.word, a.one, a.two, a.three, a.rounds, sum);
 }
 
 /* The messages of the sheet, once, since it is given no channel: the answer, and a sum of the output. */
@@ -421,6 +462,7 @@ static void on_channel(int proved, uint32_t code) {
     else run(proved, code);
     if (is_asked("permitted_check")) permit(proved, code);
     if (is_asked("sheet_races")) list(proved, code);
+    if (is_asked("rounds_check")) repeat(proved, code);
 }
 
 int main(int argc, char **argv) {

@@ -529,6 +529,36 @@ channel_check_answer careful_check(const uint8_t *text, size_t text_len, uint32_
     return a;
 }
 
+/* ------------------------------------------------------------------ rounds */
+
+/* A second walk goes on where the first ended. One round's race is looked for between them; its steps need one more walk. */
+static rounds_check_answer judge_rounds(const uint8_t *text, size_t len, uint32_t code, uint64_t *scratch, uint8_t *trace) {
+    sheet s;
+    walk w;
+    size_t e, x;
+    refusal r = read(text, len, &s, scratch, 0);
+    w.words = scratch;
+    if (!r.number) r = expand(&s, &w, 0);
+    if (r.number) return (rounds_check_answer){2, r.number, r.line, 0, 0};
+    int once = lowest_race(&w, rules[code], &e, &x);
+    open_block(&w);
+    r = walk_sheets(&s, &w);
+    if (r.number) return (rounds_check_answer){2, r.number, r.line, 0, 0};
+    if (once) expand(&s, &w, 0);
+    else if (!lowest_race(&w, rules[code], &e, &x)) return (rounds_check_answer){0, 0, 0, 0, 0};
+    size_t steps = schedule(&w, channels[code], e, trace);
+    return (rounds_check_answer){1, (uint32_t)e, (uint32_t)x, (uint32_t)steps, once ? 1 : 2};
+}
+
+rounds_check_answer careful_rounds_check(const uint8_t *text, size_t text_len, uint32_t code, uint64_t *scratch, size_t scratch_len,
+                                         uint8_t *trace, size_t trace_len) {
+    if (code > 5) return (rounds_check_answer){2, 1, 0, 0, 0};
+    if (scratch_len < WORDS || trace_len < TRACE) return (rounds_check_answer){2, 2, 0, 0, 0};
+    rounds_check_answer a = judge_rounds(text, text_len, code, scratch, trace);
+    memset(scratch, 0, WORDS * 8);
+    return a;
+}
+
 /* ------------------------------------------------------------------ choices */
 
 /* Every list is walked, m ahead of n; the first that locks is remembered, and walked once more for its steps. */

@@ -33,4 +33,6 @@ taps_check_answer careful_taps_check(const uint8_t *text, size_t text_len, uint6
                                      size_t first_len, const uint16_t *second, size_t second_len, uint16_t *output, size_t output_len);
 sheet_races_answer careful_sheet_races(const uint8_t *text, size_t text_len, uint32_t code, uint64_t *scratch, size_t scratch_len,
                                        uint16_t *output, size_t output_len);
+rounds_check_answer careful_rounds_check(const uint8_t *text, size_t text_len, uint32_t code, uint64_t *scratch, size_t scratch_len,
+                                         uint8_t *trace, size_t trace_len);
 #endif

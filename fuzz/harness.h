@@ -64,6 +64,7 @@ typedef union {
     taps_check_answer taps;
     sheet_messages_answer messages;
     sheet_races_answer races;
+    rounds_check_answer rounds;
 } answer;
 
 typedef struct {

@@ -1,7 +1,7 @@
 //! Random bytes as sheet, trace, table and list to every command of the tool: no crash, a status from 0 to 3, and an answer or a reason.
 //! Half of the inputs are bytes; the others are rows, rules and steps in a random order, so that some are accepted. Then every command on the largest
 //! sheets; the longest time of one is printed.
-//! usage: random_bytes PROGRAM FOLDER RUNS SEED
+//! usage: random_bytes PROGRAM FOLDER RUNS SEED [diagrams], with which every sheet is a diagram
 
 use std::fs;
 use std::path::Path;
@@ -206,10 +206,11 @@ fn main() {
     let (runs, seed): (usize, u64) = (words[3].parse().expect("runs"), words[4].parse().expect("a seed"));
     fs::create_dir_all(folder).expect("a folder");
     let mut r = Random(seed.wrapping_mul(0x9e37_79b9_7f4a_7c15) | 1);
+    let sheets: fn(&mut Random) -> Vec<u8> = if words.get(5).map(String::as_str) == Some("diagrams") { diagram } else { sheet };
     let mut count = [0; 4];
     for i in 0..runs {
         let mut words = COMMANDS[i % COMMANDS.len()].to_string();
-        for (name, make) in [("sheet", sheet as fn(&mut Random) -> Vec<u8>), ("trace", trace), ("table", table), ("list", list)] {
+        for (name, make) in [("sheet", sheets), ("trace", trace as fn(&mut Random) -> Vec<u8>), ("table", table), ("list", list)] {
             let file = folder.join(name);
             fs::write(&file, make(&mut r)).expect("a file is written");
             words = words.replace(&format!("{{{}}}", name), &file.to_string_lossy());

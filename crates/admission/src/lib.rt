@@ -1,4 +1,6 @@
 // A job's admission: the sheet lent in the lowest free place is read into the words there, and the job goes behind the last.
+#![tactic(auto)]
+
 ghost use Rattle.std.specs.Prelude.{◌≡◌, ◌^◌, ◌<◌, ◌≤◌, length};
 ghost use Rattle.std.proofs.Math.Option.{none, some};
 ghost use Rattle.model.specs.Limits.{channels, messages_most, text_most, jobs_most, job_numbers, job_words_least};
@@ -14,7 +16,7 @@ use share::Race;
 use taken_places::Place;
 
 // What an admission may change: the queue, how many numbers were given out, and what stands in the new job's place.
-#[derive(Drop)]
+#[derive(Clone, Copy)]
 pub struct Part {
     pub queue: Queue,
     pub given: u32,
@@ -23,7 +25,7 @@ pub struct Part {
 }
 
 // What an admission leaves of it, with its word and numbers.
-#[derive(Drop)]
+#[derive(Clone, Copy)]
 pub struct Entry {
     pub word: u32,
     pub one: u32,

@@ -8,7 +8,7 @@ use verdict::Answer;
 
 // word 0 free, 1 locked (one is the message, two the event, three the number of steps), 2 refused (one is the number, two the line).
 #[repr(C)]
-#[derive(Drop)]
+#[derive(Clone, Copy)]
 pub struct ChannelCheckAnswer {
     pub word: u32,
     pub one: u32,

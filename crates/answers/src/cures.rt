@@ -8,7 +8,7 @@ use cure::Answer;
 
 // word 0 written (one is the text's length), 1 refused (one is the number, two the line).
 #[repr(C)]
-#[derive(Drop)]
+#[derive(Clone, Copy)]
 pub struct CureSheetAnswer {
     pub word: u32,
     pub one: u32,

@@ -1,4 +1,6 @@
 // The answers of the calls as C gets them: a word, and numbers of 32 bits.
+#![tactic(auto)]
+
 mod checks;
 mod cures;
 mod tables;

@@ -10,7 +10,7 @@ use senders::Judgement;
 // word 0 sound, 1 gap (one is the pair), 2 clash (one is the pair, two and three the lines of its first two rules), 3 refused (one is the
 // number, two the line).
 #[repr(C)]
-#[derive(Drop)]
+#[derive(Clone, Copy)]
 pub struct SendersCheckAnswer {
     pub word: u32,
     pub one: u32,

@@ -8,7 +8,7 @@ use taps::Answer;
 
 // word 0 fit (one is how many events are written), 1 clash (one is the event), 2 refused (one is the number, two the line).
 #[repr(C)]
-#[derive(Drop)]
+#[derive(Clone, Copy)]
 pub struct TapsCheckAnswer {
     pub word: u32,
     pub one: u32,

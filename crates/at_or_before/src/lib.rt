@@ -1,4 +1,6 @@
 // The events at or before another: one at a time, and a word of those at or before a send at once.
+#![tactic(auto)]
+
 ghost use Rattle.std.specs.Prelude.{◌≡◌, ◌+◌, ◌*◌, ◌<◌, ◌≤◌, length};
 ghost use Rattle.model.specs.Order.{event, at_or_before};
 ghost use Rattle.relation.specs.Width.{width, word_bits};

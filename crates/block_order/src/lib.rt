@@ -1,4 +1,6 @@
 // The order of the open block, kept closed in words as its rows are read: refusal 11 is judged by it.
+#![tactic(auto)]
+
 ghost use Rattle.std.specs.Prelude.{◌≡◌, ◌*◌, ◌<◌, ◌≤◌, length};
 ghost use Rattle.model.specs.Limits.{messages_most};
 ghost use Rattle.model.specs.Rows.{order};

@@ -1,4 +1,6 @@
 // What a walk collects in words: a message met, a P row met, a block closed.
+#![tactic(auto)]
+
 ghost use Rattle.std.specs.Prelude.{◌≡◌, ◌+◌, ◌*◌, ◌<◌, ◌≤◌, length};
 ghost use Rattle.model.specs.Limits.{boards as boards_most, messages_most};
 ghost use Rattle.relation.specs.Width.{width};

@@ -1,4 +1,6 @@
 // Which events are on which board: the board of an event, and the masks of the boards.
+#![tactic(auto)]
+
 mod masks;
 
 ghost use Rattle.std.specs.Prelude.{◌≡◌, ◌<◌, length, get_or};

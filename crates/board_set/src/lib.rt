@@ -1,4 +1,6 @@
 // Sets of boards, a bit for each board: whether a board is in a set, and a pair of boards in two.
+#![tactic(auto)]
+
 ghost use Rattle.std.specs.Prelude.{◌≡◌, ◌&&◌};
 ghost use Rattle.model.specs.Senders.{in_set};
 

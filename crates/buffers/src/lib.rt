@@ -1,4 +1,6 @@
 // The buffers of a run in rows of words, a row a board: what the search for a step reads without a copy of the run.
+#![tactic(auto)]
+
 ghost use Rattle.std.specs.Prelude.{◌<◌};
 ghost use Rattle.board.specs.Boards.{boards_most};
 ghost use Rattle.buffers.specs.Held.{HeldIn, LaysRow};

@@ -1,4 +1,6 @@
 // What a row that calls does: whether it is a ninth A row, the sheet that it calls, and the A rows met behind it.
+#![tactic(auto)]
+
 ghost use Rattle.std.specs.Prelude.{◌≡◌, false, ◌<◌, length, get_or};
 ghost use Rattle.model.specs.Limits.{rows_most};
 ghost use Rattle.levels.specs.Options.{is_ninth, sheet_called, choices_behind};

@@ -1,11 +1,13 @@
 // Cancelling a job at the counter: the job with the number leaves the queue, and the words of its place are cleared.
+#![tactic(auto)]
+
 ghost use Rattle.cancellation.specs.Cancelling.{LeavesIn};
 
 use answer_words::served::{CANCELLED, REFUSED};
 use queue::Queue;
 
 // What a cancellation leaves: its word and number, and the queue.
-#[derive(Drop)]
+#[derive(Clone, Copy)]
 pub struct Left {
     pub word: u32,
     pub one: u32,

@@ -1,4 +1,6 @@
 // The messages that the search of a class looks at: those whose step can be allowed at all.
+#![tactic(auto)]
+
 ghost use Rattle.std.specs.Prelude.{◌+◌, ◌*◌, ◌<◌, ◌≤◌, length};
 ghost use Rattle.model.specs.Limits.{messages_most};
 ghost use Rattle.relation.specs.Width.{width};

@@ -1,4 +1,6 @@
 // Whether a step is allowed: with a buffer, with the buffers in rows, and in a run.
+#![tactic(auto)]
+
 ghost use Rattle.std.specs.Prelude.{◌<◌};
 ghost use Rattle.board.specs.Masks.{Standing};
 ghost use Rattle.step.specs.Steps.{message_in};

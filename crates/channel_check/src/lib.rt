@@ -1,4 +1,6 @@
 // The channel check for C: each exported call is a few lines over its crate, and promises the whole of it.
+#![tactic(auto)]
+
 ghost use Rattle.std.specs.Prelude.{◌≡◌, []};
 ghost use Rattle.model.specs.Verdict.{Checked};
 ghost use Rattle.model.specs.EverySheet.{EverySheet};

@@ -1,4 +1,6 @@
 // Reads a sheet from standard input and prints its answer on each of the six channels. Where the input cannot be read to its end, there is no answer.
+#![tactic(auto)]
+
 use answer_words::checked::{FREE, LOCKED};
 use answers::ChannelCheckAnswer;
 use input::Input;

@@ -1,5 +1,7 @@
 // The check of a file with choices between two subprograms: free if every choice list gives a free sheet, else the first locked list;
 // a refusal in any list comes before any lock.
+#![tactic(auto)]
+
 ghost use Rattle.std.specs.Prelude.{◌≡◌, true, ◌*◌, ◌<◌, ◌≤◌, length};
 ghost use Rattle.model.specs.Limits.{channels, messages_most, trace_least};
 ghost use Rattle.model.specs.Place.{read_with};

@@ -1,4 +1,6 @@
 // The answer of the check of a file with choices: as C gets it, and the number by which the first locked list is told.
+#![tactic(auto)]
+
 ghost use Rattle.std.specs.Prelude.{◌≡◌, ◌≤◌, take};
 ghost use Rattle.model.specs.Limits.{choices_most};
 ghost use Rattle.model.specs.Choice.{choices_number};
@@ -9,7 +11,7 @@ use answer_words::checked::{FREE, LOCKED, REFUSED};
 
 // Free; locked, with the race's message and event, the number of steps in the trace, and the first locked list's length and number; or
 // refused, with number and line.
-#[derive(Drop)]
+#[derive(Clone, Copy)]
 pub enum Choice {
     Free,
     Locked(usize, usize, usize, usize, usize),
@@ -19,7 +21,7 @@ pub enum Choice {
 // word 0 free, 1 locked (one is the message, two the event, three the steps; length and choices are the first locked list's), 2 refused
 // (one is the number, two the line).
 #[repr(C)]
-#[derive(Drop)]
+#[derive(Clone, Copy)]
 pub struct ChoiceCheckAnswer {
     pub word: u32,
     pub one: u32,

@@ -1,4 +1,6 @@
 // The way through all choice lists of a file, in their order: each is walked, and its scenario tested for a race while no lock is known.
+#![tactic(auto)]
+
 ghost use Rattle.std.specs.Prelude.{◌≡◌, ◌+◌, ◌-◌, ◌*◌, ◌^◌, ◌<◌, ◌≤◌, length};
 ghost use Rattle.model.specs.Limits.{channels, choices_most, lists_most, messages_most};
 ghost use Rattle.model.specs.Race.{lowest_race};
@@ -19,7 +21,7 @@ pub const LISTS: usize = 1 << model::CHOICES_MOST;
 
 // All lists were walked: the last one's number, its messages, which are in boards and words, the A rows that it met, and the number of
 // the first locked list ahead of it, or LISTS. Or the refusal's number and line.
-#[derive(Drop)]
+#[derive(Clone, Copy)]
 pub enum Walked {
     Last(usize, usize, usize, usize),
     Refused(u8, usize),

@@ -1,4 +1,6 @@
 // What the choice lists decide: free if every list's sheet is free, else the first locked list; a refusal in any list comes before any lock.
+#![tactic(auto)]
+
 ghost use Rattle.std.specs.Prelude.{◌≡◌, ◌*◌, ◌<◌, ◌≤◌, length, take};
 ghost use Rattle.model.specs.Limits.{channels, choices_most, messages_most, trace_least};
 ghost use Rattle.model.specs.Answer.{verdict_of};

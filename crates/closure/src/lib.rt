@@ -1,4 +1,6 @@
 // The relation kept closed while events are put before others, and the lowest event that came before itself.
+#![tactic(auto)]
+
 ghost use Rattle.std.specs.Prelude.{◌≡◌, ◌+◌, ◌*◌, ◌<◌, ◌≤◌, length};
 ghost use Rattle.model.specs.Bounded.{lowest};
 ghost use Rattle.relation.specs.Width.{width, word_bits};

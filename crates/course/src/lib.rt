@@ -1,4 +1,6 @@
 // One course of events from lists of event numbers: a list is judged, its links go into the relation, and the course is taken from it.
+#![tactic(auto)]
+
 ghost use Rattle.std.specs.Prelude.{◌≡◌, true, ◌++◌, ◌*◌, ◌≤◌, length, drop};
 ghost use Rattle.model.specs.Bounded.{each_once};
 ghost use Rattle.model.specs.Taps.{course_of};

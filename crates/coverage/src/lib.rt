@@ -1,12 +1,14 @@
 // The coverage search, a rule at a time: which pairs of boards the rules of a table of permitted senders are about, and which rules one pair
 // is in.
+#![tactic(auto)]
+
 ghost use Rattle.std.specs.Prelude.{◌≡◌, ◌+◌, ◌^◌, ◌<◌};
 ghost use Rattle.coverage.specs.Search.{begun, joined_by, noted_by, met_by};
 
 use board_set::{in_set, is_covered};
 
 // A rule: the boards that may send, or may not, to the boards of the other set. Bit k of a set is board k.
-#[derive(Drop)]
+#[derive(Clone, Copy)]
 pub struct Rule {
     pub from: u16,
     pub to: u16,
@@ -15,7 +17,7 @@ pub struct Rule {
 
 // What a search over the rules has met, for one sender: the receivers that are in some rule with it, and those in two or more; and the lines
 // of the first two rules that the sender and the one receiver are in. Line 0 is no rule's.
-#[derive(Drop)]
+#[derive(Clone, Copy)]
 pub struct Search {
     pub sender: usize,
     pub receiver: usize,

@@ -1,5 +1,7 @@
 // What stands directly before each send in the cured order, in words. The row of a message's receive, which the cured order does not need,
 // becomes that of the events directly before its send, on its board.
+#![tactic(auto)]
+
 ghost use Rattle.std.specs.Prelude.{◌≡◌, ◌+◌, ◌*◌, ◌^◌, ◌<◌, ◌≤◌, length, get_or};
 ghost use Rattle.model.specs.Limits.{messages_most};
 ghost use Rattle.relation.specs.Width.{width, word_bits};

@@ -1,4 +1,6 @@
 // The loosest change that cures a sheet: a text, scratch words and output bytes in; the cured sheet as text out, or the refusal.
+#![tactic(auto)]
+
 ghost use Rattle.std.specs.Prelude.{◌≡◌, ◌*◌, ◌≤◌, length};
 ghost use Rattle.model.specs.Limits.{messages_most, sheet_output_least};
 ghost use Rattle.model.specs.Answer.{sheet_of};
@@ -12,7 +14,7 @@ ghost use Rattle.cure.specs.Parts.{outcome_in, numbers_for, Decides};
 use expansion::Expanded;
 
 // Written, with the text's length; or refused, with number and line.
-#[derive(Drop)]
+#[derive(Clone, Copy)]
 pub enum Answer {
     Written(usize),
     Refused(u8, usize),

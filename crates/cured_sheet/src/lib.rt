@@ -1,4 +1,6 @@
 // The cured sheet as text, row by row: each row starts at the byte after the one before, and its writer is lent the rest of the output.
+#![tactic(auto)]
+
 ghost use Rattle.std.specs.Prelude.{◌≡◌, ◌+◌, ◌*◌, ◌/◌, ◌%◌, ◌<◌, ◌≤◌, length};
 ghost use Rattle.model.specs.Limits.{messages_most, number_most, rows_most, sheet_output_least};
 ghost use Rattle.model.specs.Cure.{row_text, rows_text, order_rows};
@@ -122,7 +124,7 @@ fn end_behind(words: &[u64], count: usize, w: usize) -> usize
 }
 
 // Of the events of a word: those directly before some send, the first message with such a send, and the one behind the last.
-#[derive(Drop)]
+#[derive(Clone, Copy)]
 struct Span {
     events: u64,
     first: usize,

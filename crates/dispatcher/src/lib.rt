@@ -1,4 +1,6 @@
 // Several makers at the counter: up to eight jobs, each with its place and its words, and a turn at a time for the head of their queue.
+#![tactic(auto)]
+
 ghost use Rattle.std.specs.Prelude.{◌≡◌};
 ghost use Rattle.model.specs.Dispatcher.{empty_dispatcher, WholeLists};
 ghost use Rattle.dispatcher.specs.Bridge.{dispatcher_in, Holds, emptied, answer_in, AdmitOf, TurnOf, CancelOf};
@@ -12,7 +14,7 @@ use share::Race;
 // The jobs in the order of their turns; how many numbers were given out; and of each place what the race search of its job has found, and
 // the boards of its events. The relation of a job is in the words of its place.
 #[repr(C)]
-#[derive(Drop)]
+#[derive(Clone, Copy)]
 pub struct Dispatcher {
     pub queue: Queue,
     pub given: u32,
@@ -23,7 +25,7 @@ pub struct Dispatcher {
 // word 0 admitted (one is the job's number, two its place), 1 idle, 2 a turn of job one, 3 job one answered, 4 job one cancelled, 5 refused (one is
 // the number, two the line); the check's answer, zero but on 3; and the dispatcher to go on with.
 #[repr(C)]
-#[derive(Drop)]
+#[derive(Clone, Copy)]
 pub struct DispatcherAnswer {
     pub word: u32,
     pub one: u32,

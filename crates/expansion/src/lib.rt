@@ -1,5 +1,7 @@
 // The expansion of calls: rows in, and a list of options for their A rows; the messages that the walk meets and their causal order in
 // words, or refusal 8 to 10 or 13, out.
+#![tactic(auto)]
+
 ghost use Rattle.std.specs.Prelude.{◌≡◌, ◌*◌, length};
 ghost use Rattle.model.specs.Limits.{boards as boards_most, messages_most};
 ghost use Rattle.model.specs.Answer.{expanded_of};
@@ -18,21 +20,21 @@ use next_block::Reached;
 use walk::{Walk, Walked};
 
 // Where a walk ends: how far it has come, the next block being open; or the refusal's number and line.
-#[derive(Drop)]
+#[derive(Clone, Copy)]
 pub enum Ended {
     At(Walk),
     Refused(u8, usize),
 }
 
 // So many messages are in boards and words; or the refusal's number and line.
-#[derive(Drop)]
+#[derive(Clone, Copy)]
 pub enum Expanded {
     Messages(usize),
     Refused(u8, usize),
 }
 
 // So many messages are in boards and words, and so many A rows were met; or the refusal's number and line.
-#[derive(Drop)]
+#[derive(Clone, Copy)]
 pub enum Counted {
     Messages(usize, usize),
     Refused(u8, usize),

@@ -1,4 +1,6 @@
 // The letter, the number or the name that a field of a line holds.
+#![tactic(auto)]
+
 ghost use Rattle.std.specs.Prelude.{◌≡◌, [], ◌^◌, ◌≤◌, ◌<◌, length, get_or};
 ghost use Rattle.std.proofs.Math.Seq.{slice};
 ghost use Rattle.model.specs.Bounded.{same};
@@ -9,14 +11,14 @@ ghost use Rattle.fields.specs.Fields.{span_of, letter_of, numeral, numeral_from}
 use line::Cuts;
 
 // A field: the bytes from `from` up to `to`.
-#[derive(Drop)]
+#[derive(Clone, Copy)]
 struct Span {
     pub from: usize,
     pub to: usize,
 }
 
 // A number up to a largest that is given.
-#[derive(Drop)]
+#[derive(Clone, Copy)]
 pub enum Numeral {
     Is(u16),
     Bad,

@@ -1,4 +1,6 @@
 // The lowest event of a row that is in a mask and not done, word by word.
+#![tactic(auto)]
+
 ghost use Rattle.std.specs.Prelude.{◌≡◌, ◌+◌, ◌*◌, ◌^◌, ◌<◌, ◌≤◌, length};
 ghost use Rattle.model.specs.Bounded.{lowest};
 ghost use Rattle.relation.specs.Width.{width, word_bits};

@@ -1,4 +1,6 @@
 // The lowest event that is left and has nothing left before it, word by word.
+#![tactic(auto)]
+
 ghost use Rattle.std.specs.Prelude.{◌≡◌, ◌+◌, ◌*◌, ◌<◌, ◌≤◌, length};
 ghost use Rattle.std.specs.Int.Count.{count_trailing_zeros};
 ghost use Rattle.relation.specs.Width.{width, word_bits};

@@ -1,4 +1,6 @@
 // A turn of the head of the queue: a share of its race search, or, on its last turn, the check's answer.
+#![tactic(auto)]
+
 ghost use Rattle.std.specs.Prelude.{◌≡◌, true, false, ◌%◌, ◌≤◌, length};
 ghost use Rattle.std.proofs.Math.Option.{some};
 ghost use Rattle.model.specs.Limits.{jobs_most, job_words_least, trace_least};
@@ -15,7 +17,7 @@ use share::Race;
 
 // What a turn leaves of what it may change: its word and the job that it names, the check's answer, what the search of the head has found, and
 // the queue.
-#[derive(Drop)]
+#[derive(Clone, Copy)]
 pub struct Turn {
     pub word: u32,
     pub one: u32,

@@ -1,4 +1,6 @@
 // The heading (refusal 4): which field of each row is its kind, its one and its two.
+#![tactic(auto)]
+
 ghost use Rattle.std.specs.Prelude.{◌≡◌};
 ghost use Rattle.model.specs.Text.{place_of};
 ghost use Rattle.line.specs.Parts.{Cut, fields_in};
@@ -6,7 +8,7 @@ ghost use Rattle.heading.specs.Names.{HeadingAs, HeadingIn};
 
 use line::{Cuts, Split};
 
-#[derive(Drop)]
+#[derive(Clone, Copy)]
 pub struct Columns {
     pub kind: usize,
     pub one: usize,
@@ -14,7 +16,7 @@ pub struct Columns {
 }
 
 // The columns, and where the first row begins.
-#[derive(Drop)]
+#[derive(Clone, Copy)]
 pub enum Heading {
     Named(Columns, usize),
     Unnamed,

@@ -1,9 +1,11 @@
 // Input for the programs over the check: a read that fails is told from the end of the input, and a line on standard error says what failed.
+#![tactic(auto)]
+
 ghost use Rattle.std.specs.Prelude.{◌≡◌, ◌+◌, ◌≤◌, length};
 ghost use Rattle.input.specs.Reading.{part_of, input_of, Room, Handed};
 
 // What a read came to: so many bytes, the end of the input, or a failure.
-#[derive(Drop)]
+#[derive(Clone, Copy)]
 enum Part {
     Bytes(usize),
     End,
@@ -11,7 +13,7 @@ enum Part {
 }
 
 // The bytes up to the end of the input, or as many as there is room for; or a read failed.
-#[derive(Drop)]
+#[derive(Clone, Copy)]
 pub enum Input {
     Read(usize),
     Failed,

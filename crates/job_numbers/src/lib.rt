@@ -1,4 +1,6 @@
 // The job with a number in a queue: whether it is held, and the queue without it.
+#![tactic(auto)]
+
 ghost use Rattle.std.specs.Prelude.{◌≡◌, true};
 ghost use Rattle.model.specs.Bounded.{among};
 ghost use Rattle.model.specs.Dispatcher.{numbers_in, without};

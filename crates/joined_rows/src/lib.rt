@@ -1,4 +1,6 @@
 // Rows of the relation joined and copied: a row gains another one, or becomes one of other words.
+#![tactic(auto)]
+
 ghost use Rattle.std.specs.Prelude.{◌≡◌, ◌+◌, ◌*◌, ◌≤◌, length};
 ghost use Rattle.relation.specs.Width.{width};
 ghost use Rattle.joined_rows.specs.Joins.{joined, joined_from, copied_from};

@@ -1,4 +1,6 @@
 // The last turn of a job: the check's answer, from what the turns before it found.
+#![tactic(auto)]
+
 ghost use Rattle.std.specs.Prelude.{◌≡◌, ◌*◌, ◌≤◌, length};
 ghost use Rattle.model.specs.Limits.{messages_most, trace_least};
 ghost use Rattle.relation.specs.Width.{width};
@@ -9,7 +11,7 @@ use share::Race;
 
 // The check's answer as numbers: word 0 free; 1 locked, with the race's message and event and the number of steps.
 #[repr(C)]
-#[derive(Drop)]
+#[derive(Clone, Copy)]
 pub struct Numbers {
     pub word: u32,
     pub one: u32,

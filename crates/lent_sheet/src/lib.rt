@@ -1,4 +1,6 @@
 // The sheet and the channel that an admission is lent in a place, and the scenario of the sheet in the place's words.
+#![tactic(auto)]
+
 ghost use Rattle.std.specs.Prelude.{◌≡◌, ◌<◌, ◌≤◌, min, length, get_or};
 ghost use Rattle.model.specs.Limits.{channels, text_most, jobs_most, job_words_least};
 ghost use Rattle.lent_sheet.specs.Sheet.{ReadsSheet};

@@ -1,4 +1,6 @@
 // What a walk over the levels of calls reads at a row: its letter, the option of an A row, and where a called sheet starts.
+#![tactic(auto)]
+
 ghost use Rattle.std.specs.Prelude.{◌≡◌, false, ◌<◌, ◌≤◌, length, get_or};
 ghost use Rattle.model.specs.Limits.{choices_most};
 ghost use Rattle.levels.specs.Options.{options_of};

@@ -1,4 +1,6 @@
 // A line of a text, cut into its three fields.
+#![tactic(auto)]
+
 ghost use Rattle.std.specs.Prelude.{◌≡◌, ◌≤◌, length, drop};
 ghost use Rattle.line.specs.Scan.{begins_with};
 ghost use Rattle.line.specs.Parts.{FieldEnd, SplitAs};
@@ -9,7 +11,7 @@ const LINE_END: u8 = 10;
 const SPACE: u8 = 32;
 
 // A line of three fields, from `at`: the places of its two spaces and of its end.
-#[derive(Drop)]
+#[derive(Clone, Copy)]
 pub struct Cuts {
     pub at: usize,
     pub first: usize,
@@ -17,7 +19,7 @@ pub struct Cuts {
     pub end: usize,
 }
 
-#[derive(Drop)]
+#[derive(Clone, Copy)]
 pub enum Split {
     Three(Cuts),
     Other,

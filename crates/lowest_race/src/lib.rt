@@ -1,4 +1,6 @@
 // The race named: the lowest message that races, and the lowest event that it races with.
+#![tactic(auto)]
+
 ghost use Rattle.std.specs.Prelude.{◌≡◌, ◌<◌};
 ghost use Rattle.model.specs.Race.{lowest_event, lowest_race};
 ghost use Rattle.relation.specs.Scenario.{scenario_in};
@@ -34,7 +36,7 @@ fn lowest_event(
 }
 
 // A message and the event that it races with, or no race.
-#[derive(Drop)]
+#[derive(Clone, Copy)]
 pub enum Lowest {
     Race(usize, usize),
     Nothing,

@@ -1,4 +1,6 @@
 // The lines of the messages' M rows: the walk of an accepted sheet again, counting messages alone, up to as many as are asked for.
+#![tactic(auto)]
+
 ghost use Rattle.std.specs.Prelude.{◌≡◌, ◌++◌, ◌*◌, ◌<◌, ◌≤◌, length, get_or, take, drop};
 ghost use Rattle.model.specs.Limits.{messages_most};
 ghost use Rattle.model.specs.Senders.{lines_met};

@@ -30,6 +30,7 @@ ahead_split (true ∷ l) k j = ahead_split l k j
 
 -- lists one behind the other
 among_left : (l : List Bool) (ls ks : List (List Bool)) → Among l ls → Among l (ls ++ ks)
+among_left l [] ks a = elim a [ ]
 among_left l (k ∷ ls) ks (inl e) = inl e
 among_left l (k ∷ ls) ks (inr a) = inr (among_left l ls ks a)
 

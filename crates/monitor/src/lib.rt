@@ -1,4 +1,6 @@
 // A live monitor: a run's state between calls, with the channel code in force. Each call hands the next monitor back.
+#![tactic(auto)]
+
 ghost use Rattle.std.specs.Prelude.{◌≡◌, ◌*◌, ◌^◌, ◌<◌, length};
 ghost use Rattle.model.specs.Limits.{channels, messages_most};
 ghost use Rattle.model.specs.Answer.{sheet_of};
@@ -17,7 +19,7 @@ use step::{Step, StepOrNone};
 
 // The state of a run, and the channel code in force.
 #[repr(C)]
-#[derive(Drop)]
+#[derive(Clone, Copy)]
 pub struct Monitor {
     pub run: Run,
     pub code: u32,
@@ -25,7 +27,7 @@ pub struct Monitor {
 
 // word 0 taken, 1 forbidden, 2 refused (one is the number, two the line); and the monitor to go on with.
 #[repr(C)]
-#[derive(Drop)]
+#[derive(Clone, Copy)]
 pub struct MonitorAnswer {
     pub word: u32,
     pub one: u32,

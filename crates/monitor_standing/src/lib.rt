@@ -1,4 +1,6 @@
 // Where a monitored run stands: finished, stuck with what each board waits for, or open, by the step rules under the code in force.
+#![tactic(auto)]
+
 ghost use Rattle.std.specs.Prelude.{◌≡◌, ◌*◌, ◌^◌, ◌<◌, length};
 ghost use Rattle.model.specs.Limits.{channels, messages_most};
 ghost use Rattle.model.specs.Refusal.{ok};
@@ -18,7 +20,7 @@ use standing::Stand;
 // word 0 finished, 1 stuck, 2 open, 3 refused (one is the number, two the line).
 // On stuck each board has in waits the event that it waits for; 65,535 if there is none, and on every other word.
 #[repr(C)]
-#[derive(Drop)]
+#[derive(Clone, Copy)]
 pub struct MonitorStandingAnswer {
     pub word: u32,
     pub one: u32,

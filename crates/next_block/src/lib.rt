@@ -1,4 +1,6 @@
 // The levels of calls: the way from one block of a walk to the next. Refusals 8, 9 and 13.
+#![tactic(auto)]
+
 ghost use Rattle.std.specs.Prelude.{◌≡◌, ◌≤◌, length};
 ghost use Rattle.levels.specs.Options.{is_call};
 ghost use Rattle.next_block.specs.Levels.{BehindBlocks, Sheets, Between, Reaches};
@@ -8,7 +10,7 @@ use walk::Walk;
 
 // Where the walk comes to between two blocks: the level and row of the next block, or the end of sheet 0, each with the calls made and
 // the A rows met; or a refusal's number and line.
-#[derive(Drop)]
+#[derive(Clone, Copy)]
 pub enum Reached {
     Block(usize, usize, usize, usize),
     End(usize, usize),

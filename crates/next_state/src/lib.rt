@@ -1,4 +1,6 @@
 // The state of a run behind a step: the events done, the messages under way, and what the receiver's buffer holds.
+#![tactic(auto)]
+
 ghost use Rattle.std.specs.Prelude.{◌<◌};
 ghost use Rattle.model.specs.Limits.{messages_most};
 ghost use Rattle.step.specs.Steps.{step_in, message_in};

@@ -1,4 +1,6 @@
 // The search for the next step of the schedule: class by class, the lowest message first.
+#![tactic(auto)]
+
 ghost use Rattle.std.specs.Prelude.{◌≡◌, ◌<◌};
 ghost use Rattle.board.specs.Masks.{Standing};
 ghost use Rattle.buffers.specs.Held.{HeldAnywhere};

@@ -1,4 +1,6 @@
 // The P rows of a cured sheet, counted by words.
+#![tactic(auto)]
+
 ghost use Rattle.std.specs.Prelude.{◌≡◌, ◌+◌, ◌*◌, ◌<◌, ◌≤◌, length};
 ghost use Rattle.model.specs.Limits.{messages_most};
 ghost use Rattle.model.specs.Bounded.{how_many};

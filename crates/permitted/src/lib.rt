@@ -1,5 +1,7 @@
 // The check of a sheet with a table of permitted senders: a text, a channel code, scratch words, trace bytes and a table in; free, locked or
 // refused out. 18 for the table comes directly behind 3, and 19 for a forbidden message once the walk has ended.
+#![tactic(auto)]
+
 ghost use Rattle.std.specs.Prelude.{◌*◌, ◌<◌, ◌≤◌, ◌≡◌, length, take};
 ghost use Rattle.model.specs.Limits.{channels, messages_most, rules_most, trace_least};
 ghost use Rattle.model.specs.Refusal.{and_then};

@@ -1,4 +1,6 @@
 // A sheet by the rules of a sound table: the check, unless a message that the walk meets is forbidden, 19.
+#![tactic(auto)]
+
 ghost use Rattle.std.specs.Prelude.{◌*◌, ◌<◌, ◌≤◌, ◌≡◌, length, take};
 ghost use Rattle.model.specs.Limits.{channels, messages_most, rules_most, trace_least};
 ghost use Rattle.relation.specs.Width.{width};

@@ -1,4 +1,6 @@
 // Where a row may stand (refusal 6). The table of starts says which sheets are open, the boards those of the open block's events.
+#![tactic(auto)]
+
 ghost use Rattle.std.specs.Prelude.{◌≡◌, cond, ◌&&◌, ◌+◌, ◌*◌, ◌≤◌, ◌<◌, ltb, length, take, set};
 ghost use Rattle.model.specs.Limits.{sheets, rows_most, messages_most};
 ghost use Rattle.model.specs.Place.{message_fits, order_fits};
@@ -11,7 +13,7 @@ use model::{EVENTS_MOST, MESSAGES_MOST, SHEETS};
 const BOARDS: u16 = model::BOARDS as u16;
 
 // The messages of the open block behind the row; nothing where a rule is broken.
-#[derive(Drop)]
+#[derive(Clone, Copy)]
 pub enum Placed {
     Messages(usize),
     Nowhere,

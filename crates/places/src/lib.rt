@@ -1,4 +1,6 @@
 // The words of the places: those of the free ones are cleared, and no others are touched.
+#![tactic(auto)]
+
 ghost use Rattle.std.specs.Prelude.{◌≡◌, ◌<◌, ◌≤◌, length};
 ghost use Rattle.model.specs.Limits.{jobs_most, job_words_least};
 ghost use Rattle.relation.specs.Rows.{has};

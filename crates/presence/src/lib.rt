@@ -1,4 +1,6 @@
 // The sheets that a file needs are in it (refusal 7): the table of starts says which are.
+#![tactic(auto)]
+
 ghost use Rattle.std.specs.Prelude.{◌≡◌, ◌≤◌, ◌<◌, length, get_or};
 ghost use Rattle.model.specs.Limits.{sheets, rows_most};
 ghost use Rattle.place.specs.Stand.{is_open};
@@ -7,7 +9,7 @@ ghost use Rattle.presence.specs.AbsentCalls.{calls_absent, presence_in};
 use model::{ROWS_MOST, SHEETS};
 
 // Every sheet is there; or the line to report.
-#[derive(Drop)]
+#[derive(Clone, Copy)]
 pub enum Presence {
     Complete,
     Absent(usize),

@@ -1,5 +1,7 @@
 // Printing words and numbers, for the programs over the check. Where a function answers, it says whether the system took all that was to be
 // printed.
+#![tactic(auto)]
+
 use libc::STDOUT_FILENO;
 
 pub fn print(text: &[u8]) -> bool {

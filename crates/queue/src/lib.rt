@@ -1,4 +1,6 @@
 // The queue of a dispatcher's jobs, the head first.
+#![tactic(auto)]
+
 ghost use Rattle.std.specs.Prelude.{◌≡◌};
 ghost use Rattle.model.specs.Dispatcher.{is_last};
 ghost use Rattle.queue.specs.Bridge.{job_in, empty_queue, queue_in, Counted, head_in, head_of, FirstPlace};
@@ -7,7 +9,7 @@ use model::JOBS_MOST;
 
 // A job held: its number and place, the code that it was admitted with, the messages that its walk meets, and the turns that it had.
 #[repr(C)]
-#[derive(Drop)]
+#[derive(Clone, Copy)]
 pub struct Job {
     pub number: u32,
     pub turns: u32,
@@ -19,21 +21,21 @@ pub struct Job {
 // The jobs held, in the order of their turns: the first `held` of the array. Of a value that no call made they are read as far as each has a
 // place of its own, so that there is always room for one more where a place is free.
 #[repr(C)]
-#[derive(Drop)]
+#[derive(Clone, Copy)]
 pub struct Queue {
     pub jobs: [Job; JOBS_MOST],
     pub held: u32,
 }
 
 // How many jobs are held, and their places: bit p is place p.
-#[derive(Drop)]
+#[derive(Clone, Copy)]
 pub struct Taken {
     pub count: usize,
     pub places: u64,
 }
 
 // The job that a turn takes, if one is held.
-#[derive(Drop)]
+#[derive(Clone, Copy)]
 pub enum Head {
     Job(Job),
     Nothing,

@@ -1,4 +1,6 @@
 // The races of a scenario: the test of a message, a word of events at once.
+#![tactic(auto)]
+
 ghost use Rattle.std.specs.Prelude.{◌≡◌, cond, ◌+◌, ◌*◌, ◌<◌, ◌≤◌, eqb, length};
 ghost use Rattle.model.specs.Limits.{channels, messages_most};
 ghost use Rattle.model.specs.Race.{race_rule_of};
@@ -11,7 +13,7 @@ use at_or_before::reached_word;
 use relation::{SENDS, WIDTH, WORD_BITS};
 
 // What must not be at or before e's send: the event itself, or its origin; on the lazy channels there are no races.
-#[derive(Drop)]
+#[derive(Clone, Copy)]
 pub enum Rule {
     ByEvent,
     ByOrigin,

@@ -1,4 +1,6 @@
 // All races of a scenario, by e and then x: counted, and as many of them as an output holds written there, two numbers each.
+#![tactic(auto)]
+
 ghost use Rattle.std.specs.Prelude.{◌≡◌, ◌+◌, ◌*◌, ◌<◌, ◌≤◌, min, length, set};
 ghost use Rattle.std.specs.Int.Count.{ones, count_trailing_zeros};
 ghost use Rattle.model.specs.Holdings.{races_of, races_below};
@@ -16,7 +18,7 @@ use relation::WORD_BITS;
 const NUMBERS: usize = 2;
 
 // How many races there are, and how many of them stand in the output.
-#[derive(Drop)]
+#[derive(Clone, Copy)]
 pub struct Told {
     pub all: usize,
     pub listed: usize,

@@ -1,5 +1,7 @@
 // Reads a sheet from standard input and prints its race words: a line for each channel code and message, with the words of the events
 // that race with the message under the code's rule.
+#![tactic(auto)]
+
 ghost use Rattle.std.specs.Prelude.{◌<◌};
 ghost use Rattle.model.specs.Limits.{channels};
 ghost use Rattle.board.specs.Masks.{Standing};

@@ -1,4 +1,6 @@
 // The readiness of an event: whether every event before it on its board is done, and if not, which it waits for.
+#![tactic(auto)]
+
 ghost use Rattle.std.specs.Prelude.{◌*◌, ◌<◌};
 ghost use Rattle.board.specs.Masks.{Standing};
 ghost use Rattle.readiness.specs.Says.{SaysReadiness};
@@ -8,7 +10,7 @@ use first_left::first_left;
 use relation::{Found, WIDTH};
 
 // An event is ready; or done already; or it waits for the lowest event before it on its board that is not yet done.
-#[derive(Drop)]
+#[derive(Clone, Copy)]
 pub enum Readiness {
     Ready,
     Done,

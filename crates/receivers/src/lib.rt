@@ -1,4 +1,6 @@
 // The receivers that a table permits each sender, 16 bits a sender, and the first message of a walk that is forbidden: one look a message.
+#![tactic(auto)]
+
 ghost use Rattle.std.specs.Prelude.{◌≡◌, ◌*◌, ◌≤◌, length, take};
 ghost use Rattle.model.specs.Limits.{rules_most, messages_most};
 ghost use Rattle.model.specs.Bounded.{lowest};
@@ -10,7 +12,7 @@ use coverage::Rule;
 use model::{BOARDS, RULES_MOST};
 
 // The first message that is forbidden, if there is one.
-#[derive(Drop)]
+#[derive(Clone, Copy)]
 pub enum Forbidden {
     Message(usize),
     Nothing,

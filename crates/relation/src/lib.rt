@@ -1,4 +1,6 @@
 // Rows of words: row y holds the predecessors of event y, WIDTH words a row, an event a bit.
+#![tactic(auto)]
+
 ghost use Rattle.std.specs.Prelude.{◌≡◌, ◌+◌, ◌*◌, ◌<◌, ◌≤◌, length};
 ghost use Rattle.relation.specs.Width.{width, word_bits};
 ghost use Rattle.relation.specs.Rows.{holds, marked, unmarked, cleared};
@@ -53,7 +55,7 @@ pub fn clear(words: &mut [u64], count: usize)
 }
 
 // What a search for an event found: the lowest one, if there is one.
-#[derive(Drop)]
+#[derive(Clone, Copy)]
 pub enum Found {
     Event(usize),
     Nothing,

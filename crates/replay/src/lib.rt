@@ -1,4 +1,6 @@
 // A trace from another tool: a sheet, a channel and a trace in, the verdict of the step rules out.
+#![tactic(auto)]
+
 ghost use Rattle.std.specs.Prelude.{◌≡◌, ◌*◌, ◌%◌, ◌<◌, ◌≤◌, length};
 ghost use Rattle.model.specs.Limits.{channels, messages_most, trace_least};
 ghost use Rattle.model.specs.Answer.{sheet_of};

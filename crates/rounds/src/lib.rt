@@ -1,5 +1,7 @@
 // The check of a sheet that is repeated: a text, a channel code, scratch words and trace bytes in; free on every number of rounds, locked on
 // the first or the second, or refused, out.
+#![tactic(auto)]
+
 ghost use Rattle.std.specs.Prelude.{◌≡◌, ◌*◌, ◌<◌, ◌≤◌, length};
 ghost use Rattle.model.specs.Limits.{channels, messages_most, trace_least};
 ghost use Rattle.model.specs.Rounds.{rounds_answer, RoundsChecked};
@@ -14,7 +16,7 @@ use sheet::Verdict;
 // word 0 free, 1 locked (one is the message, two the event, three the number of steps, rounds the fewest that lock), 2 refused (one is the
 // number, two the line).
 #[repr(C)]
-#[derive(Drop)]
+#[derive(Clone, Copy)]
 pub struct RoundsCheckAnswer {
     pub word: u32,
     pub one: u32,

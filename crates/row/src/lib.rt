@@ -1,4 +1,6 @@
 // A row: its form (refusal 5), a letter and two numbers in the heading's order, ahead of its place (6), and that ahead of a circle (11).
+#![tactic(auto)]
+
 ghost use Rattle.std.specs.Prelude.{◌≡◌, cond, ◌*◌, ◌≤◌, length};
 ghost use Rattle.std.proofs.Math.Option.{none, some};
 ghost use Rattle.model.specs.Limits.{sheets, messages_most};
@@ -16,14 +18,14 @@ use model::{EVENTS_MOST, SHEETS};
 use place::Placed;
 
 // A row's kind and numbers, and where the next one begins.
-#[derive(Drop)]
+#[derive(Clone, Copy)]
 enum Reading {
     Row(u8, u16, u16, usize),
     Malformed,
 }
 
 // A row's kind and numbers, where the next one begins, and the messages of the open block behind it; or the refusal's number.
-#[derive(Drop)]
+#[derive(Clone, Copy)]
 pub enum Step {
     Row(u8, u16, u16, usize, usize),
     Refused(u8),

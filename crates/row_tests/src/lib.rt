@@ -1,4 +1,6 @@
 // Tests of rows, word by word: whether an event of a row is in a mask and among those given.
+#![tactic(auto)]
+
 ghost use Rattle.std.specs.Prelude.{◌≡◌, ◌+◌, ◌*◌, ◌≤◌, length};
 ghost use Rattle.relation.specs.Width.{width, word_bits};
 ghost use Rattle.run.specs.State.{in_row};

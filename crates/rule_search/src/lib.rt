@@ -1,4 +1,6 @@
 // The coverage search over the rules of a table, one rule behind the other.
+#![tactic(auto)]
+
 ghost use Rattle.std.specs.Prelude.{◌≡◌, ◌≤◌, take};
 ghost use Rattle.model.specs.Limits.{rules_most};
 ghost use Rattle.coverage.specs.Search.{searched};

@@ -5,7 +5,7 @@ use mathlib.Core.List.{List, [], ◌∷◌}
 use Prim.Native.Nat.{ℕ, zero, suc, ◌+◌, ◌*◌, ◌/◌, ◌%◌, ◌<◌, ◌≤◌}
 use native.Mathlib.Nat.{not-suc-le-zero, le_of_suc-le-suc}
 use native.Mathlib.Omega.{arith}
-use lib.ListN.{length, length-map, get_or, replicate}
+use lib.ListN.{length, get_or, replicate}
 use mir.Val.{Val}
 use denote.Laws.{Is}
 use Rattle.model.specs.Limits.{boards}
@@ -32,7 +32,7 @@ get_d_inside (a ∷ l) (suc i) d e h = get_d_inside l i d e (le_of_suc-le-suc h)
 
 -- a run has a buffer for each board: its type says so
 pub buffers_long : (run : Run) (vs : List Val) → Is the_row run vs → length run.buffers ≡ boards
-buffers_long run vs good = simp length-map at good.1.1.1.1.0.1.0.1
+buffers_long run vs good = good.1.1.1.1.0.1.0.1
 
 -- the buffer of a step's board, as the code reads it
 pub buffer_read : (run : Run) (on : List ℕ) (s : Step) (b : ℕ) (other : Buffer) → BoardAt on s b → length run.buffers ≡ boards

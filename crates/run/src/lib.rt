@@ -1,4 +1,6 @@
 // The state of a run, and the boards of a step.
+#![tactic(auto)]
+
 ghost use Rattle.std.specs.Prelude.{◌*◌, ◌<◌};
 ghost use Rattle.model.specs.Limits.{messages_most};
 ghost use Rattle.run.specs.State.{Without, Starts, Reaches, BoardAt, TargetOf};
@@ -9,14 +11,14 @@ use step::Step;
 
 // The messages that a board's buffer holds, as bits of their sends.
 #[repr(C)]
-#[derive(Drop)]
+#[derive(Clone, Copy)]
 pub struct Buffer {
     pub held: [u64; WIDTH],
 }
 
 // The state of a run: the events done, the messages under way as bits of their sends, and each board's buffer.
 #[repr(C)]
-#[derive(Drop)]
+#[derive(Clone, Copy)]
 pub struct Run {
     pub done: [u64; WIDTH],
     pub way: [u64; WIDTH],

@@ -1,4 +1,6 @@
 // The way from a text to its scenario, which every call takes: the text is read, and its calls are expanded.
+#![tactic(auto)]
+
 ghost use Rattle.std.specs.Prelude.{◌≡◌, ◌*◌, length};
 ghost use Rattle.model.specs.Limits.{messages_most};
 ghost use Rattle.relation.specs.Width.{width};

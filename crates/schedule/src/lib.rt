@@ -1,4 +1,6 @@
 // The withholding schedule for a message, step by step, and its trace, two bytes a step.
+#![tactic(auto)]
+
 ghost use Rattle.std.specs.Prelude.{◌≡◌, ◌+◌, ◌*◌, ◌<◌, ◌≤◌, length, set};
 ghost use Rattle.model.specs.Limits.{messages_most};
 ghost use Rattle.model.specs.Schedule.{kind_of};

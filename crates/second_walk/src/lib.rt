@@ -1,4 +1,6 @@
 // The rows of a sheet walked twice: one round is judged after the first walk and two after the second, whose rows stand in the same words.
+#![tactic(auto)]
+
 ghost use Rattle.std.specs.Prelude.{◌≡◌, ◌*◌, ◌<◌, ◌≤◌, length};
 ghost use Rattle.model.specs.Limits.{channels, messages_most, trace_least};
 ghost use Rattle.model.specs.Answer.{verdict_of};
@@ -19,7 +21,7 @@ use verdict::Answer;
 
 // Free on every number of rounds; locked, with the race's message and event, the number of steps in the trace and the fewest rounds that
 // lock; or refused, with number and line.
-#[derive(Drop)]
+#[derive(Clone, Copy)]
 pub enum Rounds {
     Free,
     Locked(usize, usize, usize, usize),
@@ -28,7 +30,7 @@ pub enum Rounds {
 
 // What two walks come to: one round is locked; it is free, and so many messages of two rounds are in boards and words; or the refusal's
 // number and line.
-#[derive(Drop)]
+#[derive(Clone, Copy)]
 pub enum Twice {
     OneLocked,
     OneFree(usize),

@@ -1,4 +1,6 @@
 // The reader of a table of permitted senders: any bytes in; its rules, or the line that refusal 18 reports, out.
+#![tactic(auto)]
+
 ghost use Rattle.std.specs.Prelude.{◌≡◌, ◌≤◌, length};
 ghost use Rattle.line.specs.Parts.{Cut};
 ghost use Rattle.sender_table.specs.Table.{NamesIn, NamesAs, RuleIn, RuleAs, RulesAs, TableAs};
@@ -9,28 +11,28 @@ use line::{Cuts, Split};
 use model::RULES_MOST;
 
 // Where the first rule begins, behind the names.
-#[derive(Drop)]
+#[derive(Clone, Copy)]
 enum Names {
     Before(usize),
     Other,
 }
 
 // A rule, and where the next one begins.
-#[derive(Drop)]
+#[derive(Clone, Copy)]
 enum Reading {
     Rule(Rule, usize),
     Malformed,
 }
 
 // So many rules; or the first bad line, 0 for the table's length.
-#[derive(Drop)]
+#[derive(Clone, Copy)]
 pub enum Verdict {
     Rules(usize),
     Malformed(usize),
 }
 
 // The rules that the verdict counts stand first.
-#[derive(Drop)]
+#[derive(Clone, Copy)]
 pub struct Table {
     pub verdict: Verdict,
     pub rules: [Rule; RULES_MOST],

@@ -1,4 +1,6 @@
 // The soundness of a table of permitted senders: each ordered pair of boards is in exactly one rule.
+#![tactic(auto)]
+
 ghost use Rattle.std.specs.Prelude.{◌≡◌, true, ◌≤◌, ◌<◌, take};
 ghost use Rattle.model.specs.Limits.{boards, rules_most};
 ghost use Rattle.model.specs.Senders.{pair_of, rules_with, is_faulty, fault_of, soundness_of, TableJudged};
@@ -10,7 +12,7 @@ use model::{BOARDS, RULES_MOST};
 use sender_table::Verdict;
 
 // Sound; or the lowest faulty pair: a gap, in no rule, or a clash, with the lines of its first two rules; or refused, with number and line.
-#[derive(Drop)]
+#[derive(Clone, Copy)]
 pub enum Judgement {
     Sound,
     Gap(usize),

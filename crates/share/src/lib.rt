@@ -1,4 +1,6 @@
 // The race search of a job, spread over its turns: a turn looks at half a row of one message.
+#![tactic(auto)]
+
 ghost use Rattle.std.specs.Prelude.{◌≡◌, ◌&&◌, ◌*◌, ◌<◌, ◌≤◌, length};
 ghost use Rattle.model.specs.Limits.{messages_most};
 ghost use Rattle.model.specs.Bounded.{lowest};
@@ -18,7 +20,7 @@ const HALF: usize = WIDTH / 2;
 
 // What the search has found so far: nothing where `found` is 0, else the race named.
 #[repr(C)]
-#[derive(Drop)]
+#[derive(Clone, Copy)]
 pub struct Race {
     pub found: u32,
     pub message: u32,

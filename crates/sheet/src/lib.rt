@@ -1,4 +1,6 @@
 // The reader of sheet files: any bytes in; the rows, or refusal 3 to 7 or 11 with its line, out.
+#![tactic(auto)]
+
 ghost use Rattle.std.specs.Prelude.{◌≡◌, ◌*◌, ◌≤◌, length};
 ghost use Rattle.model.specs.Limits.{messages_most};
 ghost use Rattle.relation.specs.Width.{width};
@@ -12,7 +14,7 @@ use presence::Presence;
 use row::Step;
 
 // So many rows; or the refusal's number and line.
-#[derive(Drop)]
+#[derive(Clone, Copy)]
 pub enum Verdict {
     Rows(usize),
     Refused(u8, usize),

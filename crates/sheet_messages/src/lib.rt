@@ -1,5 +1,7 @@
 // The messages of a sheet: a text and scratch words in; the line, the sender and the receiver of each message of its walk, or a refusal,
 // out.
+#![tactic(auto)]
+
 ghost use Rattle.std.specs.Prelude.{◌≡◌, ◌+◌, ◌*◌, ◌<◌, ◌≤◌, length, get_or, set};
 ghost use Rattle.model.specs.Limits.{messages_most, rows_most, message_numbers_least};
 ghost use Rattle.model.specs.Place.{line_of};
@@ -16,7 +18,7 @@ const NUMBERS_LEAST: usize = 3 * MESSAGES_MOST;
 
 // word 0 listed (one is how many messages the walk meets), 1 refused (one is the number, two the line).
 #[repr(C)]
-#[derive(Drop)]
+#[derive(Clone, Copy)]
 pub struct SheetMessagesAnswer {
     pub word: u32,
     pub one: u32,

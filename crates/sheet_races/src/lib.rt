@@ -1,4 +1,6 @@
 // All races of a sheet on a channel: a text, a channel code, scratch words and an output of any length in; how many there are, or a refusal, out.
+#![tactic(auto)]
+
 ghost use Rattle.std.specs.Prelude.{◌≡◌, ◌*◌, ◌<◌, ◌≤◌, length};
 ghost use Rattle.model.specs.Limits.{channels, messages_most, rows_most};
 ghost use Rattle.model.specs.Place.{line_of};
@@ -14,7 +16,7 @@ use race_list::Told;
 
 // word 0 listed (one is how many races there are, two how many of them stand in the output), 1 refused (one is the number, two the line).
 #[repr(C)]
-#[derive(Drop)]
+#[derive(Clone, Copy)]
 pub struct SheetRacesAnswer {
     pub word: u32,
     pub one: u32,

@@ -1,4 +1,6 @@
 // Two taps on one machine: a text, scratch words and two lists of event numbers in; one course of events for both, a clash or a refusal out.
+#![tactic(auto)]
+
 ghost use Rattle.std.specs.Prelude.{◌≡◌, ◌*◌, ◌≤◌, length};
 ghost use Rattle.model.specs.Limits.{messages_most, tap_numbers_least};
 ghost use Rattle.model.specs.Refusal.{and_then};

@@ -1,4 +1,6 @@
 // Rows of a sheet file as text: a writer is lent the rest of the output, from its first byte on, and says how many bytes it wrote.
+#![tactic(auto)]
+
 ghost use Rattle.std.specs.Prelude.{◌≡◌, [], ◌∷◌, ◌+◌, ◌<◌, ◌≤◌, length};
 ghost use Rattle.model.specs.Limits.{number_most};
 ghost use Rattle.model.specs.Cure.{digit as digit_byte, digits_of, row_text, heading_text};

@@ -1,4 +1,6 @@
 // The check of a sheet on a channel: a text, a channel code, scratch words and trace bytes in; free, locked or refused out.
+#![tactic(auto)]
+
 ghost use Rattle.std.specs.Prelude.{◌≡◌, ◌*◌, ◌<◌, ◌≤◌, length};
 ghost use Rattle.model.specs.Limits.{channels, messages_most, trace_least};
 ghost use Rattle.model.specs.Answer.{sheet_of};

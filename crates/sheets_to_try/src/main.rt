@@ -1,6 +1,8 @@
 // Runs the paper's sheets that are not in the proved table, 9 and 10, and sheets for each refusal, each limit from both sides, on all six
 // channels, and compares: a line of the list has a file's name and what must come, channel by channel, the last for all channels that are
 // left. Then the limits of what is lent. A line is printed for each, which says whether it came.
+#![tactic(auto)]
+
 ghost use Rattle.std.specs.Prelude.{◌≤◌, length};
 
 use answer_words::checked::{FREE, LOCKED, REFUSED};
@@ -16,7 +18,7 @@ const ROOM: usize = model::TEXT_MOST + 256;
 const LINE_END: u8 = 10;
 
 // What must come: the word and the three numbers.
-#[derive(Drop)]
+#[derive(Clone, Copy)]
 struct Expected {
     word: u32,
     one: u32,

@@ -1,4 +1,6 @@
 // Where a run stands: finished, stuck or open.
+#![tactic(auto)]
+
 ghost use Rattle.std.specs.Prelude.{◌≡◌, ◌<◌, ◌≤◌};
 ghost use Rattle.model.specs.Limits.{messages_most};
 ghost use Rattle.model.specs.Run.{no_step};
@@ -17,7 +19,7 @@ use run::Run;
 use step::Step;
 
 // All events done; no step allowed, and not all done; or a step allowed.
-#[derive(Drop)]
+#[derive(Clone, Copy)]
 pub enum Stand {
     Finished,
     Stuck,

@@ -1,4 +1,6 @@
 // A step of a run, and its two bytes in a trace: the kind, then the message.
+#![tactic(auto)]
+
 ghost use Rattle.std.specs.Prelude.{◌≡◌, ◌<◌};
 ghost use Rattle.model.specs.Limits.{messages_most};
 ghost use Rattle.model.specs.Schedule.{kind_of, step_told};
@@ -14,14 +16,14 @@ const DELIVER: usize = kinds::DELIVER as usize;
 const CONSUME: usize = kinds::CONSUME as usize;
 
 // A message is sent, delivered or consumed.
-#[derive(Drop)]
+#[derive(Clone, Copy)]
 pub enum Step {
     Send(usize),
     Deliver(usize),
     Consume(usize),
 }
 
-#[derive(Drop)]
+#[derive(Clone, Copy)]
 pub enum StepOrNone {
     Step(Step),
     Nothing,

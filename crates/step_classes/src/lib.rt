@@ -1,4 +1,6 @@
 // The classes of steps that the schedule tries.
+#![tactic(auto)]
+
 ghost use Rattle.std.specs.Prelude.{◌≡◌, ◌<◌};
 ghost use Rattle.relation.specs.Scenario.{scenario_in};
 ghost use Rattle.at_or_before.specs.Lent.{Lent};
@@ -7,7 +9,7 @@ ghost use Rattle.step_classes.specs.Classes.{class_in, step_for};
 use step::Step;
 
 // The classes of steps, in the order in which they are tried.
-#[derive(Drop)]
+#[derive(Clone, Copy)]
 pub enum Class {
     AnyConsume,
     DeliveryOf,

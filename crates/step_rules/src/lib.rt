@@ -1,4 +1,6 @@
 // The step rules of each kind of step: sends, deliveries and consumes, by the parts of a run that they read.
+#![tactic(auto)]
+
 ghost use Rattle.std.specs.Prelude.{◌≡◌, false, List, ℕ, ◌+◌, ◌*◌, ◌<◌, ◌≤◌, length};
 ghost use Rattle.relation.specs.Width.{width};
 ghost use Rattle.board.specs.Masks.{mask_rows, Standing};

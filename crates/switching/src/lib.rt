@@ -1,4 +1,6 @@
 // Whether the state of a run bars a switch to another channel (refusal 14).
+#![tactic(auto)]
+
 ghost use Rattle.std.specs.Prelude.{◌≡◌, ◌&&◌, eqb, ◌*◌, ◌<◌};
 ghost use Rattle.model.specs.Limits.{channels, messages_most};
 ghost use Rattle.model.specs.Bounded.{how_many};

@@ -1,4 +1,6 @@
 // The places that the jobs of a queue hold, how many these are, and the lowest free place.
+#![tactic(auto)]
+
 ghost use Rattle.std.specs.Prelude.{◌≡◌};
 ghost use Rattle.queue.specs.Bridge.{queue_in, PlacesOf, free_place_in};
 ghost use Rattle.taken_places.specs.Places.{MayStand, TakenIn, place_in, SparePlace};
@@ -7,7 +9,7 @@ use model::JOBS_MOST;
 use queue::{Queue, Taken};
 
 // A place, if one is free.
-#[derive(Drop)]
+#[derive(Clone, Copy)]
 pub enum Place {
     At(usize),
     Nothing,

@@ -1,4 +1,6 @@
 // What two taps' lists of event numbers decide on an accepted sheet: one course of events for both, a clash, or a list that is refused.
+#![tactic(auto)]
+
 ghost use Rattle.std.specs.Prelude.{◌≡◌, true, ◌*◌};
 ghost use Rattle.model.specs.Bounded.{each_once};
 ghost use Rattle.relation.specs.Width.{width};
@@ -10,7 +12,7 @@ use relation::Found;
 
 // Fit, with the number of events in the output; a clash, with the event that would have to precede itself; or refused, with number
 // and line.
-#[derive(Drop)]
+#[derive(Clone, Copy)]
 pub enum Answer {
     Fit(usize),
     Clash(usize),

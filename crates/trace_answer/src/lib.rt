@@ -1,4 +1,6 @@
 // The length that a trace from another tool has, and the verdict on it as C gets it.
+#![tactic(auto)]
+
 ghost use Rattle.std.specs.Prelude.{◌≡◌};
 ghost use Rattle.model.specs.Replay.{replay_numbers, is_trace};
 ghost use Rattle.trace_steps.specs.Bridge.{replay_in};
@@ -10,7 +12,7 @@ use trace_steps::{Outcome, Replay};
 // word 0 finished, 1 stuck, 2 open, 3 not allowed (one is the step's index), 4 refused (one is the number, two the line).
 // On stuck each board has in waits the event that it waits for; 65,535 if there is none, and on every other word.
 #[repr(C)]
-#[derive(Drop)]
+#[derive(Clone, Copy)]
 pub struct TraceCheckAnswer {
     pub word: u32,
     pub one: u32,

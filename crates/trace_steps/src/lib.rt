@@ -1,5 +1,7 @@
 // The steps of a trace from another tool, gone through by the step rules: finished, stuck, still open, or the first step that is not
 // allowed; and on stuck, which event each board waits for.
+#![tactic(auto)]
+
 ghost use Rattle.std.specs.Prelude.{◌≡◌, ◌+◌, ◌*◌, ◌%◌, ◌<◌, ◌≤◌, length};
 ghost use Rattle.model.specs.Limits.{trace_least};
 ghost use Rattle.relation.specs.Scenario.{scenario_in};
@@ -17,7 +19,7 @@ use step::{Step, StepOrNone};
 use waits::waits_of;
 
 // The verdict: finished, stuck or open; the index, from 0, of the first step that is not allowed; or refused, with number and line.
-#[derive(Drop)]
+#[derive(Clone, Copy)]
 pub enum Replay {
     Finished,
     Stuck,
@@ -34,7 +36,7 @@ fn wide(byte: u8) -> usize
 }
 
 // The verdict, and the event that each board waits for.
-#[derive(Drop)]
+#[derive(Clone, Copy)]
 pub struct Outcome {
     pub verdict: Replay,
     pub waits: [u16; model::BOARDS],

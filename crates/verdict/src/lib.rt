@@ -1,4 +1,6 @@
 // What is decided of an accepted sheet on a channel: free, or locked, with the schedule for the race's message in the trace.
+#![tactic(auto)]
+
 ghost use Rattle.std.specs.Prelude.{◌<◌, ◌≤◌, length};
 ghost use Rattle.model.specs.Limits.{channels, trace_least};
 ghost use Rattle.model.specs.Refusal.{ok};
@@ -11,7 +13,7 @@ ghost use Rattle.verdict.specs.Parts.{Decides, IsRace};
 use lowest_race::Lowest;
 
 // Free; locked, with the race's message and event and the number of steps in the trace; or refused, with number and line.
-#[derive(Drop)]
+#[derive(Clone, Copy)]
 pub enum Answer {
     Free,
     Locked(usize, usize, usize),

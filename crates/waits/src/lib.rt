@@ -1,4 +1,6 @@
 // Which event each board waits for, where a run is stuck.
+#![tactic(auto)]
+
 ghost use Rattle.std.specs.Prelude.{◌≡◌, ◌<◌};
 ghost use Rattle.model.specs.Waits.{wait_of, each_board};
 ghost use Rattle.relation.specs.Scenario.{scenario_in};

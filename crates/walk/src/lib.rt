@@ -1,10 +1,12 @@
 // The rows of one block, as a walk comes to them. Refusal 10.
+#![tactic(auto)]
+
 ghost use Rattle.std.specs.Prelude.{◌≡◌, ◌≤◌, length};
 ghost use Rattle.blocks.specs.Store.{store_of};
 ghost use Rattle.walk.specs.Block.{fresh, opened, state_of, rows_from, in_block, RowsFew, Ready, Leaves, block_walked};
 
 // How far a walk is: calls made, A rows met, the number of the open block's first message, and messages met.
-#[derive(Drop)]
+#[derive(Clone, Copy)]
 pub struct Walk {
     pub calls: usize,
     pub choices: usize,
@@ -45,7 +47,7 @@ impl Walk {
 }
 
 // Where the rows of a block end: the row behind them and the walk there, or the refusal's number and line.
-#[derive(Drop)]
+#[derive(Clone, Copy)]
 pub enum Walked {
     To(usize, Walk),
     Stopped(u8, usize),

@@ -1,0 +1,12 @@
+-- `covers::cover` meets its contract. Assumes nothing.
+use borrow.Author.Rules.{rules}
+use Prim.Native.Nat.{◌-◌}
+use Rattle.relation.specs.Width.{width}
+use Rattle.covers.proofs.Covering.{Covering, covering_start, covering_more, covering_end}
+use Rattle.covers.proofs.cover.Given as goal
+
+abbrev pub invariant-loop-i : goal.invariant-loop-i
+invariant-loop-i l = Covering l.words l.masks l.boards l.count l.e l.hidden l.i l.row
+
+abbrev pub decreases-loop-i : goal.decreases-loop-i
+decreases-loop-i l = width - l.i

@@ -1,0 +1,12 @@
+-- `are_bytes` meets its contract. The loop's invariant: the name and the field agree up to `i`. Assumes nothing.
+use borrow.Author.Rules.{rules}
+use Prim.Native.Nat.{◌-◌}
+use lib.ListN.{length}
+use Rattle.fields.proofs.Scan.{Matched, name_other, name_begin, name_more, name_unlike, name_end}
+use Rattle.fields.proofs.are_bytes.Given as goal
+
+abbrev pub invariant-loop-i : goal.invariant-loop-i
+invariant-loop-i l = Matched l.text l.name l.from l.to l.i
+
+abbrev pub decreases-loop-i : goal.decreases-loop-i
+decreases-loop-i l = length l.name - l.i

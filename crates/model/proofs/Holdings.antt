@@ -1,5 +1,5 @@
 -- What a sheet holds: the races listed are exactly the races, in order, and the first is the one that the check names. Assumes nothing.
-use Prim.Native.Nat.{ℕ, zero, suc, ◌+◌, ◌*◌, ◌<◌, ◌≤◌}
+use Prim.Native.Nat.{ℕ, zero, suc, ◌+◌, ◌*◌, ◌<◌}
 use native.Mathlib.Nat.{add-zero, not-suc-le-zero}
 use native.Mathlib.Omega.{arith}
 use mathlib.Core.Path.{◌≡◌, refl, sym, ◌∙◌, ap, subst, subst⁻¹}
@@ -12,8 +12,8 @@ use lib.ListN.{length, get_or, drop, length-append, get_or-append}
 use lib.Seq.{get_or-append-add}
 use Rattle.model.specs.Limits.{scratch_least, message_numbers_least}
 use Rattle.model.specs.Refusal.{Out, ok}
-use Rattle.model.specs.Order.{Event, event, Scenario}
-use Rattle.model.specs.Race.{RaceRule, by_event, by_origin, never, race_rule_of, not_at_or_before, is_race, lowest_race}
+use Rattle.model.specs.Order.{event, Scenario}
+use Rattle.model.specs.Race.{RaceRule, never, race_rule_of, not_at_or_before, is_race, lowest_race}
 use Rattle.model.specs.Answer.{sheet_of, scratch_behind}
 use Rattle.model.specs.Monitor.{watchable}
 use Rattle.model.specs.Senders.{lines_met, MessageRow}

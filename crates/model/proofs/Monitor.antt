@@ -20,7 +20,7 @@ use Rattle.model.specs.Limits.{boards, messages_most, channels, scratch_least}
 use Rattle.model.specs.Refusal.{Out, ok, refusal}
 use Rattle.model.specs.Order.{Event, send_of, receive_of, number, board_of, Scenario, board}
 use Rattle.model.specs.Channel.{channel_of}
-use Rattle.model.specs.Run.{State, start, Step, send, deliver, consume, with, with_done, with_held, next, allowed, is_order_from, after, finished, IsOrder}
+use Rattle.model.specs.Run.{State, start, Step, send, deliver, consume, with, with_done, with_held, next, is_order_from, after, finished, IsOrder}
 use Rattle.model.specs.Schedule.{message_of_step, step_told}
 use Rattle.model.specs.Answer.{sheet_of, verdict_of, numbers_of}
 use Rattle.model.specs.Monitor.{Held, taken_word, forbidden_word, refused_word, watchable, is_barred, Call, step, switch, may_take, taking, word_to, leaving, behind, held_from, words_from, fresh, step_taken, steps_taken, is_switch, stays_on, RunOf, MonitorAnswer, Opened, ByTheRules, Session, opening, stepping, switching, WholeList, WholeLists}

@@ -1,6 +1,6 @@
 -- The whole promise of a call for rounds, from its answer and its buffers. Assumes nothing.
 use Prim.Native.Nat.{ℕ, ◌<◌}
-use mathlib.Core.Path.{◌≡◌, refl, sym, ◌∙◌, ap, subst, subst⁻¹}
+use mathlib.Core.Path.{◌≡◌, sym, ◌∙◌, ap, subst, subst⁻¹}
 use mathlib.Core.Bool.{◌||◌}
 use mathlib.Core.Bool as bool
 use mathlib.Core.List.{List, []}

@@ -1,29 +1,26 @@
 -- An exchange that is repeated, over whole orders and every number of rounds: what two rounds say. Assumes nothing.
-use Prim.Native.Nat.{ℕ, suc, ◌*◌, ◌%◌, ◌<◌, ◌≤◌}
+use Prim.Native.Nat.{ℕ, ◌*◌, ◌<◌, ◌≤◌}
 use native.Mathlib.Nat.{one-mul, mod-eq_of_lt}
 use native.Mathlib.Omega.{arith}
 use mathlib.Core.Path.{◌≡◌, refl, sym, ◌∙◌, ap, subst, subst⁻¹, fun_ext}
-use mathlib.Core.Logic.{◌↔◌, ◌⊎◌, inl, inr, ⊎_elim}
-use mathlib.Core.Bool.{Bool, true, false}
+use mathlib.Core.Logic.{◌⊎◌, inl, inr, ⊎_elim}
 use mathlib.Core.List.{List, []}
 use native.Mathlib.Decide.{dec_lt}
 use borrow.Author.Tests.{lt-ltb, le-ltb}
-use lib.Dec.{ltb}
 use lib.ListN.{length}
 use Rattle.model.specs.Limits.{channels}
-use Rattle.model.specs.Order.{Event, send_of, receive_of, event, message_of, Exchange, Before, Scenario, scenario_of}
+use Rattle.model.specs.Order.{Event, message_of, Exchange, Before, scenario_of}
 use Rattle.model.specs.Channel.{channel_of}
 use Rattle.model.specs.Run.{Step, IsOrder, EndsStuck, EndsFinished, CanFinish}
-use Rattle.model.specs.Race.{race_rule_of, is_race}
-use Rattle.model.specs.Schedule.{schedule}
+use Rattle.model.specs.Race.{race_rule_of}
 use Rattle.model.specs.Answer.{Answer, free, locked, refused, verdict_of, Numbers, free_word, locked_word, numbers_of, trace_after}
-use Rattle.model.specs.Verdict.{LowestRace, Verdict}
+use Rattle.model.specs.Verdict.{Verdict}
 use Rattle.model.specs.Rounds.{round_of, in_round, stands_for, rounds, second_verdict, first_verdict, rounds_verdict, scenario_in, RoundsJudged}
 use Rattle.model.proofs.Bounded.{both_ways}
 use Rattle.model.proofs.Causal.{Causal}
 use Rattle.model.proofs.Order.{RowsInside, RowsOnOneBoard, before_inside, before_exact, causal}
-use Rattle.model.proofs.PointThree.{Decided, is_free, is_locked, decided, verdict_for}
-use Rattle.model.proofs.Rounds.{rows_inside, rows_on_one_board, round_same, lift, before_in, at, at_round, at_in, zero_at, two_rounds_race, one_round_races}
+use Rattle.model.proofs.PointThree.{decided, verdict_for}
+use Rattle.model.proofs.Rounds.{rows_inside, rows_on_one_board, round_same, lift, before_in, at, at_round, at_in, zero_at, two_rounds_race}
 
 module _ (E : Exchange) (inside : RowsInside E) (one_board : RowsOnOneBoard E) (no_circle : (x : Event) → Before E x x → ⊥) where
   -- no circle in any number of rounds

@@ -13,13 +13,13 @@ use lib.Dec.{eqb, leb, ltb}
 use lib.ListN.{length, get_or, drop, length-drop}
 use lib.Seq.{get_or-drop}
 use Rattle.model.specs.Limits.{text_most, rules_most, pairs}
-use Rattle.model.specs.Bounded.{every, lowest}
+use Rattle.model.specs.Bounded.{lowest}
 use Rattle.model.specs.Refusal.{Out, ok, refusal, and_then, sender_table_refusal}
 use Rattle.model.specs.Text.{Line, lines_of}
 use Rattle.model.specs.Place.{line_of}
 use Rattle.model.specs.Answer.{Numbers}
 use Rattle.model.specs.Senders.{Rule, is_names_line, rule_of, ahead_of_rule, rules_from, rules_behind, rules_of, covers, rules_with, is_faulty, Soundness, sound, gap, clash, malformed, fault_of, soundness_of, judged_table, table_answer, sound_word, gap_word, clash_word, table_refused_word, table_numbers, no_rule, is_in, InOne, NoneLower, Gap, Clash, TableJudged, sound_by, sound_rules, sound_table, permits}
-use Rattle.model.proofs.Bounded.{not_both, apart, Found, lowest_found, every_at, every_from, not_is_true, which}
+use Rattle.model.proofs.Bounded.{not_both, apart, Found, lowest_found, which}
 use Rattle.model.proofs.Refusal.{not_refused}
 
 -- nothing is found below a bound where nothing there passes

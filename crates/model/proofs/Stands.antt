@@ -1,7 +1,6 @@
 -- Where a monitored run stands: what is held after any list of calls is a state of phases, so that the numbers of a stuck run are right, whatever codes
 -- were switched to. Assumes nothing.
 use Prim.Native.Nat.{ℕ, ◌<◌}
-use native.Mathlib.Omega.{arith}
 use mathlib.Core.Path.{◌≡◌, refl, sym, ◌∙◌, ap, subst, subst⁻¹}
 use mathlib.Core.Bool.{Bool, true, false, cond}
 use mathlib.Core.List.{List, [], ◌∷◌}
@@ -19,7 +18,7 @@ use Rattle.model.specs.Answer.{sheet_of, scratch_behind}
 use Rattle.model.specs.Waits.{no_wait, wait_of, each_board, Says}
 use Rattle.model.specs.Monitor.{Held, taken_word, forbidden_word, Call, step, switch, watchable, may_take, taking, word_to, leaving, behind, held_from, fresh}
 use Rattle.model.specs.Monitor as monitor
-use Rattle.model.specs.Standing.{StandingNumbers, stuck_word, refused_word, stands_at, standing_answer, standing_wait, Stands}
+use Rattle.model.specs.Standing.{StandingNumbers, stuck_word, stands_at, standing_answer, standing_wait, Stands}
 use Rattle.model.proofs.Accepted.{sheet_causal, sheet_count, sheet_meets}
 use Rattle.model.proofs.Causal.{Causal}
 use Rattle.model.proofs.Phases.{bump, view, view_start, view_next}

@@ -1,18 +1,18 @@
 -- The walk made twice: the second goes as the first, its messages, blocks and P rows numbered on. Assumes nothing.
-use Prim.Native.Nat.{ℕ, zero, suc, ◌+◌, ◌*◌, ◌<◌, ◌≤◌}
+use Prim.Native.Nat.{ℕ, zero, suc, ◌+◌, ◌*◌}
 use native.Mathlib.Nat.{add-zero}
 use native.Mathlib.Omega.{arith}
 use mathlib.Core.Path.{◌≡◌, refl, sym, ◌∙◌, ap, ap₂, subst}
 use mathlib.Core.Bool.{Bool, true, false, ◌&&◌}
 use mathlib.Core.List.{List, [], ◌∷◌, ◌++◌, map, append_assoc, append-nil}
 use lib.Dec.{leb, ltb}
-use lib.ListN.{length, drop}
+use lib.ListN.{drop}
 use borrow.Author.Tests.{ltb-true, ltb-false, le-leb}
 use Rattle.model.specs.Limits.{messages_most, levels, calls_most}
 use Rattle.model.specs.Refusal.{Out, ok, refusal, and_then, calls_refusal, messages_refusal, choices_refusal}
 use Rattle.model.specs.Rows.{Row, sheet, message, order, block, call, choice}
 use Rattle.model.specs.Place.{line_of}
-use Rattle.model.specs.Expansion.{Walk, fresh_walk, Progress, start_of, block_opened, taken, call_made, message_met, order_met, walk_rows, call_at, expand}
+use Rattle.model.specs.Expansion.{fresh_walk, Progress, start_of, block_opened, taken, call_made, message_met, order_met, walk_rows, call_at, expand}
 use Rattle.model.specs.Order.{Met, nothing_met, met_ops}
 use Rattle.model.specs.Rounds.{walked_again}
 use Rattle.model.proofs.Bounded.{not_both}

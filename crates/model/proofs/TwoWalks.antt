@@ -1,24 +1,24 @@
 -- The walk made twice meets two rounds of what the walk made once meets: the same messages, boards and "before". Assumes nothing.
-use Prim.Native.Nat.{ℕ, zero, suc, ◌+◌, ◌-◌, ◌*◌, ◌/◌, ◌%◌, ◌<◌, ◌≤◌}
-use native.Mathlib.Nat.{zero-mul, zero-add, one-mul, suc-mul, mul-le-mul_right, mod-eq_of_lt, div-lt_iff_lt-mul}
+use Prim.Native.Nat.{ℕ, zero, suc, ◌+◌, ◌-◌, ◌*◌, ◌%◌, ◌<◌, ◌≤◌}
+use native.Mathlib.Nat.{zero-mul, one-mul, suc-mul, mul-le-mul_right, mod-eq_of_lt}
 use native.Mathlib.Omega.{arith}
 use native.Mathlib.Decide.{dec_lt}
-use mathlib.Core.Path.{◌≡◌, refl, sym, ◌∙◌, ap, ap₂, subst, subst⁻¹, fun_ext}
+use mathlib.Core.Path.{◌≡◌, refl, sym, ◌∙◌, ap, subst, subst⁻¹, fun_ext}
 use mathlib.Core.Logic.{◌↔◌, ◌⊎◌, inl, inr, ⊎_elim}
-use mathlib.Core.Bool.{Bool, true, false, ◌&&◌, ◌||◌}
+use mathlib.Core.Bool.{true, false, ◌&&◌}
 use mathlib.Core.List.{List, [], ◌∷◌, ◌++◌, map}
 use borrow.Author.Tests.{lt-ltb, le-ltb, eq-eqb, eqb-true}
 use lib.Arith.{digits_mod}
-use lib.Dec.{eqb, ltb}
-use lib.ListN.{length, get_or, length-append, length-map, get_or-append, get_or-eq_default, get_or-map}
+use lib.Dec.{eqb}
+use lib.ListN.{length, get_or, length-append, get_or-append, get_or-eq_default}
 use lib.Seq.{get_or-append-add}
 use Rattle.model.specs.Closure.{listed}
 use Rattle.model.specs.Expansion.{Progress}
-use Rattle.model.specs.Order.{Event, send_of, receive_of, number, event, message_of, Exchange, board_of, is_own, is_earlier, Before, row, own, earlier, link, Scenario, scenario_of, Met, exchange_of}
+use Rattle.model.specs.Order.{Event, send_of, receive_of, number, event, message_of, Exchange, board_of, is_own, is_earlier, Before, row, own, earlier, link, scenario_of, Met, exchange_of}
 use Rattle.model.specs.Rounds.{round_of, in_round, blocks_of, stands_for, rounds, scenario_in}
 use Rattle.model.proofs.Bounded.{and_left, and_right, or_cases, or_left, or_right, not_both, both_ways, apart}
 use Rattle.model.proofs.Events.{number_event, number_injective, below_number, below_event}
-use Rattle.model.proofs.Order.{board_in, RowsInside, EarlierBlock, earlier_parts, before_exact}
+use Rattle.model.proofs.Order.{board_in, RowsInside, earlier_parts, before_exact}
 use Rattle.model.proofs.Walked.{Sound}
 use Rattle.model.proofs.Accepted.{rows_inside}
 use Rattle.model.proofs.Rounds as rounding

@@ -13,7 +13,7 @@ use lib.Seq.{get_or-drop, drop-append-le, get_or_at}
 use borrow.Author.Tests.{ltb-true, ltb-false, eqb-true, eqb-false, not-true}
 use Rattle.model.specs.Limits.{boards, messages_most, calls_most}
 use Rattle.model.specs.Refusal.{ok}
-use Rattle.model.specs.Rows.{Row, message, order}
+use Rattle.model.specs.Rows.{Row}
 use Rattle.model.specs.Place.{with_message, message_fits, order_fits}
 use Rattle.model.specs.Expansion.{fresh_walk, Progress, block_opened, call_made, message_met, order_met, expand}
 use Rattle.model.specs.Closure.{listed}

@@ -1,11 +1,11 @@
 -- Our own, after the requests: where a monitored run stands. Assumes nothing.
-use Rattle.std.specs.Prelude.{ℕ, ◌<◌, ◌≡◌, ◌↔◌, true, cond, List, eqb, length, get_or}
+use Rattle.std.specs.Prelude.{ℕ, ◌<◌, ◌≡◌, cond, List, eqb, length, get_or}
 use Rattle.model.specs.Limits.{boards, channels}
 use Rattle.model.specs.Refusal.{Out, ok, refusal}
 use Rattle.model.specs.Order.{Scenario}
 use Rattle.model.specs.Channel.{channel_of}
 use Rattle.model.specs.Run.{finished, stuck}
-use Rattle.model.specs.Answer.{sheet_of, scratch_behind}
+use Rattle.model.specs.Answer.{scratch_behind}
 use Rattle.model.specs.Verdict.{Meets}
 use Rattle.model.specs.Waits.{no_wait, wait_of, each_board, Says}
 use Rattle.model.specs.Monitor.{Held, Call, watchable, held_from, fresh}

@@ -1,7 +1,6 @@
 -- `relation::test` meets its contract: a shift and a mask read the bit.
 use lib.Bits.{and_mask}
 use Rattle.relation.specs.Rows.{holds, has}
-use borrow.Author.Rules.{rules}
 use Rattle.relation.proofs.test.Goals as goal
 
 pub returns : goal.returns

@@ -9,7 +9,7 @@ use Rattle.model.specs.Refusal.{Out, ok, refusal, and_then}
 use Rattle.model.specs.Rows.{Row}
 use Rattle.model.specs.Place.{line_of}
 use Rattle.model.specs.Expansion.{Walk, fresh_walk, Progress, start_of, block_opened, walk_rows, call_at, expand}
-use Rattle.model.specs.Order.{Scenario, Met, met_ops, nothing_met, exchange_of, scenario_of}
+use Rattle.model.specs.Order.{Met, met_ops, nothing_met, exchange_of, scenario_of}
 use Rattle.model.proofs.Refusal.{not_refused}
 use Rattle.model.proofs.Standing.{Fits}
 use Rattle.model.proofs.Walked.{Sound}

@@ -1,8 +1,7 @@
 -- The next message in a row: what is left of m's word, and then the words after it. Assumes nothing.
 use mathlib.Core.Path.{◌≡◌, refl, sym, ap, ◌∙◌, subst, subst⁻¹}
-use mathlib.Core.Bool.{Bool, true, false, ◌&&◌, ◌||◌}
+use mathlib.Core.Bool.{true, false, ◌||◌}
 use mathlib.Core.List.{List}
-use mathlib.Core.Logic.{◌⊎◌, inl, inr}
 use mathlib.Core.Option.{Option, none, some}
 use Prim.Native.Nat.{ℕ, ◌+◌, ◌-◌, ◌*◌, ◌/◌, ◌%◌, ◌^◌, ◌<◌, ◌≤◌}
 use native.Mathlib.Nat.{div-lt_iff_lt-mul, div-le_self, lt_of_le_of_lt}
@@ -15,7 +14,7 @@ use lib.Pow.{pow-add, pow_pos}
 use borrow.Author.Tests.{le-leb, lt-leb, leb-true}
 use Rattle.model.specs.Limits.{messages_most}
 use Rattle.model.specs.Bounded.{lowest}
-use Rattle.model.proofs.Bounded.{and_both, and_left, or_left, or_right, lowest_hit, lowest_none, lowest_some, lowest_nowhere}
+use Rattle.model.proofs.Bounded.{and_left, or_left, or_right, lowest_hit, lowest_none, lowest_some, lowest_nowhere}
 use Rattle.relation.specs.Width.{width, word_bits}
 use Rattle.relation.specs.Rows.{has}
 use Rattle.relation.proofs.Bits.{has_zero}

@@ -160,6 +160,8 @@ module _ (choices : Bool) (c : Columns) where
       stood : (r : Row) (q : Option Place) (t : Option Stand) → Moves q t → placed p r ≡ q
           → Judges (elim q [ none ↦ refusal place_refusal (line_of i) | some x ↦ cond (circle_at r x) (refusal circle_refusal (line_of i)) (ok (r, x)) ])
           (elim t [ none ↦ refusal place_refusal (line_of i) | some x ↦ cond (circles s.words r) (refusal circle_refusal (line_of i)) (ok (r, reader_behind s r x)) ])
+      stood r none (some t) x4 e = elim x4 [ ]
+      stood r (some q) none x4 e = elim x4 [ ]
       stood r none none neither e = refused place_refusal (line_of i)
       stood r (some q) (some t) (both x y a o) e =
           let m : moved p r ≡ some q = placed_moved p q r e in

@@ -1,5 +1,4 @@
 -- `at_or_before` meets its contract: the same number, or the bit. Assumes nothing.
-use borrow.Author.Rules.{rules}
 use Rattle.at_or_before.proofs.Reached.{at_same, at_other}
 use Rattle.at_or_before.proofs.at_or_before.Goals as goal
 

@@ -1,5 +1,4 @@
 -- `reached_word` meets its contract. Assumes nothing.
-use borrow.Author.Rules.{rules}
 use Rattle.at_or_before.proofs.Reached.{reached_elsewhere, reached_here}
 use Rattle.at_or_before.proofs.reached_word.Goals as goal
 

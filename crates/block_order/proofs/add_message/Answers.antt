@@ -1,6 +1,5 @@
 -- `block_order::add_message` meets its contract: its three calls are the parts of `begun`. Assumes nothing.
 use Rattle.block_order.proofs.Noting.{begun_parts}
-use borrow.Author.Rules.{rules}
 use Rattle.block_order.proofs.add_message.Goals as goal
 
 pub returns : goal.returns

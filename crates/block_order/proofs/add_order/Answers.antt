@@ -1,6 +1,5 @@
 -- `block_order::add_order` meets its contract. Assumes nothing.
 use Rattle.block_order.proofs.Noting.{order_circle, order_more}
-use borrow.Author.Rules.{rules}
 use Rattle.block_order.proofs.add_order.Goals as goal
 
 pub returns-then-test : goal.returns-then-test

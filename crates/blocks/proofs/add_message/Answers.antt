@@ -4,7 +4,6 @@ use mathlib.Core.Path.{refl}
 use lib.ListN.{length-set}
 use Rattle.blocks.specs.Store.{boards_with}
 use Rattle.blocks.proofs.Turns.{added_parts}
-use borrow.Author.Rules.{rules}
 use Rattle.blocks.proofs.add_message.Goals as goal
 
 pub bounds-boards-receive : goal.bounds-boards-receive

@@ -1,8 +1,8 @@
 -- `blocks::close_block` meets its contract. The loop keeps `Passing`: the events passed are past on their boards.
-use Prim.Native.Nat.{◌-◌, ◌*◌}
+use Prim.Native.Nat.{◌-◌}
 use native.Mathlib.Omega.{arith}
 use borrow.Author.Rules.{rules}
-use Rattle.blocks.proofs.Turns.{Passing, passing_start, passing_more, passing_end, past_room, past_room_joined}
+use Rattle.blocks.proofs.Turns.{passing_start, passing_more, passing_end, past_room, past_room_joined}
 use Rattle.blocks.proofs.close_block.Goals as goal
 
 pub loop-e-init : goal.loop-e-init

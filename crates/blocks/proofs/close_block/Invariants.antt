@@ -1,8 +1,6 @@
 -- `blocks::close_block` meets its contract. The loop keeps `Passing`: the events passed are past on their boards.
 use Prim.Native.Nat.{◌-◌, ◌*◌}
-use native.Mathlib.Omega.{arith}
-use borrow.Author.Rules.{rules}
-use Rattle.blocks.proofs.Turns.{Passing, passing_start, passing_more, passing_end, past_room, past_room_joined}
+use Rattle.blocks.proofs.Turns.{Passing}
 use Rattle.blocks.proofs.close_block.Given as goal
 
 abbrev pub invariant-loop-e : goal.invariant-loop-e

@@ -1,6 +1,5 @@
 -- `is_covered` meets its contract. Assumes nothing.
 use Rattle.board_set.proofs.Members.{pair_in, pair_out}
-use borrow.Author.Rules.{rules}
 use Rattle.board_set.proofs.is_covered.Goals as goal
 
 pub returns-then-in_set : goal.returns-then-in_set

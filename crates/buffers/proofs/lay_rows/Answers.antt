@@ -2,9 +2,8 @@
 use mathlib.Core.Path.{refl}
 use Prim.Native.Nat.{◌-◌}
 use borrow.Author.Rules.{rules}
-use Rattle.model.specs.Limits.{boards}
 use Rattle.run.proofs.States.{buffers_long}
-use Rattle.buffers.proofs.Rows.{Laid, laid_start, laid_more, laid_all}
+use Rattle.buffers.proofs.Rows.{laid_start, laid_more, laid_all}
 use Rattle.buffers.proofs.lay_rows.Goals as goal
 
 pub loop-board-init : goal.loop-board-init

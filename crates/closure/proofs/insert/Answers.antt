@@ -1,5 +1,4 @@
 -- `closure::insert` meets its contract. The loop keeps `Inserting`: the rows passed have been looked at, one a turn.
-use borrow.Author.Rules.{rules}
 use Rattle.closure.proofs.Loops.{inserting_none, inserting_start, inserting_kept, inserting_added, inserting_end, behind_same, behind_held, behind_not}
 use Rattle.closure.proofs.insert.Goals as goal
 use Rattle.closure.proofs.insert.Goals.{then-b-y, then-b-y-via-then-b-y, then-b-y-via-else-b-y+then-test-2, else-b-y+else-test-2}

@@ -1,9 +1,7 @@
 -- `closure::insert` meets its contract. The loop keeps `Inserting`: the rows passed have been looked at, one a turn.
 use Prim.Native.Nat.{◌-◌}
-use mathlib.Core.Logic.{⊎_elim}
-use borrow.Author.Rules.{rules}
 use Rattle.relation.specs.Width.{width}
-use Rattle.closure.proofs.Loops.{Inserting, inserting_none, inserting_start, inserting_kept, inserting_added, inserting_end, behind_same, behind_held, behind_not}
+use Rattle.closure.proofs.Loops.{Inserting}
 use Rattle.closure.proofs.insert.Given as goal
 
 abbrev pub invariant-loop-b : goal.invariant-loop-b

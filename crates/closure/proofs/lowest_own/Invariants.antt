@@ -2,11 +2,9 @@
 use mathlib.Core.Path.{◌≡◌}
 use mathlib.Core.Option.{none}
 use Prim.Native.Nat.{◌-◌, ◌≤◌}
-use borrow.Author.Rules.{rules}
 use Rattle.model.specs.Bounded.{lowest}
 use Rattle.relation.specs.Width.{width}
 use Rattle.relation.specs.Own.{is_own}
-use Rattle.closure.proofs.Lowest.{own_start, own_here, own_not_here, own_nowhere}
 use Rattle.closure.proofs.lowest_own.Given as goal
 
 abbrev pub invariant-loop-event : goal.invariant-loop-event

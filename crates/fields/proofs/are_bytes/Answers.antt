@@ -1,8 +1,6 @@
 -- `are_bytes` meets its contract. The loop's invariant: the name and the field agree up to `i`. Assumes nothing.
-use borrow.Author.Rules.{rules}
 use Prim.Native.Nat.{◌-◌}
-use lib.ListN.{length}
-use Rattle.fields.proofs.Scan.{Matched, name_other, name_begin, name_more, name_unlike, name_end}
+use Rattle.fields.proofs.Scan.{name_other, name_begin, name_more, name_unlike, name_end}
 use Rattle.fields.proofs.are_bytes.Goals as goal
 
 pub returns-then-to-from : goal.returns-then-to-from

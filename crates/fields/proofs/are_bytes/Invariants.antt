@@ -1,8 +1,7 @@
 -- `are_bytes` meets its contract. The loop's invariant: the name and the field agree up to `i`. Assumes nothing.
-use borrow.Author.Rules.{rules}
 use Prim.Native.Nat.{◌-◌}
 use lib.ListN.{length}
-use Rattle.fields.proofs.Scan.{Matched, name_other, name_begin, name_more, name_unlike, name_end}
+use Rattle.fields.proofs.Scan.{Matched}
 use Rattle.fields.proofs.are_bytes.Given as goal
 
 abbrev pub invariant-loop-i : goal.invariant-loop-i

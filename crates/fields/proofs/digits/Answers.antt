@@ -1,7 +1,7 @@
 -- `digits` meets its contract. The loop's invariant: the digits up to `i` have the value so far, at most the largest. Assumes nothing.
 use borrow.Author.Rules.{rules}
 use Prim.Native.Nat.{◌-◌}
-use Rattle.fields.proofs.Scan.{Valued, digits_begin, digits_more, digits_low, digits_high, digits_large, digits_end}
+use Rattle.fields.proofs.Scan.{digits_begin, digits_more, digits_low, digits_high, digits_large, digits_end}
 use Rattle.fields.proofs.digits.Goals as goal
 
 pub loop-i-init : goal.loop-i-init

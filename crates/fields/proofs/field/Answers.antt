@@ -1,6 +1,5 @@
 -- `field` meets its contract. Assumes nothing.
 use Rattle.fields.proofs.Spans.{span_first, span_second, span_third}
-use borrow.Author.Rules.{rules}
 use Rattle.fields.proofs.field.Goals as goal
 
 pub returns-then-place-eq0 : goal.returns-then-place-eq0

@@ -1,6 +1,5 @@
 -- `is_name` meets its contract. Assumes nothing.
 use Rattle.fields.proofs.Spans.{span_ordered, span_inside, name_field}
-use borrow.Author.Rules.{rules}
 use Rattle.fields.proofs.is_name.Goals as goal
 
 pub are_bytes-requires : goal.are_bytes-requires

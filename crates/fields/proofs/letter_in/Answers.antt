@@ -1,6 +1,5 @@
 -- `letter_in` meets its contract. Assumes nothing.
 use Rattle.fields.proofs.Spans.{span_ordered, letter_inside, letter_one, letter_none}
-use borrow.Author.Rules.{rules}
 use Rattle.fields.proofs.letter_in.Goals as goal
 
 pub overflow_sub-span : goal.overflow_sub-span

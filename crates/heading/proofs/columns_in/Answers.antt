@@ -1,7 +1,6 @@
 -- `columns_in` meets its contract. Assumes nothing.
 use Rattle.model.specs.Text.{ascii}
 use Rattle.heading.proofs.Names.{columns_named_holds, no_kind, no_one, no_two}
-use borrow.Author.Rules.{rules}
 use Rattle.heading.proofs.columns_in.Goals as goal
 
 pub returns-then-two-lt3 : goal.returns-then-two-lt3

@@ -1,7 +1,6 @@
 -- `heading_of` meets its contract. Assumes nothing.
 use Rattle.line.proofs.Lines.{cut_known}
 use Rattle.heading.proofs.Names.{heading_split, heading_unsplit}
-use borrow.Author.Rules.{rules}
 use Rattle.heading.proofs.heading_of.Goals as goal
 
 pub returns-in_default : goal.returns-in_default

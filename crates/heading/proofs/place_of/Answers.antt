@@ -1,6 +1,5 @@
 -- `place_of` meets its contract. Assumes nothing.
 use Rattle.heading.proofs.Names.{place_first, place_second, place_third, place_none}
-use borrow.Author.Rules.{rules}
 use Rattle.heading.proofs.place_of.Goals as goal
 
 pub returns-then-is_name : goal.returns-then-is_name

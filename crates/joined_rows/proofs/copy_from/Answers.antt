@@ -1,9 +1,8 @@
 -- `joined_rows::copy_from` meets its contract. The loop keeps `Merging`: the words passed are the other row's.
 use Prim.Native.Nat.{◌-◌}
 use borrow.Author.Rules.{rules}
-use Rattle.relation.specs.Width.{width}
 use Rattle.joined_rows.specs.Joins.{theirs, copied_from}
-use Rattle.joined_rows.proofs.Loops.{Merging, merging_start, merging_end, merging_more}
+use Rattle.joined_rows.proofs.Loops.{merging_start, merging_end, merging_more}
 use Rattle.joined_rows.proofs.copy_from.Goals as goal
 
 pub loop-j-init : goal.loop-j-init

@@ -1,9 +1,8 @@
 -- `joined_rows::copy_from` meets its contract. The loop keeps `Merging`: the words passed are the other row's.
 use Prim.Native.Nat.{◌-◌}
-use borrow.Author.Rules.{rules}
 use Rattle.relation.specs.Width.{width}
-use Rattle.joined_rows.specs.Joins.{theirs, copied_from}
-use Rattle.joined_rows.proofs.Loops.{Merging, merging_start, merging_end, merging_more}
+use Rattle.joined_rows.specs.Joins.{theirs}
+use Rattle.joined_rows.proofs.Loops.{Merging}
 use Rattle.joined_rows.proofs.copy_from.Given as goal
 
 abbrev pub invariant-loop-j : goal.invariant-loop-j

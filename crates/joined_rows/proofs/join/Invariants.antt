@@ -1,10 +1,8 @@
 -- `joined_rows::join` meets its contract. The loop keeps `Merging`: the words passed have gained theirs.
 use Prim.Native.Nat.{◌-◌}
 use lib.Bits.{bit_or}
-use borrow.Author.Rules.{rules}
 use Rattle.relation.specs.Width.{width}
-use Rattle.joined_rows.specs.Joins.{joined, joined_from}
-use Rattle.joined_rows.proofs.Loops.{Merging, merging_start, merging_end, merging_own}
+use Rattle.joined_rows.proofs.Loops.{Merging}
 use Rattle.joined_rows.proofs.join.Given as goal
 
 abbrev pub invariant-loop-i : goal.invariant-loop-i

@@ -2,9 +2,8 @@
 use Prim.Native.Nat.{◌-◌}
 use lib.Bits.{bit_or}
 use borrow.Author.Rules.{rules}
-use Rattle.relation.specs.Width.{width}
 use Rattle.joined_rows.specs.Joins.{joined_from}
-use Rattle.joined_rows.proofs.Loops.{Merging, merging_start, merging_end, merging_more}
+use Rattle.joined_rows.proofs.Loops.{merging_start, merging_end, merging_more}
 use Rattle.joined_rows.proofs.join_from.Goals as goal
 
 pub loop-k-init : goal.loop-k-init

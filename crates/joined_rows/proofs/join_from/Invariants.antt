@@ -1,10 +1,8 @@
 -- `joined_rows::join_from` meets its contract. The loop keeps `Merging`, as that of `join`, over the other words.
 use Prim.Native.Nat.{◌-◌}
 use lib.Bits.{bit_or}
-use borrow.Author.Rules.{rules}
 use Rattle.relation.specs.Width.{width}
-use Rattle.joined_rows.specs.Joins.{joined_from}
-use Rattle.joined_rows.proofs.Loops.{Merging, merging_start, merging_end, merging_more}
+use Rattle.joined_rows.proofs.Loops.{Merging}
 use Rattle.joined_rows.proofs.join_from.Given as goal
 
 abbrev pub invariant-loop-k : goal.invariant-loop-k

@@ -1,6 +1,5 @@
 -- `cut` meets its contract. Assumes nothing.
 use Rattle.line.proofs.Cutting.{begun_inside, cut_one, cut_two, cut_three, cut_whole}
-use borrow.Author.Rules.{rules}
 use Rattle.line.proofs.cut.Goals as goal
 
 pub returns-then-not-is_byte : goal.returns-then-not-is_byte

@@ -1,8 +1,6 @@
 -- `field_end` meets its contract. The loop's invariant: the field's bytes up to `i` are scanned. Assumes nothing.
-use borrow.Author.Rules.{rules}
 use Prim.Native.Nat.{◌-◌}
-use lib.ListN.{length}
-use Rattle.line.proofs.Scan.{Scanned, scan_begin, scan_more, scan_end, scan_space, scan_line_end}
+use Rattle.line.proofs.Scan.{scan_begin, scan_more, scan_end, scan_space, scan_line_end}
 use Rattle.line.proofs.field_end.Goals as goal
 
 pub loop-i-init : goal.loop-i-init

@@ -1,6 +1,5 @@
 -- `is_byte` meets its contract. Assumes nothing.
 use Rattle.line.proofs.Scan.{begins_in, begins_out}
-use borrow.Author.Rules.{rules}
 use Rattle.line.proofs.is_byte.Goals as goal
 
 pub returns-then-at-text : goal.returns-then-at-text

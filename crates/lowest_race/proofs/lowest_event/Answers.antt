@@ -2,9 +2,7 @@
 use Prim.Native.Nat.{◌-◌}
 use native.Mathlib.Omega.{arith}
 use borrow.Author.Rules.{rules}
-use Rattle.relation.specs.Width.{width}
-use Rattle.race.specs.Bridge.{rule_in}
-use Rattle.lowest_race.proofs.Events.{zeros_few, Searched, search_begins, search_goes_on, search_finds, search_ends}
+use Rattle.lowest_race.proofs.Events.{zeros_few, search_begins, search_goes_on, search_finds, search_ends}
 use Rattle.lowest_race.proofs.lowest_event.Goals as goal
 
 pub loop-w-init : goal.loop-w-init

@@ -1,8 +1,6 @@
 -- `lowest_message` meets its contract. Assumes nothing.
 use Prim.Native.Nat.{◌-◌}
-use borrow.Author.Rules.{rules}
-use Rattle.race.specs.Bridge.{rule_in}
-use Rattle.lowest_race.proofs.Messages.{Passed, messages_begin, messages_go_on, messages_find, messages_end}
+use Rattle.lowest_race.proofs.Messages.{messages_begin, messages_go_on, messages_find, messages_end}
 use Rattle.lowest_race.proofs.lowest_message.Goals as goal
 
 pub loop-e-init : goal.loop-e-init

@@ -1,5 +1,4 @@
 -- `lowest_race` meets its contract. Assumes nothing.
-use borrow.Author.Rules.{rules}
 use Rattle.lowest_race.proofs.Messages.{never_races}
 use Rattle.lowest_race.proofs.lowest_race.Goals as goal
 

@@ -4,8 +4,8 @@ use native.Mathlib.Omega.{arith}
 use lib.Count.{trailing_le}
 use lib.ListN.{get_or}
 use borrow.Author.Rules.{rules}
-use Rattle.relation.specs.Width.{width, word_bits}
-use Rattle.next_message.proofs.InRow.{left, next_in_word, NoneBefore, none_before, none_before_more, next_in_row, next_in_none}
+use Rattle.relation.specs.Width.{word_bits}
+use Rattle.next_message.proofs.InRow.{left, next_in_word, none_before, none_before_more, next_in_row, next_in_none}
 use Rattle.next_message.proofs.next_in.Goals as goal
 
 pub overflow_cast-result : goal.overflow_cast-result

@@ -1,6 +1,5 @@
 -- `next_state::done_behind` meets its contract, kind by kind. Assumes nothing.
 use Rattle.next_state.proofs.Behind.{done_sent, done_kept, done_consumed}
-use borrow.Author.Rules.{rules}
 use Rattle.next_state.proofs.done_behind.Goals as goal
 
 pub returns-in-Send : goal.returns-in-Send

@@ -1,6 +1,5 @@
 -- `next_state::held_behind` meets its contract, kind by kind. Assumes nothing.
 use Rattle.next_state.proofs.Behind.{held_kept, held_delivered, held_consumed}
-use borrow.Author.Rules.{rules}
 use Rattle.next_state.proofs.held_behind.Goals as goal
 
 pub returns-in-Send : goal.returns-in-Send

@@ -1,7 +1,6 @@
 -- `next_state::next` meets its contract. Assumes nothing.
 use Rattle.run.proofs.States.{buffers_long}
 use Rattle.next_state.proofs.Behind.{next_run}
-use borrow.Author.Rules.{rules}
 use Rattle.next_state.proofs.next.Goals as goal
 
 pub returns : goal.returns

@@ -1,6 +1,5 @@
 -- `next_state::way_behind` meets its contract, kind by kind. Assumes nothing.
 use Rattle.next_state.proofs.Behind.{way_sent, way_delivered, way_kept}
-use borrow.Author.Rules.{rules}
 use Rattle.next_state.proofs.way_behind.Goals as goal
 
 pub returns-in-Send : goal.returns-in-Send

@@ -1,6 +1,5 @@
 -- `calls_absent` meets its contract. Assumes nothing.
 use Rattle.presence.proofs.Searching.{absent_call, absent_first, absent_second, absent_other}
-use borrow.Author.Rules.{rules}
 use Rattle.presence.proofs.calls_absent.Goals as goal
 
 pub returns-then-kind-i-eq67 : goal.returns-then-kind-i-eq67

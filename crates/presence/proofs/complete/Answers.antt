@@ -1,7 +1,6 @@
 -- `complete` meets its contract. The loop's invariant: no call up to row `i` is to an absent sheet. Assumes nothing.
-use borrow.Author.Rules.{rules}
 use Prim.Native.Nat.{◌-◌}
-use Rattle.presence.proofs.Searching.{Searching, search_zero, search_begin, search_more, search_found, search_none}
+use Rattle.presence.proofs.Searching.{search_zero, search_begin, search_more, search_found, search_none}
 use Rattle.presence.proofs.complete.Goals as goal
 
 pub returns-then-not-is_open : goal.returns-then-not-is_open

@@ -1,6 +1,5 @@
 -- `race::on_board` meets its contract. Assumes nothing.
-use Rattle.race.proofs.Boards.{LookedAt, none_looked_at, one_looked_at, all_looked_at}
-use borrow.Author.Rules.{rules}
+use Rattle.race.proofs.Boards.{none_looked_at, one_looked_at, all_looked_at}
 use Rattle.race.proofs.on_board.Goals as goal
 
 pub loop-x-init : goal.loop-x-init

@@ -1,6 +1,5 @@
 -- `race::on_board` meets its contract. Assumes nothing.
-use Rattle.race.proofs.Boards.{LookedAt, none_looked_at, one_looked_at, all_looked_at}
-use borrow.Author.Rules.{rules}
+use Rattle.race.proofs.Boards.{LookedAt}
 use Rattle.race.proofs.on_board.Given as goal
 
 abbrev pub invariant-loop-x : goal.invariant-loop-x

@@ -1,5 +1,4 @@
 -- `race::outside_word` meets its contract. Assumes nothing.
-use borrow.Author.Rules.{rules}
 use Rattle.race.proofs.Words.{outside_event, outside_origin, outside_never}
 use Rattle.race.proofs.outside_word.Goals as goal
 

@@ -1,6 +1,5 @@
 -- `race::race_word_unmasked` meets its contract. Assumes nothing.
 use Rattle.race.proofs.Words.{races_on, no_races}
-use borrow.Author.Rules.{rules}
 use Rattle.race.proofs.race_word_unmasked.Goals as goal
 
 pub returns-then-word-eq0 : goal.returns-then-word-eq0

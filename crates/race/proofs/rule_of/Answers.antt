@@ -1,6 +1,5 @@
 -- `race::rule_of` meets its contract: the code's table, row by row, is the model's. Assumes nothing.
 use mathlib.Core.Path.{sym}
-use borrow.Author.Rules.{rules}
 use mathlib.Core.List.{[], ◌∷◌}
 use lib.ListN.{get_or-map}
 use Rattle.race.specs.declared.Rule.TheVariants.{ByEvent, ByOrigin, Never}

@@ -1,11 +1,11 @@
 -- `apart` meets its contract. The loop keeps that the words passed have no event in common.
-use mathlib.Core.Path.{◌≡◌, refl}
+use mathlib.Core.Path.{refl}
 use mathlib.Core.Bool.{true}
-use Prim.Native.Nat.{◌+◌, ◌*◌, ◌-◌, ◌≤◌}
+use Prim.Native.Nat.{◌+◌, ◌*◌, ◌-◌}
 use lib.ListN.{get_or}
 use borrow.Author.Rules.{rules}
 use Rattle.model.specs.Bounded.{every}
-use Rattle.relation.specs.Width.{width, word_bits}
+use Rattle.relation.specs.Width.{width}
 use Rattle.relation.proofs.Words.{alone_row}
 use Rattle.run.specs.State.{in_row}
 use Rattle.row_tests.specs.Tests.{none_of_row}

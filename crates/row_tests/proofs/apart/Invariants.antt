@@ -1,15 +1,10 @@
 -- `apart` meets its contract. The loop keeps that the words passed have no event in common.
-use mathlib.Core.Path.{◌≡◌, refl}
+use mathlib.Core.Path.{◌≡◌}
 use mathlib.Core.Bool.{true}
-use Prim.Native.Nat.{◌+◌, ◌*◌, ◌-◌, ◌≤◌}
-use lib.ListN.{get_or}
-use borrow.Author.Rules.{rules}
-use Rattle.model.specs.Bounded.{every}
+use Prim.Native.Nat.{◌*◌, ◌-◌, ◌≤◌}
 use Rattle.relation.specs.Width.{width, word_bits}
-use Rattle.relation.proofs.Words.{alone_row}
 use Rattle.run.specs.State.{in_row}
 use Rattle.row_tests.specs.Tests.{none_of_row}
-use Rattle.row_tests.proofs.Words.{row_more, row_found, row_end}
 use Rattle.row_tests.proofs.apart.Given as goal
 
 abbrev pub invariant-loop-i : goal.invariant-loop-i

@@ -1,12 +1,9 @@
 -- `none_of` meets its contract. The loop keeps that the words passed have no event in common.
-use mathlib.Core.Path.{◌≡◌, refl}
+use mathlib.Core.Path.{◌≡◌}
 use mathlib.Core.Bool.{true}
-use Prim.Native.Nat.{◌+◌, ◌*◌, ◌-◌, ◌≤◌}
-use borrow.Author.Rules.{rules}
-use Rattle.model.specs.Bounded.{every}
+use Prim.Native.Nat.{◌*◌, ◌-◌, ◌≤◌}
 use Rattle.relation.specs.Width.{width, word_bits}
 use Rattle.row_tests.specs.Tests.{none_in}
-use Rattle.row_tests.proofs.Words.{none_of_more, none_of_found, none_of_end}
 use Rattle.row_tests.proofs.none_of.Given as goal
 
 abbrev pub invariant-loop-i : goal.invariant-loop-i

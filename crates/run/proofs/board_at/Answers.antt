@@ -1,7 +1,6 @@
 -- `run::board_at` meets its contract. Assumes nothing.
 use Rattle.run.proofs.States.{event_last, board_read}
 use native.Mathlib.Omega.{arith}
-use borrow.Author.Rules.{rules}
 use Rattle.run.proofs.board_at.Goals as goal
 
 pub board_of-requires : goal.board_of-requires

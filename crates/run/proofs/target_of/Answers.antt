@@ -1,6 +1,5 @@
 -- `run::target_of` meets its contract. Assumes nothing.
 use Rattle.run.proofs.States.{target_read}
-use borrow.Author.Rules.{rules}
 use Rattle.run.proofs.target_of.Goals as goal
 
 pub returns : goal.returns

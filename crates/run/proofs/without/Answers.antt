@@ -1,6 +1,5 @@
 -- `run::without` meets its contract. Assumes nothing.
 use Rattle.run.proofs.Rows.{loses}
-use borrow.Author.Rules.{rules}
 use Rattle.run.proofs.without.Goals as goal
 
 pub returns : goal.returns

@@ -1,5 +1,4 @@
 -- `step_of` meets its contract, class by class. Assumes nothing.
-use borrow.Author.Rules.{rules}
 use Rattle.step_classes.proofs.EachClass.{step_consume, step_deliver, step_send}
 use Rattle.step_classes.proofs.step_of.Goals as goal
 

@@ -1,5 +1,4 @@
 -- `takes` meets its contract, class by class. Assumes nothing.
-use borrow.Author.Rules.{rules}
 use Rattle.step_classes.proofs.EachClass.{takes_one, takes_delivery, takes_send}
 use Rattle.step_classes.proofs.takes.Goals as goal
 

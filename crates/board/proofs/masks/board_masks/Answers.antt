@@ -2,8 +2,7 @@
 use Prim.Native.Nat.{◌+◌, ◌*◌, ◌-◌}
 use native.Mathlib.Omega.{arith}
 use borrow.Author.Rules.{rules}
-use lib.ListN.{length}
-use Rattle.board.proofs.Masking.{Masking, masking_start, masking_more, masking_end}
+use Rattle.board.proofs.Masking.{masking_start, masking_more, masking_end}
 use Rattle.board.proofs.masks.board_masks.Goals as goal
 
 pub loop-m-init : goal.loop-m-init

@@ -1,9 +1,7 @@
 -- `board::masks::board_masks` meets its contract. The loop keeps `Masking`: the masks of the messages passed.
-use Prim.Native.Nat.{◌+◌, ◌*◌, ◌-◌}
-use native.Mathlib.Omega.{arith}
-use borrow.Author.Rules.{rules}
+use Prim.Native.Nat.{◌-◌}
 use lib.ListN.{length}
-use Rattle.board.proofs.Masking.{Masking, masking_start, masking_more, masking_end}
+use Rattle.board.proofs.Masking.{Masking}
 use Rattle.board.proofs.masks.board_masks.Given as goal
 
 abbrev pub invariant-loop-m : goal.invariant-loop-m

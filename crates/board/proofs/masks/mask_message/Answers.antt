@@ -1,6 +1,5 @@
 -- `board::masks::mask_message` meets its contract: the four marks, one behind the other.
 use Rattle.board.proofs.Masking.{marks_made}
-use borrow.Author.Rules.{rules}
 use Rattle.board.proofs.masks.mask_message.Goals as goal
 
 pub returns : goal.returns

@@ -1,5 +1,4 @@
 -- `step::Step::event` meets its contract. Assumes nothing.
-use borrow.Author.Rules.{rules}
 use Rattle.step.proofs.Steps.{event_send, event_deliver, event_consume}
 use Rattle.step.proofs.Step.event.Goals as goal
 

@@ -1,6 +1,5 @@
 -- `joined` meets its contract. Assumes nothing.
 use Rattle.coverage.proofs.Steps.{joined_with, joined_without}
-use borrow.Author.Rules.{rules}
 use Rattle.coverage.proofs.joined.Goals as goal
 
 pub returns-then-in_set : goal.returns-then-in_set

@@ -1,6 +1,5 @@
 -- `met` meets its contract. Assumes nothing.
 use Rattle.coverage.proofs.Steps.{met_outside, met_with, met_without}
-use borrow.Author.Rules.{rules}
 use Rattle.coverage.proofs.met.Goals as goal
 
 pub returns-then-not-in_set : goal.returns-then-not-in_set

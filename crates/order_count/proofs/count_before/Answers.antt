@@ -1,7 +1,6 @@
 -- `order_count::count_before` meets its contract. Assumes nothing.
-use Prim.Native.Nat.{◌*◌, ◌/◌, ◌-◌}
-use Rattle.relation.specs.Width.{word_bits}
-use Rattle.order_count.proofs.Counting.{Counted, counted_start, counted_more, counted_whole, counted_last}
+use Prim.Native.Nat.{◌-◌}
+use Rattle.order_count.proofs.Counting.{counted_start, counted_more, counted_whole, counted_last}
 use borrow.Author.Rules.{rules}
 use Rattle.order_count.proofs.count_before.Goals as goal
 

@@ -1,7 +1,6 @@
 -- `order_count::count_orders` meets its contract. Assumes nothing.
 use Prim.Native.Nat.{◌-◌}
-use Rattle.order_count.proofs.Counting.{AllCounted, all_start, all_more, all_end}
-use borrow.Author.Rules.{rules}
+use Rattle.order_count.proofs.Counting.{AllCounted}
 use Rattle.order_count.proofs.count_orders.Given as goal
 
 abbrev pub invariant-loop-e : goal.invariant-loop-e

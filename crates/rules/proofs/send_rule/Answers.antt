@@ -3,10 +3,10 @@ use Rattle.rules.proofs.Conditions.{send_rule_always, send_rule_earlier, send_ru
 use Rattle.rules.proofs.send_rule.Goals as goal
 
 pub returns-in-Always : goal.returns-in-Always
-returns-in-Always c = search (send_rule_always, c.enum_told-1.is.1)
+returns-in-Always c = search (send_rule_always, c.in-Always.is)
 
 pub returns-in-NoEarlierUnderWay : goal.returns-in-NoEarlierUnderWay
-returns-in-NoEarlierUnderWay c = search (send_rule_earlier, c.enum_told-in-NoEarlierUnderWay-1.is.1)
+returns-in-NoEarlierUnderWay c = search (send_rule_earlier, c.in-NoEarlierUnderWay.is)
 
 pub returns-in-ChannelEmpty : goal.returns-in-ChannelEmpty
-returns-in-ChannelEmpty c = search (send_rule_empty, c.enum_told-in-ChannelEmpty-1.is.1)
+returns-in-ChannelEmpty c = search (send_rule_empty, c.in-ChannelEmpty.is)

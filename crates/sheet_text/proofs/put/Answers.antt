@@ -1,5 +1,4 @@
 -- `sheet_text::put` meets its contract: one byte, and the place behind it. Assumes nothing.
-use borrow.Author.Rules.{rules}
 use Rattle.sheet_text.proofs.Putting.{put_one}
 use Rattle.sheet_text.proofs.put.Goals as goal
 

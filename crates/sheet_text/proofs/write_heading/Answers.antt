@@ -1,8 +1,6 @@
 -- `sheet_text::write_heading` meets its contract. Assumes nothing.
 use Prim.Native.Nat.{◌-◌}
-use borrow.Author.Rules.{rules}
-use Rattle.sheet_text.specs.Writing.{heading_bytes}
-use Rattle.sheet_text.proofs.Putting.{Copied, copied_none, copied_more, copied_all}
+use Rattle.sheet_text.proofs.Putting.{copied_none, copied_more, copied_all}
 use Rattle.sheet_text.proofs.write_heading.Goals as goal
 
 pub loop-i-init : goal.loop-i-init

@@ -1,8 +1,7 @@
 -- `sheet_text::write_heading` meets its contract. Assumes nothing.
 use Prim.Native.Nat.{◌-◌}
-use borrow.Author.Rules.{rules}
 use Rattle.sheet_text.specs.Writing.{heading_bytes}
-use Rattle.sheet_text.proofs.Putting.{Copied, copied_none, copied_more, copied_all}
+use Rattle.sheet_text.proofs.Putting.{Copied}
 use Rattle.sheet_text.proofs.write_heading.Given as goal
 
 abbrev pub invariant-loop-i : goal.invariant-loop-i

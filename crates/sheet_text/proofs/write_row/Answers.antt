@@ -1,5 +1,4 @@
 -- `sheet_text::write_row` meets its contract. Assumes nothing.
-use borrow.Author.Rules.{rules}
 use Rattle.sheet_text.proofs.Putting.{row_writes}
 use Rattle.sheet_text.proofs.write_row.Goals as goal
 

@@ -1,8 +1,6 @@
 -- `taken_places::free_place` meets its contract. Assumes nothing.
 use Prim.Native.Nat.{◌-◌}
-use Rattle.model.specs.Limits.{jobs_most}
-use Rattle.taken_places.proofs.Standing.{NoneFree, none_free, free_here, free_not, free_nowhere}
-use borrow.Author.Rules.{rules}
+use Rattle.taken_places.proofs.Standing.{none_free, free_here, free_not, free_nowhere}
 use Rattle.taken_places.proofs.free_place.Goals as goal
 
 pub loop-place-init : goal.loop-place-init

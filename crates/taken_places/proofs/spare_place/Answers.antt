@@ -1,6 +1,5 @@
 -- `taken_places::spare_place` meets its contract. Assumes nothing.
 use Rattle.taken_places.proofs.Standing.{spare_at, spare_none}
-use borrow.Author.Rules.{rules}
 use Rattle.taken_places.proofs.spare_place.Goals as goal
 
 pub returns-in-At : goal.returns-in-At

@@ -1,9 +1,7 @@
 -- `taken_places::taken` meets its contract. Assumes nothing.
 use Prim.Native.Nat.{◌-◌}
 use Rattle.model.specs.Limits.{jobs_most}
-use Rattle.queue.proofs.Room.{room}
-use Rattle.taken_places.proofs.Standing.{Standing, standing_none, standing_held, standing_all, standing_barred, standing_one, stands_below}
-use borrow.Author.Rules.{rules}
+use Rattle.taken_places.proofs.Standing.{Standing}
 use Rattle.taken_places.proofs.taken.Given as goal
 
 abbrev pub invariant-loop-i : goal.invariant-loop-i

@@ -1,6 +1,5 @@
 -- `Queue::first_place` meets its contract. Assumes nothing.
 use Rattle.queue.proofs.Heads.{first_is}
-use borrow.Author.Rules.{rules}
 use Rattle.queue.proofs.Queue.first_place.Goals as goal
 
 pub returns : goal.returns

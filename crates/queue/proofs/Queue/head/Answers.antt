@@ -1,6 +1,5 @@
 -- `Queue::head` meets its contract. Assumes nothing.
 use Rattle.queue.proofs.Heads.{head_none, head_some}
-use borrow.Author.Rules.{rules}
 use Rattle.queue.proofs.Queue.head.Goals as goal
 
 pub returns-then-count-eq0 : goal.returns-then-count-eq0

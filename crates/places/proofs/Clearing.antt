@@ -1,6 +1,6 @@
 -- The places looked at one after the other: the free ones are cleared. Assumes nothing.
 use mathlib.Core.Path.{◌≡◌, refl, sym, ◌∙◌, ap}
-use mathlib.Core.Bool.{Bool, true, false, not}
+use mathlib.Core.Bool.{Bool, true, false}
 use mathlib.Core.List.{List, [], ◌++◌, append-nil}
 use Prim.Native.Nat.{ℕ, ◌+◌, ◌-◌, ◌<◌, ◌≤◌}
 use native.Mathlib.Decide.{ℕ_discrete}
@@ -31,12 +31,12 @@ module _ (taken : ℕ) (words : List ℕ) where
       record { within = omega arith; kept = refl; rest = refl; free = λ p h t. absurd (omega arith); held = λ p h t. refl }
 
   module _ (place : ℕ) (l : place < jobs_most) (behind : List ℕ) (c : Clearing taken words place behind) (r : Bool) (e : r ≡ has taken place) where
-    pub clearing_kept : (exit : List ℕ) → exit ≡ behind → not r ≡ false → Clearing taken words (place + 1) exit
+    pub clearing_kept : (exit : List ℕ) → exit ≡ behind → r ≡ true → Clearing taken words (place + 1) exit
     clearing_kept exit same f =
         rw same (record { within = omega arith; kept = c.kept; rest = c.rest; free = λ p h t. go p h t (ℕ_discrete p place); held = c.held })
       where
         go : (p : ℕ) → p < place + 1 → has taken p ≡ false → Dec (p ≡ place) → place_words p behind ≡ replicate scratch_least 0
-        go p h t (yes i) = not_both (has taken place) (sym e ∙ not-false r f) (ap (has taken) (sym i) ∙ t)
+        go p h t (yes i) = not_both (has taken place) (sym e ∙ f) (ap (has taken) (sym i) ∙ t)
         go p h t (no n) = c.free p (omega arith) t
 
     -- the words of a free place put back as zeros
@@ -55,7 +55,7 @@ module _ (taken : ℕ) (words : List ℕ) where
         go p h u (no n) = P.others p (omega arith) n ∙ c.free p (omega arith) u
 
     pub clearing_cleared : (exit ys : List ℕ) → exit ≡ put_mid (from place) (to place - from place) behind ys
-        → ys ≡ cleared scratch_least (mid_of (from place) (to place - from place) behind) → job_words_least ≤ length words → not r ≡ true
+        → ys ≡ cleared scratch_least (mid_of (from place) (to place - from place) behind) → job_words_least ≤ length words → r ≡ false
         → Clearing taken words (place + 1) exit
     unfolding cleared
     clearing_cleared exit ys at i long t =
@@ -63,7 +63,7 @@ module _ (taken : ℕ) (words : List ℕ) where
         let part : length mid ≡ scratch_least = mid_len (from place) (to place) behind (omega (arith, c.kept)) ∙ span place in
         let none : drop scratch_least mid ≡ [] = drop_of_length-le mid {i = scratch_least} (omega arith) in
         let zeros : ys ≡ replicate scratch_least 0 = i ∙ ap (λ s. replicate scratch_least 0 ++ s) none ∙ append-nil (replicate scratch_least 0) in
-        clearing_put (not-true r t) exit
+        clearing_put t exit
         (rw (at, zeros) (part_put behind (omega (arith, c.kept)) place l (replicate scratch_least 0) (length-replicate {A = ℕ} scratch_least 0)))
 
   pub clearing_all : (place : ℕ) (behind : List ℕ) → Clearing taken words place behind → jobs_most ≤ place → ClearedBut taken words behind

@@ -82,7 +82,7 @@ module _ (d : DispatcherState) (l : Lent) where
   pub admit_admitted : (p : ℕ) (S : Scenario) → free_place d ≡ some p → admissible d l ≡ ok S
       → Case d (admit l) (admitted d.given p) (admitting d p (code_at l p) S.count)
   unfolding outcome_of behind admission admitted_to
-  admit_admitted p S f e = record { outcome = rw (f, e, admission); leaves = rw (f, e, admitted_to) }
+  admit_admitted p S f e = record { outcome = rw (e, f, admission); leaves = rw (e, f, admitted_to) }
 
   -- with no place free there is no new sheet and no code to judge
   pub full_short : free_place d ≡ none → length l.words < job_words_least → admissible d l ≡ refusal bench_refusal 0

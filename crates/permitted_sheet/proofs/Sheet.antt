@@ -10,7 +10,7 @@ use Rattle.model.specs.Limits.{messages_most}
 use Rattle.model.specs.Bounded.{lowest}
 use Rattle.model.specs.Refusal.{Out, ok, refusal, and_then, forbidden_refusal}
 use Rattle.model.specs.Order.{Scenario}
-use Rattle.model.specs.Answer.{sheet_of, answer_for, trace_after}
+use Rattle.model.specs.Answer.{answer_for, trace_after}
 use Rattle.model.specs.Senders.{Rule, is_forbidden, lines_met, permitted}
 use Rattle.model.proofs.Bounded.{lowest_within, lowest_some}
 use Rattle.relation.specs.Scenario.{scenario_in}

@@ -12,12 +12,10 @@ use lib.Dec.{ltb, eqb}
 use lib.ListN.{length, set, length-append, length-set, length-take}
 use lib.Seq.{take-nil}
 use borrow.Author.Tests.{lt-ltb, le-ltb}
-use Rattle.model.specs.Limits.{messages_most}
 use Rattle.model.specs.Order.{Event, event, Scenario, receive_of, board}
 use Rattle.model.specs.Race.{RaceRule, never, is_race, not_at_or_before}
 use Rattle.model.specs.Holdings.{races_of, races_below, races_told}
-use Rattle.relation.specs.Width.{width, word_bits}
-use Rattle.relation.specs.Rows.{has}
+use Rattle.relation.specs.Width.{word_bits}
 use Rattle.relation.specs.Scenario.{scenario_in}
 use Rattle.board.specs.Masks.{Standing}
 use Rattle.at_or_before.specs.Lent.{Lent}
@@ -26,8 +24,7 @@ use Rattle.race.specs.declared.Rule.{Rule}
 use Rattle.race.specs.declared.Rule.TheVariants.{Never}
 use Rattle.race.specs.Bridge.{rule_in}
 use Rattle.race.specs.Word.{RaceWord}
-use Rattle.race_list.specs.declared.Told.{Told}
-use Rattle.race_list.specs.Listing.{row_bits, races_most, bits_listed, with_race, with_races, Adds, Tells}
+use Rattle.race_list.specs.Listing.{row_bits, bits_listed, with_race, with_races, Adds, Tells}
 use Rattle.race_list.proofs.Pairs.{races_left, race_put, adds_none, adds_more, adds_same, races_told_from}
 use Rattle.race_list.proofs.Bits.{bits_none, bits_most, bits_counted, bits_first}
 

@@ -3,15 +3,13 @@ use Prim.Native.Nat.{ℕ, ◌*◌}
 use native.Mathlib.Omega.{arith}
 use mathlib.Core.Path.{◌≡◌, refl, sym, ◌∙◌, ap, subst, subst⁻¹}
 use mathlib.Core.List.{List, []}
-use mathlib.Core.Option.{none}
 use lib.ListN.{length}
 use Rattle.model.specs.Limits.{messages_most}
 use Rattle.model.specs.Refusal.{Out, ok, refusal, and_then}
 use Rattle.model.specs.Rows.{Row}
-use Rattle.model.specs.Expansion.{Progress, expand}
-use Rattle.model.specs.Order.{Scenario, Exchange, scenario_of, Met, nothing_met, met_ops, exchange_of}
+use Rattle.model.specs.Expansion.{expand}
+use Rattle.model.specs.Order.{Scenario, Exchange, scenario_of, nothing_met, met_ops, exchange_of}
 use Rattle.model.specs.Channel.{channel_of}
-use Rattle.model.specs.Race.{race_rule_of, lowest_race}
 use Rattle.model.specs.Schedule.{schedule}
 use Rattle.model.specs.Answer as model
 use Rattle.model.specs.Answer.{expanded_with, expanded_of, verdict_of, answer_for, numbers_of, trace_after}
@@ -31,7 +29,7 @@ use Rattle.scenario.proofs.Parts.{fit_from}
 use Rattle.verdict.specs.declared.Answer.{Answer}
 use Rattle.verdict.specs.declared.Answer.TheVariants as answer
 use Rattle.verdict.specs.Parts as parts
-use Rattle.verdict.specs.Parts.{IsRace, Decides}
+use Rattle.verdict.specs.Parts.{Decides}
 use Rattle.verdict.proofs.Parts.{verdict_locked, verdict_free}
 use Rattle.second_walk.specs.declared.Rounds.{Rounds}
 use Rattle.second_walk.specs.declared.Rounds.TheVariants.{Free, Locked, Refused}

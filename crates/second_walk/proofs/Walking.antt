@@ -1,21 +1,18 @@
 -- What `walk_twice` is to show, from where its two walks end and the race that one round has. Assumes nothing.
 use Prim.Native.Nat.{ℕ, ◌*◌, ◌≤◌}
 use native.Mathlib.Omega.{arith}
-use mathlib.Core.Path.{◌≡◌, refl, sym, ◌∙◌, ap, subst}
+use mathlib.Core.Path.{◌≡◌, sym, ◌∙◌, ap, subst}
 use mathlib.Core.List.{List, []}
-use mathlib.Core.Option.{Option, none, some}
 use lib.ListN.{length}
 use Rattle.model.specs.Limits.{boards, messages_most, rows_most, calls_most}
 use Rattle.model.specs.Refusal.{Out, ok, refusal, and_then}
 use Rattle.model.specs.Rows.{Row}
 use Rattle.model.specs.Expansion.{Progress, expand}
-use Rattle.model.specs.Order.{Scenario, Exchange, scenario_of, Met, nothing_met, met_ops, exchange_of}
-use Rattle.model.specs.Race.{RaceRule, race_rule_of, lowest_race}
+use Rattle.model.specs.Order.{Scenario, scenario_of, Met, nothing_met, met_ops, exchange_of}
+use Rattle.model.specs.Race.{race_rule_of, lowest_race}
 use Rattle.model.specs.Choice.{Plain}
 use Rattle.model.specs.Rounds.{rounds, walked_again}
 use Rattle.model.proofs.Standing.{Fits, read_fits}
-use Rattle.model.proofs.Walked.{Sound}
-use Rattle.model.proofs.Asking.{walk_on}
 use Rattle.model.proofs.WithoutChoices.{walk_plain}
 use Rattle.model.proofs.Twice.{walk_later}
 use Rattle.model.proofs.TwoWalks.{two_walks_holds}

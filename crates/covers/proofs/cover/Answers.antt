@@ -1,8 +1,6 @@
 -- `covers::cover` meets its contract. Assumes nothing.
-use borrow.Author.Rules.{rules}
 use Prim.Native.Nat.{◌-◌}
-use Rattle.relation.specs.Width.{width}
-use Rattle.covers.proofs.Covering.{Covering, covering_start, covering_more, covering_end}
+use Rattle.covers.proofs.Covering.{covering_start, covering_more, covering_end}
 use Rattle.covers.proofs.cover.Goals as goal
 
 pub loop-i-init : goal.loop-i-init

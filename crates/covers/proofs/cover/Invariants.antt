@@ -1,8 +1,7 @@
 -- `covers::cover` meets its contract. Assumes nothing.
-use borrow.Author.Rules.{rules}
 use Prim.Native.Nat.{◌-◌}
 use Rattle.relation.specs.Width.{width}
-use Rattle.covers.proofs.Covering.{Covering, covering_start, covering_more, covering_end}
+use Rattle.covers.proofs.Covering.{Covering}
 use Rattle.covers.proofs.cover.Given as goal
 
 abbrev pub invariant-loop-i : goal.invariant-loop-i

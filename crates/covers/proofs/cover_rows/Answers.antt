@@ -1,7 +1,7 @@
 -- `covers::cover_rows` meets its contract. Assumes nothing.
 use borrow.Author.Rules.{rules}
 use Prim.Native.Nat.{◌-◌}
-use Rattle.covers.proofs.Covering.{Made, made_start, made_standing, made_more, made_end}
+use Rattle.covers.proofs.Covering.{made_start, made_standing, made_more, made_end}
 use Rattle.covers.proofs.cover_rows.Goals as goal
 
 pub loop-e-init : goal.loop-e-init

@@ -1,7 +1,6 @@
 -- `covers::cover_rows` meets its contract. Assumes nothing.
-use borrow.Author.Rules.{rules}
 use Prim.Native.Nat.{◌-◌}
-use Rattle.covers.proofs.Covering.{Made, made_start, made_standing, made_more, made_end}
+use Rattle.covers.proofs.Covering.{Made}
 use Rattle.covers.proofs.cover_rows.Given as goal
 
 abbrev pub invariant-loop-e : goal.invariant-loop-e

@@ -1,8 +1,6 @@
 -- `covers::hidden_from` meets its contract. Assumes nothing.
 use Prim.Native.Nat.{◌-◌}
-use Rattle.relation.specs.Width.{width}
-use Rattle.covers.proofs.Hiding.{Hiding, hiding_start, hiding_more, hiding_end}
-use borrow.Author.Rules.{rules}
+use Rattle.covers.proofs.Hiding.{hiding_start, hiding_more, hiding_end}
 use Rattle.covers.proofs.hidden_from.Goals as goal
 
 pub loop-i-init : goal.loop-i-init

@@ -1,8 +1,7 @@
 -- `covers::hidden_from` meets its contract. Assumes nothing.
 use Prim.Native.Nat.{◌-◌}
 use Rattle.relation.specs.Width.{width}
-use Rattle.covers.proofs.Hiding.{Hiding, hiding_start, hiding_more, hiding_end}
-use borrow.Author.Rules.{rules}
+use Rattle.covers.proofs.Hiding.{Hiding}
 use Rattle.covers.proofs.hidden_from.Given as goal
 
 abbrev pub invariant-loop-i : goal.invariant-loop-i

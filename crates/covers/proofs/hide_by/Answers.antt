@@ -1,6 +1,5 @@
 -- `covers::hide_by` meets its contract. Assumes nothing.
 use Rattle.covers.proofs.Hiding.{hide_yes, hide_no}
-use borrow.Author.Rules.{rules}
 use Rattle.covers.proofs.hide_by.Goals as goal
 
 pub returns-then-send-events : goal.returns-then-send-events

@@ -1,8 +1,6 @@
 -- `covers::hide_word` meets its contract. Assumes nothing.
 use Prim.Native.Nat.{◌-◌}
-use Rattle.relation.specs.Width.{word_bits}
-use Rattle.covers.proofs.Hiding.{Taking, taking_none, taking_ends, taking_all, taking_again}
-use borrow.Author.Rules.{rules}
+use Rattle.covers.proofs.Hiding.{taking_none, taking_ends, taking_all, taking_again}
 use Rattle.covers.proofs.hide_word.Goals as goal
 
 pub loop-bit-init : goal.loop-bit-init

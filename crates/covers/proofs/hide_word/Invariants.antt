@@ -1,8 +1,7 @@
 -- `covers::hide_word` meets its contract. Assumes nothing.
 use Prim.Native.Nat.{◌-◌}
 use Rattle.relation.specs.Width.{word_bits}
-use Rattle.covers.proofs.Hiding.{Taking, taking_none, taking_ends, taking_all, taking_again}
-use borrow.Author.Rules.{rules}
+use Rattle.covers.proofs.Hiding.{Taking}
 use Rattle.covers.proofs.hide_word.Given as goal
 
 abbrev pub invariant-loop-bit : goal.invariant-loop-bit

@@ -1,7 +1,5 @@
 -- `cured_sheet::end_behind` meets its contract. Assumes nothing.
-use Rattle.cured_sheet.specs.Spans.{NoneLast}
 use Rattle.cured_sheet.proofs.Spans.{last_start, last_more, last_end}
-use borrow.Author.Rules.{rules}
 use Rattle.cured_sheet.proofs.end_behind.Goals as goal
 
 pub loop-end-init : goal.loop-end-init

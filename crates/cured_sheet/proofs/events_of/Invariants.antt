@@ -1,7 +1,6 @@
 -- `cured_sheet::events_of` meets its contract. Assumes nothing.
 use Prim.Native.Nat.{◌-◌}
-use Rattle.cured_sheet.proofs.Spans.{Gathered, gathered_none, gathered_more, gathered_all}
-use borrow.Author.Rules.{rules}
+use Rattle.cured_sheet.proofs.Spans.{Gathered}
 use Rattle.cured_sheet.proofs.events_of.Given as goal
 
 abbrev pub invariant-loop-e : goal.invariant-loop-e

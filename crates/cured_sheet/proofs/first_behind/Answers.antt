@@ -1,8 +1,6 @@
 -- `cured_sheet::first_behind` meets its contract. Assumes nothing.
 use Prim.Native.Nat.{◌-◌}
-use Rattle.cured_sheet.specs.Spans.{NoneFirst}
 use Rattle.cured_sheet.proofs.Spans.{first_start, first_more, first_end}
-use borrow.Author.Rules.{rules}
 use Rattle.cured_sheet.proofs.first_behind.Goals as goal
 
 pub loop-e-init : goal.loop-e-init

@@ -1,7 +1,6 @@
 -- `cured_sheet::is_before` meets its contract. Assumes nothing.
 use lib.Bits.{and_mask}
 use Rattle.relation.specs.Rows.{has}
-use borrow.Author.Rules.{rules}
 use Rattle.cured_sheet.proofs.is_before.Goals as goal
 
 pub returns : goal.returns

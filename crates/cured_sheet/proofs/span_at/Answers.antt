@@ -1,6 +1,5 @@
 -- `cured_sheet::span_at` meets its contract. Assumes nothing.
 use Rattle.cured_sheet.proofs.Spans.{span_goes_on}
-use borrow.Author.Rules.{rules}
 use Rattle.cured_sheet.proofs.span_at.Goals as goal
 
 pub returns : goal.returns

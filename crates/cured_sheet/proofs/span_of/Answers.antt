@@ -1,6 +1,5 @@
 -- `cured_sheet::span_of` meets its contract. Assumes nothing.
 use Rattle.cured_sheet.proofs.Spans.{span_none}
-use borrow.Author.Rules.{rules}
 use Rattle.cured_sheet.proofs.span_of.Goals as goal
 
 pub returns-then-events-eq0 : goal.returns-then-events-eq0

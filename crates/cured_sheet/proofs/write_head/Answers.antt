@@ -1,7 +1,6 @@
 -- `cured_sheet::write_head` meets its contract. Assumes nothing.
 use Rattle.cured_sheet.proofs.Rows.{head_room, head_written, head_few}
 use native.Mathlib.Omega.{arith}
-use borrow.Author.Rules.{rules}
 use Rattle.cured_sheet.proofs.write_head.Goals as goal
 
 pub write_row-requires : goal.write_row-requires

@@ -1,5 +1,4 @@
 -- `cured_sheet::write_message` meets its contract. Assumes nothing.
-use borrow.Author.Rules.{rules}
 use Rattle.cured_sheet.proofs.Rows.{message_writes}
 use Rattle.cured_sheet.proofs.write_message.Goals as goal
 

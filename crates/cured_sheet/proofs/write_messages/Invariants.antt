@@ -1,7 +1,6 @@
 -- `cured_sheet::write_messages` meets its contract. Assumes nothing.
-use borrow.Author.Rules.{rules}
 use Prim.Native.Nat.{◌-◌}
-use Rattle.cured_sheet.proofs.Rows.{Messages, messages_none, messages_more, messages_all, messages_few}
+use Rattle.cured_sheet.proofs.Rows.{Messages}
 use Rattle.cured_sheet.proofs.write_messages.Given as goal
 
 abbrev pub invariant-loop-m : goal.invariant-loop-m

@@ -1,6 +1,5 @@
 -- `cured_sheet::write_order` meets its contract. Assumes nothing.
 use Rattle.cured_sheet.proofs.Rows.{order_none, order_one}
-use borrow.Author.Rules.{rules}
 use Rattle.cured_sheet.proofs.write_order.Goals as goal
 
 pub returns-then-not-test : goal.returns-then-not-test

@@ -1,7 +1,6 @@
 -- `cured_sheet::write_orders` meets its contract. Assumes nothing.
 use Prim.Native.Nat.{◌*◌, ◌-◌}
-use Rattle.cured_sheet.proofs.Rows.{To, to_none, to_room, to_more, to_all}
-use borrow.Author.Rules.{rules}
+use Rattle.cured_sheet.proofs.Rows.{To}
 use Rattle.cured_sheet.proofs.write_orders.Given as goal
 
 abbrev pub invariant-loop-x : goal.invariant-loop-x

@@ -1,7 +1,6 @@
 -- `cured_sheet::write_orders_from` meets its contract. Assumes nothing.
 use Prim.Native.Nat.{◌-◌}
-use Rattle.cured_sheet.proofs.Rows.{From, from_first, from_nothing, from_room, from_more, from_all}
-use borrow.Author.Rules.{rules}
+use Rattle.cured_sheet.proofs.Rows.{From}
 use Rattle.cured_sheet.proofs.write_orders_from.Given as goal
 
 abbrev pub invariant-loop-e : goal.invariant-loop-e

@@ -2,8 +2,7 @@
 use Prim.Native.Nat.{◌-◌}
 use native.Mathlib.Omega.{arith}
 use borrow.Author.Rules.{rules}
-use Rattle.race.specs.Bridge.{rule_in}
-use Rattle.race_list.proofs.Words.{Worded, worded_start, worded_more, worded_end}
+use Rattle.race_list.proofs.Words.{worded_start, worded_more, worded_end}
 use Rattle.race_list.proofs.list_message.Goals as goal
 
 pub overflow_cast-number : goal.overflow_cast-number

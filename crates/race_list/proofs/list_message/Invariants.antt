@@ -1,9 +1,7 @@
 -- `race_list::list_message` meets its contract. The races of the words passed are added. Assumes nothing.
 use Prim.Native.Nat.{◌-◌}
-use native.Mathlib.Omega.{arith}
-use borrow.Author.Rules.{rules}
 use Rattle.race.specs.Bridge.{rule_in}
-use Rattle.race_list.proofs.Words.{Worded, worded_start, worded_more, worded_end}
+use Rattle.race_list.proofs.Words.{Worded}
 use Rattle.race_list.proofs.list_message.Given as goal
 
 abbrev pub invariant-loop-w : goal.invariant-loop-w

@@ -1,8 +1,6 @@
 -- `race_list::list_messages` meets its contract. The races of the messages passed are added. Assumes nothing.
 use Prim.Native.Nat.{◌-◌}
-use borrow.Author.Rules.{rules}
-use Rattle.race.specs.Bridge.{rule_in}
-use Rattle.race_list.proofs.Words.{Messaged, messaged_start, messaged_more, messaged_end}
+use Rattle.race_list.proofs.Words.{messaged_start, messaged_more, messaged_end}
 use Rattle.race_list.proofs.list_messages.Goals as goal
 
 pub loop-e-init : goal.loop-e-init

@@ -1,8 +1,7 @@
 -- `race_list::list_messages` meets its contract. The races of the messages passed are added. Assumes nothing.
 use Prim.Native.Nat.{◌-◌}
-use borrow.Author.Rules.{rules}
 use Rattle.race.specs.Bridge.{rule_in}
-use Rattle.race_list.proofs.Words.{Messaged, messaged_start, messaged_more, messaged_end}
+use Rattle.race_list.proofs.Words.{Messaged}
 use Rattle.race_list.proofs.list_messages.Given as goal
 
 abbrev pub invariant-loop-e : goal.invariant-loop-e

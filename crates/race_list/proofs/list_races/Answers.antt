@@ -1,5 +1,4 @@
 -- `race_list::list_races` meets its contract. Assumes nothing.
-use borrow.Author.Rules.{rules}
 use Rattle.race_list.proofs.Words.{races_never, races_counted}
 use Rattle.race_list.proofs.list_races.Goals as goal
 

@@ -1,7 +1,7 @@
 -- `race_list::list_word` meets its contract. The bits left of the word add what is missing. Assumes nothing.
 use Prim.Native.Nat.{◌-◌}
 use borrow.Author.Rules.{rules}
-use Rattle.race_list.proofs.Words.{Listing, listing_start, listing_more, listing_empty, listing_full}
+use Rattle.race_list.proofs.Words.{listing_start, listing_more, listing_empty, listing_full}
 use Rattle.race_list.proofs.list_word.Goals as goal
 
 pub loop-at-init : goal.loop-at-init

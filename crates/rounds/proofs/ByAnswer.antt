@@ -4,7 +4,6 @@ use Prim.Native.Nat.{ℕ, ◌^◌, ◌<◌}
 use Rattle.second_walk.specs.declared.Rounds.{Rounds}
 use Rattle.second_walk.specs.declared.Rounds.TheVariants.{Free, Locked, Refused}
 use Rattle.second_walk.specs.Judged.{numbers_for, rounds_for}
-use Rattle.rounds.specs.declared.RoundsCheckAnswer.{RoundsCheckAnswer}
 use Rattle.rounds.specs.Numbers.{Small, Told}
 
 module _ (a : Rounds) where

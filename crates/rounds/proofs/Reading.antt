@@ -4,7 +4,7 @@ use native.Mathlib.Omega.{arith}
 use mathlib.Core.Path.{◌≡◌, refl, subst⁻¹}
 use mathlib.Core.Bool.{false}
 use mathlib.Core.List.{List}
-use Rattle.model.specs.Refusal.{Out, refusal, and_then}
+use Rattle.model.specs.Refusal.{Out, and_then}
 use Rattle.model.specs.Rows.{Row}
 use Rattle.model.specs.Choice.{Plain}
 use Rattle.model.specs.Answer.{trace_after}

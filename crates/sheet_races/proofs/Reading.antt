@@ -1,17 +1,17 @@
 -- What `judge` is to show, from the way to the scenario and the races listed of it. Assumes nothing.
-use mathlib.Core.Path.{◌≡◌, refl, sym, ◌∙◌, ap, subst, subst⁻¹}
-use mathlib.Core.List.{List, ◌++◌}
-use Prim.Native.Nat.{ℕ, ◌*◌, ◌/◌, ◌≤◌}
+use mathlib.Core.Path.{◌≡◌, refl, ◌∙◌, subst, subst⁻¹}
+use mathlib.Core.List.{List}
+use Prim.Native.Nat.{ℕ, ◌/◌, ◌≤◌}
 use native.Mathlib.Nat.{min-le_right}
 use native.Mathlib.Omega.{arith}
-use lib.ListN.{length, take, drop, length-take}
+use lib.ListN.{length, length-take}
 use Rattle.model.specs.Limits.{rows_most}
-use Rattle.model.specs.Refusal.{Out, ok, refusal}
+use Rattle.model.specs.Refusal.{Out}
 use Rattle.model.specs.Place.{line_of}
 use Rattle.model.specs.Order.{Scenario}
 use Rattle.model.specs.Race.{RaceRule, race_rule_of}
 use Rattle.model.specs.Answer.{sheet_of}
-use Rattle.model.specs.Holdings.{HoldingNumbers, races_below, races_told, races_answer, races_left}
+use Rattle.model.specs.Holdings.{HoldingNumbers, races_below, races_answer, races_left}
 use Rattle.model.proofs.Lines.{Well, sheet_well}
 use Rattle.relation.specs.Scenario.{scenario_in}
 use Rattle.at_or_before.specs.Lent.{Lent}

@@ -1,4 +1,4 @@
-// The channel check for C: each exported call is a few lines over its crate, and promises the whole of it.
+// The channel check: each call is a few lines over its crate, and promises the whole of it.
 #![tactic(auto)]
 
 ghost use Rattle.std.specs.Prelude.{◌≡◌, []};
@@ -41,8 +41,7 @@ use sheet_races::SheetRacesAnswer;
 use trace_answer::TraceCheckAnswer;
 
 // The check: any text, any channel code, any lengths. With it goes what is so of every sheet, by the requests that brought no call.
-#[unsafe(no_mangle)]
-pub extern "C" fn channel_check(
+pub fn channel_check(
     text: &[u8],
     code: u32,
     scratch: &mut [u64],
@@ -55,21 +54,14 @@ pub extern "C" fn channel_check(
 }
 
 // A trace from another tool: any text, any channel code, any trace, any lengths.
-#[unsafe(no_mangle)]
-pub extern "C" fn trace_check(
-    text: &[u8],
-    code: u32,
-    scratch: &mut [u64],
-    trace: &[u8],
-) -> TraceCheckAnswer
+pub fn trace_check(text: &[u8], code: u32, scratch: &mut [u64], trace: &[u8]) -> TraceCheckAnswer
     ensures { TraceChecked text.now code scratch.old scratch.new trace.now (replayed.numbers_in result) result.waits }
 {
     replay::trace_check(text, code, scratch, trace)
 }
 
 // A file with choices between two subprograms: any text, any channel code, any lengths.
-#[unsafe(no_mangle)]
-pub extern "C" fn choice_check(
+pub fn choice_check(
     text: &[u8],
     code: u32,
     scratch: &mut [u64],
@@ -81,16 +73,14 @@ pub extern "C" fn choice_check(
 }
 
 // A monitor of a run is opened: any text, any channel code, any length.
-#[unsafe(no_mangle)]
-pub extern "C" fn monitor_open(text: &[u8], code: u32, scratch: &mut [u64]) -> MonitorAnswer
+pub fn monitor_open(text: &[u8], code: u32, scratch: &mut [u64]) -> MonitorAnswer
     ensures { Opened held_in monitor_of zeros text.now code scratch.old scratch.new (answer_in result) × WholeLists held_in monitor_of zeros }
 {
     Monitor::open(text, code, scratch)
 }
 
 // A step of the run: any monitor, any step code and message, any text, any length.
-#[unsafe(no_mangle)]
-pub extern "C" fn monitor_step(
+pub fn monitor_step(
     state: Monitor,
     kind: u32,
     message: u32,
@@ -103,29 +93,21 @@ pub extern "C" fn monitor_step(
 }
 
 // A switch to another channel: any monitor, any code, any text, any length.
-#[unsafe(no_mangle)]
-pub extern "C" fn monitor_switch(
-    state: Monitor,
-    code: u32,
-    text: &[u8],
-    scratch: &mut [u64],
-) -> MonitorAnswer
+pub fn monitor_switch(state: Monitor, code: u32, text: &[u8], scratch: &mut [u64]) -> MonitorAnswer
     ensures { Switched held_in monitor_of zeros state code text.now scratch.old scratch.new (answer_in result) × WholeLists held_in monitor_of zeros }
 {
     state.switch(code, text, scratch)
 }
 
 // The loosest sheet that is free, as text: any text, any lengths.
-#[unsafe(no_mangle)]
-pub extern "C" fn cure_sheet(text: &[u8], scratch: &mut [u64], output: &mut [u8]) -> CureSheetAnswer
+pub fn cure_sheet(text: &[u8], scratch: &mut [u64], output: &mut [u8]) -> CureSheetAnswer
     ensures { CureChecked text.now scratch.old scratch.new output.old output.new (cured.numbers_in result) }
 {
     answers::cured(cure::cure(text, scratch, output))
 }
 
 // A dispatcher that holds no job.
-#[unsafe(no_mangle)]
-pub extern "C" fn dispatcher_empty() -> Dispatcher
+pub fn dispatcher_empty() -> Dispatcher
     ensures value { result ≡ emptied }
     ensures result_value { dispatcher_in result ≡ empty_dispatcher }
 {
@@ -133,8 +115,7 @@ pub extern "C" fn dispatcher_empty() -> Dispatcher
 }
 
 // A job is admitted: any dispatcher, any sheets, lengths, codes and words.
-#[unsafe(no_mangle)]
-pub extern "C" fn dispatcher_admit(
+pub fn dispatcher_admit(
     state: Dispatcher,
     sheets: &[u8],
     lengths: &[u32],
@@ -147,8 +128,7 @@ pub extern "C" fn dispatcher_admit(
 }
 
 // A turn of the head of the queue: any dispatcher, any sheets, lengths, codes, words and trace. Sheets, lengths and codes are not read.
-#[unsafe(no_mangle)]
-pub extern "C" fn dispatcher_turn(
+pub fn dispatcher_turn(
     state: Dispatcher,
     sheets: &[u8],
     lengths: &[u32],
@@ -162,8 +142,7 @@ pub extern "C" fn dispatcher_turn(
 }
 
 // The job with the number leaves: any dispatcher, any number, any sheets, lengths, codes and words. Sheets, lengths and codes are not read.
-#[unsafe(no_mangle)]
-pub extern "C" fn dispatcher_cancel(
+pub fn dispatcher_cancel(
     state: Dispatcher,
     number: u32,
     sheets: &[u8],
@@ -177,16 +156,14 @@ pub extern "C" fn dispatcher_cancel(
 }
 
 // A table of permitted senders: any bytes.
-#[unsafe(no_mangle)]
-pub extern "C" fn senders_check(table: &[u8]) -> SendersCheckAnswer
+pub fn senders_check(table: &[u8]) -> SendersCheckAnswer
     ensures { TableJudged table.now (judged.numbers_in result) }
 {
     answers::judged(senders::check_senders(table))
 }
 
 // The check with a table of permitted senders: any text, any channel code, any table, any lengths.
-#[unsafe(no_mangle)]
-pub extern "C" fn permitted_check(
+pub fn permitted_check(
     text: &[u8],
     code: u32,
     scratch: &mut [u64],
@@ -199,8 +176,7 @@ pub extern "C" fn permitted_check(
 }
 
 // One course of events for two lists of events, or the event that would have to precede itself: any text, any lists, any lengths.
-#[unsafe(no_mangle)]
-pub extern "C" fn taps_check(
+pub fn taps_check(
     text: &[u8],
     scratch: &mut [u64],
     first: &[u16],
@@ -213,20 +189,14 @@ pub extern "C" fn taps_check(
 }
 
 // The messages of a sheet with their lines and boards: any text, any lengths.
-#[unsafe(no_mangle)]
-pub extern "C" fn sheet_messages(
-    text: &[u8],
-    scratch: &mut [u64],
-    output: &mut [u16],
-) -> SheetMessagesAnswer
+pub fn sheet_messages(text: &[u8], scratch: &mut [u64], output: &mut [u16]) -> SheetMessagesAnswer
     ensures { MessagesListed text.now scratch.old scratch.new output.old output.new (listed.numbers_in result) }
 {
     sheet_messages::sheet_messages(text, scratch, output)
 }
 
 // All races of a sheet on a channel: any text, any channel code, any lengths.
-#[unsafe(no_mangle)]
-pub extern "C" fn sheet_races(
+pub fn sheet_races(
     text: &[u8],
     code: u32,
     scratch: &mut [u64],
@@ -238,20 +208,14 @@ pub extern "C" fn sheet_races(
 }
 
 // Where a monitored run stands: any monitor, any text, any length.
-#[unsafe(no_mangle)]
-pub extern "C" fn monitor_standing(
-    state: Monitor,
-    text: &[u8],
-    scratch: &mut [u64],
-) -> MonitorStandingAnswer
+pub fn monitor_standing(state: Monitor, text: &[u8], scratch: &mut [u64]) -> MonitorStandingAnswer
     ensures { Stands held_in monitor_of state text.now scratch.old scratch.new (stood.numbers_in result) result.waits }
 {
     monitor_standing::standing_of(state, text, scratch)
 }
 
 // A sheet that is repeated: any text, any channel code, any lengths.
-#[unsafe(no_mangle)]
-pub extern "C" fn rounds_check(
+pub fn rounds_check(
     text: &[u8],
     code: u32,
     scratch: &mut [u64],
@@ -269,8 +233,7 @@ const MINOR: u32 = 1;
 const PATCH: u32 = 0;
 
 // The version of the calls and of their structs.
-#[unsafe(no_mangle)]
-pub extern "C" fn channel_check_version() -> u32
+pub fn channel_check_version() -> u32
     ensures { result ≡ version }
 {
     10000 * MAJOR + 100 * MINOR + PATCH

@@ -10,7 +10,7 @@ use Rattle.model.specs.Refusal.{Out, ok}
 use Rattle.model.specs.Order.{Scenario}
 use Rattle.model.specs.Channel as model
 use Rattle.model.specs.Channel.{channel_of}
-use Rattle.model.specs.Run.{State, finished, stuck}
+use Rattle.model.specs.Run.{finished, stuck}
 use Rattle.model.specs.Answer.{sheet_of}
 use Rattle.model.specs.Replay.{Replay, finishes, sticks, open', not_allowed, refused, standing}
 use Rattle.model.specs.Waits.{no_wait, wait_of, each_board}
@@ -30,7 +30,7 @@ use Rattle.standing.specs.Bridge.{stand_in}
 use Rattle.monitor.specs.declared.Monitor.{Monitor}
 use Rattle.monitor.specs.Bridge.{held_in}
 use Rattle.monitor_standing.specs.declared.MonitorStandingAnswer.{MonitorStandingAnswer}
-use Rattle.monitor_standing.specs.Bridge.{numbers_in, unwaited_as, Tells}
+use Rattle.monitor_standing.specs.Bridge.{unwaited_as, Tells}
 
 -- the word of a verdict on a run's state
 abbrev word_for : Replay → ℕ

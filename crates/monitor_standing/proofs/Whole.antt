@@ -1,5 +1,5 @@
 -- The whole promise, from what the parts of the call hand on. Assumes nothing.
-use mathlib.Core.Path.{◌≡◌, refl, sym, ◌∙◌, ap, subst, subst⁻¹}
+use mathlib.Core.Path.{◌≡◌, refl, sym, ◌∙◌, ap, subst⁻¹}
 use mathlib.Core.List.{List, ◌++◌}
 use Prim.Native.Nat.{ℕ, ◌<◌, ◌≤◌}
 use native.Mathlib.Omega.{arith}
@@ -12,7 +12,7 @@ use Rattle.model.specs.Run.{State}
 use Rattle.model.specs.Answer.{sheet_of, scratch_behind}
 use Rattle.model.specs.Waits.{each_board}
 use Rattle.model.specs.Monitor.{Held, watchable}
-use Rattle.model.specs.Standing.{StandingNumbers, refused_word, standing_answer, standing_wait, Stands}
+use Rattle.model.specs.Standing.{refused_word, standing_answer, standing_wait, Stands}
 use Rattle.model.proofs.Monitor.{Inside}
 use Rattle.model.proofs.Stands.{stands}
 use Rattle.relation.specs.Rows.{cleared}

@@ -5,7 +5,7 @@ use Rattle.model.specs.Refusal.{Out}
 use Rattle.model.specs.Order.{Scenario}
 use Rattle.model.specs.Waits.{no_wait, each_board}
 use Rattle.model.specs.Monitor.{Held}
-use Rattle.model.specs.Standing.{StandingNumbers, refused_word, standing_answer, standing_wait}
+use Rattle.model.specs.Standing.{StandingNumbers, standing_answer, standing_wait}
 use Rattle.monitor_standing.specs.declared.MonitorStandingAnswer.{MonitorStandingAnswer}
 
 abbrev pub numbers_in : MonitorStandingAnswer → StandingNumbers

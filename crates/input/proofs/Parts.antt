@@ -1,5 +1,5 @@
 -- What a read came to, by what it answered, and that the bytes of one read after another are all that the reader had. Assumes nothing.
-use Rattle.std.proofs.Common.{◌≡◌, sym, ap, refl, ◌∙◌, subst, ℕ, zero, suc, ◌+◌, ◌-◌, ◌≤◌, ◌<◌, List, ◌++◌, length, take, drop, length-take, append_assoc, arith, drop_at, Option, None, Some, Result, Ok, Err}
+use Rattle.std.proofs.Common.{◌≡◌, sym, ap, refl, ◌∙◌, subst, ℕ, zero, suc, ◌+◌, ◌-◌, ◌≤◌, ◌<◌, List, ◌++◌, length, take, drop, length-take, length-append, length-drop, append_assoc, arith, drop_at, Option, None, Some, Result, Ok, Err}
 use Rattle.std.proofs.Math.Seq.{take-add}
 use Rattle.std.proofs.lemmas.List.{take-append-le}
 use borrow.Rule.Slice.PartMut.{put_mid}
@@ -27,10 +27,16 @@ behind n at bytes buf h l =
     let e = drop_at (take at bytes) (buf ++ drop (length bytes - at) (drop at bytes)) at (simp length-take (omega arith)) in
     ap (λ xs. take n xs) e ∙ take-append-le n buf (drop (length bytes - at) (drop at bytes)) h
 
+-- what was read stands in the room there was
+room_left : (at : ℕ) (bytes buf : List ℕ) → length buf ≡ length bytes - at → at ≤ length bytes → at < length (put_mid at (length bytes - at) bytes buf)
+    → 0 < length buf
+room_left at bytes buf e l lt =
+    omega (arith, length-append (take at bytes) (buf ++ drop (length bytes - at) (drop at bytes)), length-append buf (drop (length bytes - at) (drop at bytes)), length-take at bytes, length-drop (length bytes - at) (drop at bytes), length-drop at bytes)
+
 pub part_taken : (r : Result ℕ Error) (old new : Option (List ℕ)) (at : ℕ) (bytes buf : List ℕ) → ReadsAtMost r buf → ReadConsumes old new r buf
-    → 0 < length buf → at ≤ length bytes → Taken (part_of r) at old new (put_mid at (length bytes - at) bytes buf)
+    → length buf ≡ length bytes - at → at ≤ length bytes → Taken (part_of r) at old new (put_mid at (length bytes - at) bytes buf)
 part_taken (Err e) old new at bytes buf h c l m = tt
-part_taken (Ok zero) old new at bytes buf h c l m = (c.0, c.1 refl l)
+part_taken (Ok zero) old new at bytes buf h c l m = (c.0, λ lt. c.1 refl (room_left at bytes buf l m lt))
 part_taken (Ok (suc k)) old new at bytes buf h c l m =
     subst (λ (xs : List ℕ). Consumes old new xs) (sym (behind (suc k) at bytes buf h.0 m)) c.0
 

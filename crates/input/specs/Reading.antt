@@ -25,10 +25,10 @@ Room (Bytes n) at many = (1 ≤ n) × (at + n ≤ many)
 Room End at many = Unit {0}
 Room (Broken e) at many = Unit {0}
 
--- The same of a reader whose bytes are known: those put there are the next that it had; and at the end it had none.
+-- The same of a reader whose bytes are known: those put there are the next that it had; and at the end, if there was room, it had none.
 abbrev pub Taken : Part → ℕ → Option (List ℕ) → Option (List ℕ) → List ℕ → Type 0
 Taken (Bytes n) at old new bytes = Consumes old new (take n (drop at bytes))
-Taken End at old new bytes = Consumes old new [] × IsAtEnd new
+Taken End at old new bytes = Consumes old new [] × (at < length bytes → IsAtEnd new)
 Taken (Broken e) at old new bytes = Unit {0}
 
 -- so many bytes at the start of those lent

@@ -36,7 +36,7 @@ fn part_of(got: io::Result<usize>) -> Part
 
 // One read into the bytes from `at` on.
 fn read_part<R: Read>(reader: &mut R, bytes: &mut [u8], at: usize) -> Part
-    requires { at < length bytes.old }
+    requires { at ≤ length bytes.old }
     ensures room { Room result at (length bytes.old) }
     ensures ahead { take at bytes.new ≡ take at bytes.old }
     ensures taken { Taken result at (R.remaining reader.old) (R.remaining reader.new) bytes.new }

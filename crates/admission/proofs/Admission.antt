@@ -1,70 +1,70 @@
 -- A new job goes behind the last, into the lowest free place. Assumes nothing.
-use mathlib.Core.Path.{_≡_, refl, sym, _∙_, ap, subst, subst⁻¹}
-use mathlib.Core.Logic.{inl, inr, ⊎-elim}
+use mathlib.Core.Path.{◌≡◌, refl, sym, ◌∙◌, ap, subst, subst⁻¹}
+use mathlib.Core.Logic.{inl, inr, ⊎_elim}
 use mathlib.Core.Bool.{true, false}
-use mathlib.Core.List.{List, [], _∷_, _++_}
+use mathlib.Core.List.{List, [], ◌∷◌, ◌++◌}
 use mathlib.Core.Option.{some}
-use Prim.Native.Nat.{ℕ, suc, _+_, _<_, _≤_}
+use Prim.Native.Nat.{ℕ, suc, ◌+◌, ◌<◌, ◌≤◌}
 use native.Mathlib.Numerals.{add-one}
 use native.Mathlib.Omega.{arith}
-use lib.ListN.{length, getD, set}
-use lib.Seq.{getD-set-same, getD-set-other}
-use Rattle·model.specs.Limits.{channels, textMost, jobsMost, jobNumbers, jobWordsLeast}
-use Rattle·model.specs.Refusal.{ok}
-use Rattle·model.specs.Order.{Scenario}
-use Rattle·model.specs.Answer.{sheetOf}
-use Rattle·model.specs.Dispatcher as model
-use Rattle·model.specs.Dispatcher.{Lent, lengthAt, codeAt, sheetAt, placeWords, DispatcherState, isFree, freePlace, admissible, newJob, admitting, Call, admit, admitted, answered, outcomeOf, behind, noAnswer, toldAs, admittedWord, touchesNothing, leavesAll, WordsLeft, Served, Member, Orderly}
-use Rattle·model.proofs.Bounded.{not-both, lowest-some}
-use Rattle·relation.specs.Scenario.{scenarioIn}
-use Rattle·scenario.specs.Contract.{Fit}
-use Rattle·queue.specs.declared.Queue.{Queue}
-use Rattle·queue.specs.Bridge.{queueIn, isFreeIn, freePlaceIn}
-use Rattle·share.specs.declared.Race.{Race}
-use Rattle·share.specs.Search.{searched}
-use Rattle·places.specs.Words.{FreeCleared, Put}
-use Rattle·held_jobs.specs.declared.Boards.{Boards}
-use Rattle·held_jobs.specs.Held.{Held, dispatcherOf, boardsAt, raceAt, HoldsIn, HoldsJob, lent}
-use Rattle·admission·specs.specs.Admission.{Admits}
-use Rattle·held_jobs.proofs.Members.{member-last, one-job, number-below, place-held}
-use Rattle·held_jobs.proofs.Cases.{Case, admit-admitted, sheet-judged}
-use Rattle·held_jobs.proofs.Serving.{words-cleared, holds-same, words-same}
+use lib.ListN.{length, get_or, set}
+use lib.Seq.{get_or-set_same, get_or-set_other}
+use Rattle.model.specs.Limits.{channels, text_most, jobs_most, job_numbers, job_words_least}
+use Rattle.model.specs.Refusal.{ok}
+use Rattle.model.specs.Order.{Scenario}
+use Rattle.model.specs.Answer.{sheet_of}
+use Rattle.model.specs.Dispatcher as model
+use Rattle.model.specs.Dispatcher.{Lent, length_at, code_at, sheet_at, place_words, DispatcherState, is_free, free_place, admissible, new_job, admitting, Call, admit, admitted, answered, outcome_of, behind, no_answer, told_as, admitted_word, touches_nothing, leaves_all, WordsLeft, Served, Member, Orderly}
+use Rattle.model.proofs.Bounded.{not_both, lowest_some}
+use Rattle.relation.specs.Scenario.{scenario_in}
+use Rattle.scenario.specs.Contract.{Fit}
+use Rattle.queue.specs.declared.Queue.{Queue}
+use Rattle.queue.specs.Bridge.{queue_in, is_free_in, free_place_in}
+use Rattle.share.specs.declared.Race.{Race}
+use Rattle.share.specs.Search.{searched}
+use Rattle.places.specs.Words.{FreeCleared, Put}
+use Rattle.held_jobs.specs.declared.Boards.{Boards}
+use Rattle.held_jobs.specs.Held.{Held, dispatcher_of, boards_at, race_at, HoldsIn, HoldsJob, lent}
+use Rattle.admission.specs.Admission.{Admits}
+use Rattle.held_jobs.proofs.Members.{member_last, one_job, number_below, place_held}
+use Rattle.held_jobs.proofs.Cases.{Case, admit_admitted, sheet_judged}
+use Rattle.held_jobs.proofs.Serving.{words_cleared, holds_same, words_same}
 
 -- the lowest free place is one of the eight, and free
-pub place-free : (js : List model.Job) (p : ℕ) → freePlaceIn js ≡ some p → (p < jobsMost) × (isFreeIn js p ≡ true)
-place-free js p e = let L = lowest-some jobsMost (isFreeIn js) p e in (L .below, L .passes)
+pub place_free : (js : List model.Job) (p : ℕ) → free_place_in js ≡ some p → (p < jobs_most) × (is_free_in js p ≡ true)
+place_free js p e = let L = lowest_some jobs_most (is_free_in js) p e in (L.below, L.passes)
 
 -- the place of a job held is another
-pub not-place : (d : Held) (place : ℕ) → freePlaceIn (queueIn (d .queue)) ≡ some place → (p : ℕ) → isFree (dispatcherOf d) p ≡ false → p ≡ place → ⊥
-unfolding isFree
-not-place d place free p f e = not-both (isFreeIn (queueIn (d .queue)) place) (place-free (queueIn (d .queue)) place free .1) (ap (isFreeIn (queueIn (d .queue))) (sym e) ∙ f)
+pub not_place : (d : Held) (place : ℕ) → free_place_in (queue_in d.queue) ≡ some place → (p : ℕ) → is_free (dispatcher_of d) p ≡ false → p ≡ place → ⊥
+unfolding is_free
+not_place d place free p f e = not_both (is_free_in (queue_in d.queue) place) (place_free (queue_in d.queue) place free).1 (ap (is_free_in (queue_in d.queue)) (sym e) ∙ f)
 
 abbrev pub unsought : Race
 unsought = record { found = 0; message = 0; event = 0 }
 
-module _ (d : Held) (place code count : ℕ) (boards written exit : List ℕ) (free : freePlaceIn (queueIn (d .queue)) ≡ some place)
-    (known : code < channels) (left : d .given < jobNumbers) (races : length (d .races) ≡ jobsMost) (long : length (d .boards) ≡ jobsMost)
+module _ (d : Held) (place code count : ℕ) (boards written exit : List ℕ) (free : free_place_in (queue_in d.queue) ≡ some place)
+    (known : code < channels) (left : d.given < job_numbers) (races : length d.races ≡ jobs_most) (long : length d.boards ≡ jobs_most)
     (longer : Queue)
-    (isLonger : queueIn longer ≡ queueIn (d .queue) ++ (record { number = d .given; place = place; code = code; count = count; turns = 0 } ∷ []))
-    (F : FreeCleared (queueIn longer) written exit) where
+    (is_longer : queue_in longer ≡ queue_in d.queue ++ (record { number = d.given; place = place; code = code; count = count; turns = 0 } ∷ []))
+    (F : FreeCleared (queue_in longer) written exit) where
   abbrev new : model.Job
-  new = record { number = d .given; place = place; code = code; count = count; turns = 0 }
+  new = record { number = d.given; place = place; code = code; count = count; turns = 0 }
 
   abbrev next : Held
   next =
       record {
         queue = longer;
-        given = d .given + 1;
-        races = set (d .races) place unsought;
-        boards = set (d .boards) place (record { on = boards });
+        given = d.given + 1;
+        races = set d.races place unsought;
+        boards = set d.boards place (record { on = boards });
       }
 
-  below : place < jobsMost
-  below = place-free (queueIn (d .queue)) place free .0
+  below : place < jobs_most
+  below = (place_free (queue_in d.queue) place free).0
 
-  module _ (sheets lengths codes words : List ℕ) (enough : jobWordsLeast ≤ length words) (isCode : code ≡ getD codes place channels) (few : getD lengths place 0 ≤ textMost)
-      (isSheet : sheetOf (sheetAt (lent sheets lengths codes words) place) ≡ ok (scenarioIn count boards (placeWords place written)))
-      (fit : Fit count boards (placeWords place written)) (P : Put place (placeWords place written) words written) where
+  module _ (sheets lengths codes words : List ℕ) (enough : job_words_least ≤ length words) (is_code : code ≡ get_or codes place channels) (few : get_or lengths place 0 ≤ text_most)
+      (is_sheet : sheet_of (sheet_at (lent sheets lengths codes words) place) ≡ ok (scenario_in count boards (place_words place written)))
+      (fit : Fit count boards (place_words place written)) (P : Put place (place_words place written) words written) where
     abbrev l : Lent
     l = lent sheets lengths codes words
 
@@ -72,101 +72,101 @@ module _ (d : Held) (place code count : ℕ) (boards written exit : List ℕ) (f
     c = admit l
 
     abbrev T : Scenario
-    T = scenarioIn count boards (placeWords place written)
+    T = scenario_in count boards (place_words place written)
 
-    free-there : freePlace (dispatcherOf d) ≡ some place
-    unfolding freePlace isFree
-    free-there = free
+    free_there : free_place (dispatcher_of d) ≡ some place
+    unfolding free_place is_free
+    free_there = free
 
-    accepted : admissible (dispatcherOf d) l ≡ ok T
-    unfolding codeAt lengthAt
-    accepted = sheet-judged (dispatcherOf d) l place free-there (rw (sym isCode) known) enough left few ∙ isSheet
+    accepted : admissible (dispatcher_of d) l ≡ ok T
+    unfolding code_at length_at
+    accepted = sheet_judged (dispatcher_of d) l place free_there (rw (sym is_code) known) enough left few ∙ is_sheet
 
-    C : Case (dispatcherOf d) c (admitted (d .given) place) (admitting (dispatcherOf d) place (codeAt l place) count)
-    C = admit-admitted (dispatcherOf d) l place T free-there accepted
+    C : Case (dispatcher_of d) c (admitted d.given place) (admitting (dispatcher_of d) place (code_at l place) count)
+    C = admit_admitted (dispatcher_of d) l place T free_there accepted
 
-    next-is : dispatcherOf next ≡ behind (dispatcherOf d) c
-    unfolding admitting codeAt
-    next-is =
-        ap (λ (q : List model.Job). record { queue = q; given = d .given + 1 }) isLonger
-        ∙ ap (λ k. record { queue = queueIn (d .queue) ++ (new ∷ []); given = k }) (add-one (d .given))
-        ∙ ap (λ k. record { queue = queueIn (d .queue) ++ (record { number = d .given; place = place; code = k; count = count; turns = 0 } ∷ []); given = suc (d .given) }) isCode
-        ∙ sym (C .leaves)
+    next_is : dispatcher_of next ≡ behind (dispatcher_of d) c
+    unfolding admitting code_at
+    next_is =
+        ap (λ (q : List model.Job). record { queue = q; given = d.given + 1 }) is_longer
+        ∙ ap (λ k. record { queue = queue_in d.queue ++ (new ∷ []); given = k }) (add-one d.given)
+        ∙ ap (λ k. record { queue = queue_in d.queue ++ (record { number = d.given; place = place; code = k; count = count; turns = 0 } ∷ []); given = suc d.given }) is_code
+        ∙ sym C.leaves
 
-    new-in : Member new (queueIn longer)
-    new-in = subst⁻¹ (Member new) isLonger (last (queueIn (d .queue)))
+    new_in : Member new (queue_in longer)
+    new_in = subst⁻¹ (Member new) is_longer (last (queue_in d.queue))
       where
         last : (js : List model.Job) → Member new (js ++ (new ∷ []))
         last [] = inl refl
         last (j ∷ js) = inr (last js)
 
-    W : WordsLeft (dispatcherOf d) c exit
-    unfolding touchesNothing
+    W : WordsLeft (dispatcher_of d) c exit
+    unfolding touches_nothing
     W =
-        words-cleared (dispatcherOf d) c written exit (ap touchesNothing (C .outcome))
-        (subst (λ (q : DispatcherState). FreeCleared (q .queue) written exit) next-is F) (P .kept) (P .rest) (λ p h f. P .others p h (not-place d place free p f))
+        words_cleared (dispatcher_of d) c written exit (ap touches_nothing C.outcome)
+        (subst (λ (q : DispatcherState). FreeCleared q.queue written exit) next_is F) P.kept P.rest (λ p h f. P.others p h (not_place d place free p f))
 
     -- the new job is held
-    holds-new : HoldsIn (boardsAt next place) (raceAt next place) (placeWords place exit) new T
-    unfolding searched isFree
-    holds-new =
-        let on : boardsAt next place ≡ boards = ap (λ (b : Boards). b .on) (getD-set-same (d .boards) place (record { on = boards }) _ (omega (arith, below))) in
-        let raced : raceAt next place ≡ unsought = getD-set-same (d .races) place unsought _ (omega (arith, below)) in
-        let kept : placeWords place exit ≡ placeWords place written =
-        F .held place below (place-held (record { queue = queueIn longer; given = 0 }) new new-in) in
-        subst⁻¹ (λ (b : List ℕ). HoldsIn b (raceAt next place) (placeWords place exit) new T) on
-        (subst⁻¹ (λ (r : Race). HoldsIn boards r (placeWords place exit) new T) raced
+    holds_new : HoldsIn (boards_at next place) (race_at next place) (place_words place exit) new T
+    unfolding searched is_free
+    holds_new =
+        let on : boards_at next place ≡ boards = ap (λ (b : Boards). b.on) (get_or-set_same d.boards place (record { on = boards }) _ (omega (arith, below))) in
+        let raced : race_at next place ≡ unsought = get_or-set_same d.races place unsought _ (omega (arith, below)) in
+        let kept : place_words place exit ≡ place_words place written =
+        F.held place below (place_held (record { queue = queue_in longer; given = 0 }) new new_in) in
+        subst⁻¹ (λ (b : List ℕ). HoldsIn b (race_at next place) (place_words place exit) new T) on
+        (subst⁻¹ (λ (r : Race). HoldsIn boards r (place_words place exit) new T) raced
         (subst⁻¹ (λ (w : List ℕ). HoldsIn boards unsought w new T) kept
-        (record { inPlace = below; fit = fit; isScenario = refl; isChannel = known; turnsMost = omega arith; found = refl })))
+        (record { in_place = below; fit = fit; is_scenario = refl; is_channel = known; turns_most = omega arith; found = refl })))
 
-    admits : (m : Lent) (p : ℕ) (S : Scenario) → c ≡ admit m → freePlace (dispatcherOf d) ≡ some p → admissible (dispatcherOf d) m ≡ ok S
-        → HoldsJob next (placeWords p exit) (newJob (dispatcherOf d) p (codeAt m p) (S .count)) S
-    unfolding codeAt
+    admits : (m : Lent) (p : ℕ) (S : Scenario) → c ≡ admit m → free_place (dispatcher_of d) ≡ some p → admissible (dispatcher_of d) m ≡ ok S
+        → HoldsJob next (place_words p exit) (new_job (dispatcher_of d) p (code_at m p) S.count) S
+    unfolding code_at
     admits m p S i f a =
         let one : l ≡ m = cc in
-        let two : some place ≡ some p = sym free-there ∙ f in
+        let two : some place ≡ some p = sym free_there ∙ f in
         let at : place ≡ p = cc in
-        let three : ok T ≡ ok S = sym accepted ∙ ap (admissible (dispatcherOf d)) one ∙ a in
+        let three : ok T ≡ ok S = sym accepted ∙ ap (admissible (dispatcher_of d)) one ∙ a in
         let is : T ≡ S = cc in
-        subst (λ (m : Lent). HoldsJob next (placeWords p exit) (newJob (dispatcherOf d) p (codeAt m p) (S .count)) S) one
-        (subst (λ (S : Scenario). HoldsJob next (placeWords p exit) (newJob (dispatcherOf d) p (codeAt l p) (S .count)) S) is
-        (subst (λ (p : ℕ). HoldsJob next (placeWords p exit) (newJob (dispatcherOf d) p (codeAt l p) count) T) at
-        (subst (λ (k : ℕ). HoldsIn (boardsAt next place) (raceAt next place) (placeWords place exit) (newJob (dispatcherOf d) place k count) T) isCode holds-new)))
+        subst (λ (m : Lent). HoldsJob next (place_words p exit) (new_job (dispatcher_of d) p (code_at m p) S.count) S) one
+        (subst (λ (S : Scenario). HoldsJob next (place_words p exit) (new_job (dispatcher_of d) p (code_at l p) S.count) S) is
+        (subst (λ (p : ℕ). HoldsJob next (place_words p exit) (new_job (dispatcher_of d) p (code_at l p) count) T) at
+        (subst (λ (k : ℕ). HoldsIn (boards_at next place) (race_at next place) (place_words place exit) (new_job (dispatcher_of d) place k count) T) is_code holds_new)))
 
-    keeps : Orderly (dispatcherOf d) → (j k : model.Job) (S : Scenario) → Member j (dispatcherOf d .queue) → Member k (behind (dispatcherOf d) c .queue)
-        → j .number ≡ k .number → HoldsJob d (placeWords (j .place) words) j S → HoldsJob next (placeWords (k .place) exit) k S
+    keeps : Orderly (dispatcher_of d) → (j k : model.Job) (S : Scenario) → Member j (dispatcher_of d).queue → Member k (behind (dispatcher_of d) c).queue
+        → j.number ≡ k.number → HoldsJob d (place_words j.place words) j S → HoldsJob next (place_words k.place exit) k S
     keeps o j k S a b m H =
-        ⊎-elim
+        ⊎_elim
         (λ u.
-        let i : j ≡ k = one-job (dispatcherOf d) o j k a u m in
-        let other = not-place d place free (k .place) (place-held (dispatcherOf d) k u) in
-        holds-same d next (placeWords (k .place) words) (placeWords (k .place) exit) k S
-        (ap (λ (b : Boards). b .on) (getD-set-other (d .boards) place (k .place) (record { on = boards }) _ other))
-        (getD-set-other (d .races) place (k .place) unsought _ other)
-        (words-same (dispatcherOf d) c exit k W o u b)
-        (subst (λ (h : model.Job). HoldsJob d (placeWords (h .place) words) h S) i H))
+        let i : j ≡ k = one_job (dispatcher_of d) o j k a u m in
+        let other = not_place d place free k.place (place_held (dispatcher_of d) k u) in
+        holds_same d next (place_words k.place words) (place_words k.place exit) k S
+        (ap (λ (b : Boards). b.on) (get_or-set_other d.boards place k.place (record { on = boards }) _ other))
+        (get_or-set_other d.races place k.place unsought _ other)
+        (words_same (dispatcher_of d) c exit k W o u b)
+        (subst (λ (h : model.Job). HoldsJob d (place_words h.place words) h S) i H))
         (λ u.
-        let number : k .number ≡ d .given = ap (λ (h : model.Job). h .number) u in
-        absurd (omega (arith, number-below (dispatcherOf d) o j a)))
-        (member-last k new (queueIn (d .queue)) (subst (λ (q : List model.Job). Member k q) isLonger (subst⁻¹ (λ (q : DispatcherState). Member k (q .queue)) next-is b)))
+        let number : k.number ≡ d.given = ap (λ (h : model.Job). h.number) u in
+        absurd (omega (arith, number_below (dispatcher_of d) o j a)))
+        (member_last k new (queue_in d.queue) (subst (λ (q : List model.Job). Member k q) is_longer (subst⁻¹ (λ (q : DispatcherState). Member k q.queue) next_is b)))
 
-    pub admitted-serves : (r : Served Held) → r ≡ record { told = record { word = admittedWord; one = d .given; two = place; answer = noAnswer }; next = next }
+    pub admitted_serves : (r : Served Held) → r ≡ record { told = record { word = admitted_word; one = d.given; two = place; answer = no_answer }; next = next }
         → Admits d sheets lengths codes words exit r
-    unfolding leavesAll
-    admitted-serves r e =
+    unfolding leaves_all
+    admitted_serves r e =
         subst⁻¹ (λ (s : Served Held). Admits d sheets lengths codes words exit s) e
         (record {
-          told = ap (λ u. toldAs u noAnswer) (sym (C .outcome));
-          next = next-is;
-          leftAlone = λ u. not-both (leavesAll (outcomeOf (dispatcherOf d) c)) u (ap leavesAll (C .outcome));
-          wordsLeft = W;
-          freeOrLocked = inl refl;
-          traceKept = λ u. refl;
-          traceLocked = λ u. absurd (omega (arith, u));
+          told = ap (λ u. told_as u no_answer) (sym C.outcome);
+          next = next_is;
+          left_alone = λ u. not_both (leaves_all (outcome_of (dispatcher_of d) c)) u (ap leaves_all C.outcome);
+          words_left = W;
+          free_or_locked = inl refl;
+          trace_kept = λ u. refl;
+          trace_locked = λ u. absurd (omega (arith, u));
           admits = admits;
           keeps = keeps;
           answers = λ o j ks S q i H.
-              let clash : admitted (d .given) place ≡ answered (j .number) = sym (C .outcome) ∙ i in
-              let z : _≡_ {A = ℕ} 0 1 = cc in
+              let clash : admitted d.given place ≡ answered j.number = sym C.outcome ∙ i in
+              let z : ◌≡◌ {A = ℕ} 0 1 = cc in
               absurd (omega arith);
         })

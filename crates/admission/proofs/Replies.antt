@@ -1,260 +1,260 @@
 -- What each return of an admission is to show, from what led there. Assumes nothing.
-use mathlib.Core.Path.{_≡_, refl, sym, _∙_, ap, subst, subst⁻¹}
-use mathlib.Core.List.{List, [], _∷_, _++_}
+use mathlib.Core.Path.{◌≡◌, refl, sym, ◌∙◌, ap, subst, subst⁻¹}
+use mathlib.Core.List.{List, [], ◌∷◌, ◌++◌}
 use mathlib.Core.Option.{none, some}
-use Prim.Native.Nat.{ℕ, _+_, _^_, _<_, _≤_}
+use Prim.Native.Nat.{ℕ, ◌+◌, ◌^◌, ◌<◌, ◌≤◌}
 use native.Mathlib.Omega.{arith}
 use borrow.Author.Tests.{lt-leb}
-use lib.ListN.{length, getD, set}
-use lib.Seq.{set-getD}
-use Rattle·model.specs.Limits.{channels, messagesMost, textMost, rowsMost, jobsMost, jobNumbers, jobWordsLeast}
-use Rattle·model.specs.Refusal.{Out, refusal, channelRefusal, benchRefusal, lengthRefusal, jobsRefusal}
-use Rattle·model.specs.Place.{lineOf}
-use Rattle·model.specs.Order.{Scenario}
-use Rattle·model.specs.Answer.{sheetOf}
-use Rattle·model.specs.Dispatcher as model
-use Rattle·model.specs.Dispatcher.{Lent, lengthAt, codeAt, sheetAt, placeWords, isFree, freePlace, admissible, admit, refused, admittedWord, refusedWord, touchesNothing, leavesAll, Served}
-use Rattle·model.proofs.Bounded.{not-both, lowest-none}
-use Rattle·model.proofs.Lines.{Well, sheet-well}
-use Rattle·expansion.specs.declared.Expanded.{Expanded}
-use Rattle·expansion.specs.declared.Expanded.the-variants as expanded
-use Rattle·scenario.proofs.Laws.{sheet-refused, sheet-is, sheet-fits}
-use Rattle·queue.specs.declared.Queue.{Queue}
-use Rattle·queue.specs.Bridge.{queueIn, PlacesOf, isFreeIn, freePlaceIn}
-use Rattle·taken_places.specs.declared.Place.{Place}
-use Rattle·taken_places.specs.declared.Place.the-variants as places
-use Rattle·taken_places.specs.Places.{placeIn, SparePlace}
-use Rattle·places.specs.Words.{FreeCleared, ClearedBut}
-use Rattle·share.specs.declared.Race.{Race}
-use Rattle·lent_sheet.specs.Sheet.{sheetIn, ReadsSheet}
-use Rattle·held_jobs.specs.declared.Boards.{Boards}
-use Rattle·held_jobs.specs.Held.{Held, dispatcherOf, lent, toldWith}
-use Rattle·held_jobs.proofs.Cases.{admit-refused, full-short, full-held, code-unknown, words-short, numbers-out, sheet-long, sheet-judged}
-use Rattle·held_jobs.proofs.Serving.{untouched, cleared-by, cleared}
-use Rattle·admission·specs.specs.declared.Part.{Part}
-use Rattle·admission·specs.specs.declared.Entry.{Entry}
-use Rattle·admission·specs.specs.Admission.{PartIs, refusedBy, enteredBy, Admits, AdmitIn, HoldsNew, ReadsIn, FullOf}
-use Rattle·admission·proofs.proofs.Admission.{not-place, unsought, admitted-serves}
+use lib.ListN.{length, get_or, set}
+use lib.Seq.{set-get_or}
+use Rattle.model.specs.Limits.{channels, messages_most, text_most, rows_most, jobs_most, job_numbers, job_words_least}
+use Rattle.model.specs.Refusal.{Out, refusal, channel_refusal, bench_refusal, length_refusal, jobs_refusal}
+use Rattle.model.specs.Place.{line_of}
+use Rattle.model.specs.Order.{Scenario}
+use Rattle.model.specs.Answer.{sheet_of}
+use Rattle.model.specs.Dispatcher as model
+use Rattle.model.specs.Dispatcher.{Lent, length_at, code_at, sheet_at, place_words, is_free, free_place, admissible, admit, refused, admitted_word, refused_word, touches_nothing, leaves_all, Served}
+use Rattle.model.proofs.Bounded.{not_both, lowest_none}
+use Rattle.model.proofs.Lines.{Well, sheet_well}
+use Rattle.expansion.specs.declared.Expanded.{Expanded}
+use Rattle.expansion.specs.declared.Expanded.TheVariants as expanded
+use Rattle.scenario.proofs.Laws.{sheet_refused, sheet_is, sheet_fits}
+use Rattle.queue.specs.declared.Queue.{Queue}
+use Rattle.queue.specs.Bridge.{queue_in, PlacesOf, is_free_in, free_place_in}
+use Rattle.taken_places.specs.declared.Place.{Place}
+use Rattle.taken_places.specs.declared.Place.TheVariants as places
+use Rattle.taken_places.specs.Places.{place_in, SparePlace}
+use Rattle.places.specs.Words.{FreeCleared, ClearedBut}
+use Rattle.share.specs.declared.Race.{Race}
+use Rattle.lent_sheet.specs.Sheet.{sheet_in, ReadsSheet}
+use Rattle.held_jobs.specs.declared.Boards.{Boards}
+use Rattle.held_jobs.specs.Held.{Held, dispatcher_of, lent, told_with}
+use Rattle.held_jobs.proofs.Cases.{admit_refused, full_short, full_held, code_unknown, words_short_holds, numbers_out, sheet_long, sheet_judged}
+use Rattle.held_jobs.proofs.Serving.{untouched, cleared_by, cleared}
+use Rattle.admission.specs.declared.Part.{Part}
+use Rattle.admission.specs.declared.Entry.{Entry}
+use Rattle.admission.specs.Admission.{PartIs, refused_by, entered_by, Admits, AdmitIn, HoldsNew, ReadsIn, FullOf}
+use Rattle.admission.proofs.Admission.{not_place, unsought, admitted_serves}
 
 -- ---- of one dispatcher
-module _ (d : Held) (words : List ℕ) (r : Served Held) (free : freePlaceIn (queueIn (d .queue)) ≡ none) where
-  none-free : freePlace (dispatcherOf d) ≡ none
-  unfolding freePlace isFree
-  none-free = free
+module _ (d : Held) (words : List ℕ) (r : Served Held) (free : free_place_in (queue_in d.queue) ≡ none) where
+  none_free : free_place (dispatcher_of d) ≡ none
+  unfolding free_place is_free
+  none_free = free
 
-  admit-full-short : length words < jobWordsLeast → r ≡ toldWith refusedWord benchRefusal 0 d → (sheets lengths codes : List ℕ) → Admits d sheets lengths codes words words r
-  admit-full-short h e sheets lengths codes =
+  admit_full_short : length words < job_words_least → r ≡ told_with refused_word bench_refusal 0 d → (sheets lengths codes : List ℕ) → Admits d sheets lengths codes words words r
+  admit_full_short h e sheets lengths codes =
       let l = lent sheets lengths codes words in
-      untouched d (admit l) benchRefusal 0 r (admit-refused (dispatcherOf d) l benchRefusal 0 (full-short (dispatcherOf d) l none-free h)) (omega arith) e
+      untouched d (admit l) bench_refusal 0 r (admit_refused (dispatcher_of d) l bench_refusal 0 (full_short (dispatcher_of d) l none_free h)) (omega arith) e
 
   -- all places are held, so that there is none to clear
-  all-held : FreeCleared (queueIn (d .queue)) words words
-  all-held =
+  all_held : FreeCleared (queue_in d.queue) words words
+  all_held =
       record {
         kept = refl;
         rest = refl;
-        free = λ p h t. not-both (isFreeIn (queueIn (d .queue)) p) t (lowest-none jobsMost (isFreeIn (queueIn (d .queue))) free p h);
+        free = λ p h t. not_both (is_free_in (queue_in d.queue) p) t (lowest_none jobs_most (is_free_in (queue_in d.queue)) free p h);
         held = λ p h f. refl;
       }
 
-  admit-full-jobs : jobWordsLeast ≤ length words → r ≡ toldWith refusedWord jobsRefusal 0 d → (sheets lengths codes : List ℕ) → Admits d sheets lengths codes words words r
-  unfolding touchesNothing leavesAll
-  admit-full-jobs h e sheets lengths codes =
+  admit_full_jobs : job_words_least ≤ length words → r ≡ told_with refused_word jobs_refusal 0 d → (sheets lengths codes : List ℕ) → Admits d sheets lengths codes words words r
+  unfolding touches_nothing leaves_all
+  admit_full_jobs h e sheets lengths codes =
       let l = lent sheets lengths codes words in
-      cleared d (admit l) (refused jobsRefusal 0) words r (admit-refused (dispatcherOf d) l jobsRefusal 0 (full-held (dispatcherOf d) l none-free h)) refl (lt-leb jobsRefusal benchRefusal (omega arith)) e all-held
+      cleared d (admit l) (refused jobs_refusal 0) words r (admit_refused (dispatcher_of d) l jobs_refusal 0 (full_held (dispatcher_of d) l none_free h)) refl (lt-leb jobs_refusal bench_refusal (omega arith)) e all_held
 
-module _ (d : Held) (place : ℕ) (free : freePlaceIn (queueIn (d .queue)) ≡ some place) where
-  free-there : freePlace (dispatcherOf d) ≡ some place
-  unfolding freePlace isFree
-  free-there = free
+module _ (d : Held) (place : ℕ) (free : free_place_in (queue_in d.queue) ≡ some place) where
+  free_there : free_place (dispatcher_of d) ≡ some place
+  unfolding free_place is_free
+  free_there = free
 
-  module _ (sheets lengths codes words : List ℕ) (code : ℕ) (isCode : code ≡ getD codes place channels) (r : Served Held) where
+  module _ (sheets lengths codes words : List ℕ) (code : ℕ) (is_code : code ≡ get_or codes place channels) (r : Served Held) where
     abbrev l : Lent
     l = lent sheets lengths codes words
 
-    code-is : codeAt l place ≡ code
-    unfolding codeAt
-    code-is = sym isCode
+    code_is : code_at l place ≡ code
+    unfolding code_at
+    code_is = sym is_code
 
-    pub admit-unknown : channels ≤ code → r ≡ toldWith refusedWord channelRefusal 0 d → Admits d sheets lengths codes words words r
-    admit-unknown h e =
-        (untouched d (admit l) channelRefusal 0 r (admit-refused (dispatcherOf d) l channelRefusal 0 (code-unknown (dispatcherOf d) l place free-there (rw code-is h))) (omega arith) e)
+    pub admit_unknown : channels ≤ code → r ≡ told_with refused_word channel_refusal 0 d → Admits d sheets lengths codes words words r
+    admit_unknown h e =
+        (untouched d (admit l) channel_refusal 0 r (admit_refused (dispatcher_of d) l channel_refusal 0 (code_unknown (dispatcher_of d) l place free_there (rw code_is h))) (omega arith) e)
 
     module _ (known : code < channels) where
-      at-code : codeAt l place < channels
-      at-code = rw code-is known
+      at_code : code_at l place < channels
+      at_code = rw code_is known
 
-      pub admit-short : length words < jobWordsLeast → r ≡ toldWith refusedWord benchRefusal 0 d → Admits d sheets lengths codes words words r
-      admit-short h e =
-          (untouched d (admit l) benchRefusal 0 r (admit-refused (dispatcherOf d) l benchRefusal 0 (words-short (dispatcherOf d) l place free-there at-code h)) (omega arith) e)
+      pub admit_short : length words < job_words_least → r ≡ told_with refused_word bench_refusal 0 d → Admits d sheets lengths codes words words r
+      admit_short h e =
+          (untouched d (admit l) bench_refusal 0 r (admit_refused (dispatcher_of d) l bench_refusal 0 (words_short_holds (dispatcher_of d) l place free_there at_code h)) (omega arith) e)
 
-      module _ (w : jobWordsLeast ≤ length words) where
-        pub admit-numbers : (exit : List ℕ) → jobNumbers ≤ d .given → FreeCleared (queueIn (d .queue)) words exit → r ≡ toldWith refusedWord jobsRefusal 0 d
+      module _ (w : job_words_least ≤ length words) where
+        pub admit_numbers : (exit : List ℕ) → job_numbers ≤ d.given → FreeCleared (queue_in d.queue) words exit → r ≡ told_with refused_word jobs_refusal 0 d
             → Admits d sheets lengths codes words exit r
-        unfolding touchesNothing leavesAll
-        admit-numbers exit h F e =
-            (cleared d (admit l) (refused jobsRefusal 0) exit r (admit-refused (dispatcherOf d) l jobsRefusal 0 (numbers-out (dispatcherOf d) l place free-there at-code w h)) refl (lt-leb jobsRefusal benchRefusal (omega arith)) e F)
+        unfolding touches_nothing leaves_all
+        admit_numbers exit h F e =
+            (cleared d (admit l) (refused jobs_refusal 0) exit r (admit_refused (dispatcher_of d) l jobs_refusal 0 (numbers_out (dispatcher_of d) l place free_there at_code w h)) refl (lt-leb jobs_refusal bench_refusal (omega arith)) e F)
 
-        pub admit-long : (exit : List ℕ) (size : ℕ) → size ≡ getD lengths place 0 → d .given < jobNumbers → textMost < size → FreeCleared (queueIn (d .queue)) words exit
-            → r ≡ toldWith refusedWord lengthRefusal 0 d → Admits d sheets lengths codes words exit r
-        unfolding touchesNothing leavesAll lengthAt
-        admit-long exit size i g h F e =
-            (cleared d (admit l) (refused lengthRefusal 0) exit r (admit-refused (dispatcherOf d) l lengthRefusal 0 (sheet-long (dispatcherOf d) l place free-there at-code w g (rw (sym i) h))) refl (lt-leb lengthRefusal benchRefusal (omega arith)) e F)
+        pub admit_long : (exit : List ℕ) (size : ℕ) → size ≡ get_or lengths place 0 → d.given < job_numbers → text_most < size → FreeCleared (queue_in d.queue) words exit
+            → r ≡ told_with refused_word length_refusal 0 d → Admits d sheets lengths codes words exit r
+        unfolding touches_nothing leaves_all length_at
+        admit_long exit size i g h F e =
+            (cleared d (admit l) (refused length_refusal 0) exit r (admit_refused (dispatcher_of d) l length_refusal 0 (sheet_long (dispatcher_of d) l place free_there at_code w g (rw (sym i) h))) refl (lt-leb length_refusal bench_refusal (omega arith)) e F)
 
   -- the sheet was read: refused, or accepted
   module _ (sheets : List ℕ) (size code : ℕ) (words boards written : List ℕ) (v : Expanded) (R : ReadsSheet sheets size place words boards written v) where
-    admit-read-refused : (number line : ℕ) (exit : List ℕ) (r : Served Held) → v ≡ expanded.Refused number line → code < channels → jobWordsLeast ≤ length words
-        → d .given < jobNumbers → size ≤ textMost → FreeCleared (queueIn (d .queue)) written exit → r ≡ toldWith refusedWord number line d
-        → (lengths codes : List ℕ) → size ≡ getD lengths place 0 → code ≡ getD codes place channels → Admits d sheets lengths codes words exit r
-    unfolding touchesNothing leavesAll lengthAt codeAt sheetAt
-    admit-read-refused number line exit r i known w g few F e lengths codes isSize isCode =
+    admit_read_refused : (number line : ℕ) (exit : List ℕ) (r : Served Held) → v ≡ expanded.Refused number line → code < channels → job_words_least ≤ length words
+        → d.given < job_numbers → size ≤ text_most → FreeCleared (queue_in d.queue) written exit → r ≡ told_with refused_word number line d
+        → (lengths codes : List ℕ) → size ≡ get_or lengths place 0 → code ≡ get_or codes place channels → Admits d sheets lengths codes words exit r
+    unfolding touches_nothing leaves_all length_at code_at sheet_at
+    admit_read_refused number line exit r i known w g few F e lengths codes is_size is_code =
         let l = lent sheets lengths codes words in
-        let text : sheetOf (sheetIn sheets size place) ≡ refusal number line = sheet-refused (sheetIn sheets size place) boards (placeWords place written) v (R .sheet) number line i in
-        let judged : admissible (dispatcherOf d) l ≡ refusal number line =
-        sheet-judged (dispatcherOf d) l place free-there (rw (sym isCode) known) w g (rw (sym isSize) few)
-        ∙ ap (λ k. sheetOf (sheetIn sheets k place)) (sym isSize) ∙ text in
-        let late : benchRefusal < number = subst (λ (o : Out Scenario). Well (lineOf rowsMost) o) text (sheet-well (sheetIn sheets size place)) .behind in
-        cleared-by d (admit l) (refused number line) written exit r (admit-refused (dispatcherOf d) l number line judged) refl (lt-leb number benchRefusal late) e F (R .put .kept) (R .put .rest)
-        (λ p h f. R .put .others p h (not-place d place free p f))
+        let text : sheet_of (sheet_in sheets size place) ≡ refusal number line = sheet_refused (sheet_in sheets size place) boards (place_words place written) v R.sheet number line i in
+        let judged : admissible (dispatcher_of d) l ≡ refusal number line =
+        sheet_judged (dispatcher_of d) l place free_there (rw (sym is_code) known) w g (rw (sym is_size) few)
+        ∙ ap (λ k. sheet_of (sheet_in sheets k place)) (sym is_size) ∙ text in
+        let late : bench_refusal < number = (subst (λ (o : Out Scenario). Well (line_of rows_most) o) text (sheet_well (sheet_in sheets size place))).behind in
+        cleared_by d (admit l) (refused number line) written exit r (admit_refused (dispatcher_of d) l number line judged) refl (lt-leb number bench_refusal late) e F R.put.kept R.put.rest
+        (λ p h f. R.put.others p h (not_place d place free p f))
 
-pub no-place : (js : List model.Job) (v : Place) → placeIn v ≡ freePlaceIn js → v ≡ places.Nothing → freePlaceIn js ≡ none
-no-place js v e i = sym e ∙ ap placeIn i
+pub no_place : (js : List model.Job) (v : Place) → place_in v ≡ free_place_in js → v ≡ places.Nothing → free_place_in js ≡ none
+no_place js v e i = sym e ∙ ap place_in i
 
-pub at-place : (js : List model.Job) (v : Place) (p : ℕ) → placeIn v ≡ freePlaceIn js → v ≡ places.At p → freePlaceIn js ≡ some p
-at-place js v p e i = sym e ∙ ap placeIn i
+pub at_place : (js : List model.Job) (v : Place) (p : ℕ) → place_in v ≡ free_place_in js → v ≡ places.At p → free_place_in js ≡ some p
+at_place js v p e i = sym e ∙ ap place_in i
 
 -- the refusal's line is that of a row; and of a sheet accepted the messages are few
 module _ (sheets : List ℕ) (size place : ℕ) (words boards written : List ℕ) (v : Expanded) (R : ReadsSheet sheets size place words boards written v) where
-  pub line-small : (number line : ℕ) → v ≡ expanded.Refused number line → line < 2 ^ 32
-  line-small number line i =
-      let text : sheetOf (sheetIn sheets size place) ≡ refusal number line = sheet-refused (sheetIn sheets size place) boards (placeWords place written) v (R .sheet) number line i in
-      omega (arith, subst (λ (o : Out Scenario). Well (lineOf rowsMost) o) text (sheet-well (sheetIn sheets size place)) .within)
+  pub line_small : (number line : ℕ) → v ≡ expanded.Refused number line → line < 2 ^ 32
+  line_small number line i =
+      let text : sheet_of (sheet_in sheets size place) ≡ refusal number line = sheet_refused (sheet_in sheets size place) boards (place_words place written) v R.sheet number line i in
+      omega (arith, (subst (λ (o : Out Scenario). Well (line_of rows_most) o) text (sheet_well (sheet_in sheets size place))).within)
 
-  pub count-few : (count : ℕ) → v ≡ expanded.Messages count → count ≤ messagesMost
-  count-few count i = sheet-fits (sheetIn sheets size place) boards (placeWords place written) v (R .sheet) count i .few
+  pub count_few : (count : ℕ) → v ≡ expanded.Messages count → count ≤ messages_most
+  count_few count i = (sheet_fits (sheet_in sheets size place) boards (place_words place written) v R.sheet count i).few
 
-  pub written-long : jobWordsLeast ≤ length words → jobWordsLeast ≤ length written
-  written-long h = omega (arith, R .put .kept)
+  pub written_long : job_words_least ≤ length words → job_words_least ≤ length written
+  written_long h = omega (arith, R.put.kept)
 
 -- ---- an admission, as it is of every dispatcher with the part
 module _ (part : Part) where
   -- what is put back is what was taken out
-  kept : (d : Held) (place : ℕ) → PartIs d place part → (number line : ℕ) (r : Entry) → r ≡ refusedBy number line part
-      → enteredBy d place r ≡ toldWith refusedWord number line d
+  kept : (d : Held) (place : ℕ) → PartIs d place part → (number line : ℕ) (r : Entry) → r ≡ refused_by number line part
+      → entered_by d place r ≡ told_with refused_word number line d
   kept d place D number line r e =
-      ap (enteredBy d place) e ∙ ap (λ (p : Part). enteredBy d place (refusedBy number line p)) (D .is)
-      ∙ ap (λ (l : List Race). toldWith refusedWord number line (record { queue = d .queue; given = d .given; races = l; boards = set (d .boards) place (getD (d .boards) place (record { on = [] })) })) (set-getD (d .races) place _)
-      ∙ ap (λ (l : List Boards). toldWith refusedWord number line (record { queue = d .queue; given = d .given; races = d .races; boards = l })) (set-getD (d .boards) place _)
+      ap (entered_by d place) e ∙ ap (λ (p : Part). entered_by d place (refused_by number line p)) D.is
+      ∙ ap (λ (l : List Race). told_with refused_word number line (record { queue = d.queue; given = d.given; races = l; boards = set d.boards place (get_or d.boards place (record { on = [] })) })) (set-get_or d.races place _)
+      ∙ ap (λ (l : List Boards). told_with refused_word number line (record { queue = d.queue; given = d.given; races = d.races; boards = l })) (set-get_or d.boards place _)
 
   -- with no place free
-  module _ (words : List ℕ) (r : Entry) (free : freePlaceIn (queueIn (part .queue)) ≡ none) where
-    none-in : (d : Held) (place : ℕ) → PartIs d place part → freePlaceIn (queueIn (d .queue)) ≡ none
-    none-in d place D = subst (λ (p : Part). freePlaceIn (queueIn (p .queue)) ≡ none) (D .is) free
+  module _ (words : List ℕ) (r : Entry) (free : free_place_in (queue_in part.queue) ≡ none) where
+    none_in : (d : Held) (place : ℕ) → PartIs d place part → free_place_in (queue_in d.queue) ≡ none
+    none_in d place D = subst (λ (p : Part). free_place_in (queue_in p.queue) ≡ none) D.is free
 
-    pub full-too-short : length words < jobWordsLeast → r ≡ refusedBy benchRefusal 0 part → FullOf part words r
-    full-too-short h e =
+    pub full_too_short : length words < job_words_least → r ≡ refused_by bench_refusal 0 part → FullOf part words r
+    full_too_short h e =
         record {
           serves = λ place sheets lengths codes.
-              record { serves = λ d D. admit-full-short d words (enteredBy d place r) (none-in d place D) h (kept d place D benchRefusal 0 r e) sheets lengths codes };
+              record { serves = λ d D. admit_full_short d words (entered_by d place r) (none_in d place D) h (kept d place D bench_refusal 0 r e) sheets lengths codes };
         }
 
-    pub full-of-jobs : jobWordsLeast ≤ length words → r ≡ refusedBy jobsRefusal 0 part → FullOf part words r
-    full-of-jobs h e =
+    pub full_of_jobs : job_words_least ≤ length words → r ≡ refused_by jobs_refusal 0 part → FullOf part words r
+    full_of_jobs h e =
         record {
           serves = λ place sheets lengths codes.
-              record { serves = λ d D. admit-full-jobs d words (enteredBy d place r) (none-in d place D) h (kept d place D jobsRefusal 0 r e) sheets lengths codes };
+              record { serves = λ d D. admit_full_jobs d words (entered_by d place r) (none_in d place D) h (kept d place D jobs_refusal 0 r e) sheets lengths codes };
         }
 
-  module _ (place : ℕ) (free : freePlaceIn (queueIn (part .queue)) ≡ some place) where
-    free-in : (d : Held) (p : ℕ) → PartIs d p part → freePlaceIn (queueIn (d .queue)) ≡ some place
-    free-in d p D = subst (λ (p : Part). freePlaceIn (queueIn (p .queue)) ≡ some place) (D .is) free
+  module _ (place : ℕ) (free : free_place_in (queue_in part.queue) ≡ some place) where
+    free_in : (d : Held) (p : ℕ) → PartIs d p part → free_place_in (queue_in d.queue) ≡ some place
+    free_in d p D = subst (λ (p : Part). free_place_in (queue_in p.queue) ≡ some place) D.is free
 
     -- the sheet was read: refused, or accepted
     module _ (sheets : List ℕ) (size code : ℕ) (words boards written : List ℕ) (v : Expanded) (R : ReadsSheet sheets size place words boards written v) (exit : List ℕ) (r : Entry) where
-      pub read-refused : (number line : ℕ) → v ≡ expanded.Refused number line → code < channels → jobWordsLeast ≤ length words → part .given < jobNumbers → size ≤ textMost
-          → (bits : ℕ) → PlacesOf (queueIn (part .queue)) bits → ClearedBut bits written exit → r ≡ refusedBy number line part → ReadsIn part sheets size place code words exit r
-      read-refused number line i known w g few bits B C e =
+      pub read_refused : (number line : ℕ) → v ≡ expanded.Refused number line → code < channels → job_words_least ≤ length words → part.given < job_numbers → size ≤ text_most
+          → (bits : ℕ) → PlacesOf (queue_in part.queue) bits → ClearedBut bits written exit → r ≡ refused_by number line part → ReadsIn part sheets size place code words exit r
+      read_refused number line i known w g few bits B C e =
           record {
-            serves = λ lengths codes isSize isCode.
+            serves = λ lengths codes is_size is_code.
                 record {
                   serves = λ d D.
-                      admit-read-refused d place (free-in d place D) sheets size code words boards written v R number line exit (enteredBy d place r) i known w
-                      (subst (λ (p : Part). p .given < jobNumbers) (D .is) g) few
-                      (subst (λ (p : Part). FreeCleared (queueIn (p .queue)) written exit) (D .is) (C .cleared (queueIn (part .queue)) B))
-                      (kept d place D number line r e) lengths codes isSize isCode;
+                      admit_read_refused d place (free_in d place D) sheets size code words boards written v R number line exit (entered_by d place r) i known w
+                      (subst (λ (p : Part). p.given < job_numbers) D.is g) few
+                      (subst (λ (p : Part). FreeCleared (queue_in p.queue) written exit) D.is (C.cleared (queue_in part.queue) B))
+                      (kept d place D number line r e) lengths codes is_size is_code;
                 };
           }
 
-      pub read-accepted : (count : ℕ) → v ≡ expanded.Messages count → jobWordsLeast ≤ length words → size ≤ textMost → HoldsNew part place code count boards written exit r
+      pub read_accepted : (count : ℕ) → v ≡ expanded.Messages count → job_words_least ≤ length words → size ≤ text_most → HoldsNew part place code count boards written exit r
           → ReadsIn part sheets size place code words exit r
-      unfolding lengthAt sheetAt
-      read-accepted count i w few N =
+      unfolding length_at sheet_at
+      read_accepted count i w few N =
           record {
-            serves = λ lengths codes isSize isCode.
-                N .serves sheets lengths codes words w isCode (rw (sym isSize) few)
-                (ap (λ k. sheetOf (sheetIn sheets k place)) (sym isSize) ∙ sheet-is (sheetIn sheets size place) boards (placeWords place written) v (R .sheet) count i)
-                (sheet-fits (sheetIn sheets size place) boards (placeWords place written) v (R .sheet) count i) (R .put);
+            serves = λ lengths codes is_size is_code.
+                N.serves sheets lengths codes words w is_code (rw (sym is_size) few)
+                (ap (λ k. sheet_of (sheet_in sheets k place)) (sym is_size) ∙ sheet_is (sheet_in sheets size place) boards (place_words place written) v R.sheet count i)
+                (sheet_fits (sheet_in sheets size place) boards (place_words place written) v R.sheet count i) R.put;
           }
 
     -- an accepted job is held
-    pub hold-serves : (code count : ℕ) (boards written exit : List ℕ) → code < channels → part .given < jobNumbers → (longer : Queue)
-        → queueIn longer ≡ queueIn (part .queue) ++ (record { number = part .given; place = place; code = code; count = count; turns = 0 } ∷ [])
-        → (bits : ℕ) → PlacesOf (queueIn longer) bits → ClearedBut bits written exit
-        → HoldsNew part place code count boards written exit (record { word = admittedWord; one = part .given; two = place; queue = longer; given = part .given + 1; race = unsought; boards = record { on = boards } })
-    hold-serves code count boards written exit known left longer isLonger bits B C =
+    pub hold_serves : (code count : ℕ) (boards written exit : List ℕ) → code < channels → part.given < job_numbers → (longer : Queue)
+        → queue_in longer ≡ queue_in part.queue ++ (record { number = part.given; place = place; code = code; count = count; turns = 0 } ∷ [])
+        → (bits : ℕ) → PlacesOf (queue_in longer) bits → ClearedBut bits written exit
+        → HoldsNew part place code count boards written exit (record { word = admitted_word; one = part.given; two = place; queue = longer; given = part.given + 1; race = unsought; boards = record { on = boards } })
+    hold_serves code count boards written exit known left longer is_longer bits B C =
         record {
-          serves = λ sheets lengths codes words enough isCode few isSheet fit P.
+          serves = λ sheets lengths codes words enough is_code few is_sheet fit P.
               record {
                 serves = λ d D.
-                    admitted-serves d place code count boards written exit (free-in d place D) known (subst (λ (p : Part). p .given < jobNumbers) (D .is) left) (D .races) (D .boards) longer
-                    (subst (λ (p : Part). queueIn longer ≡ queueIn (p .queue) ++ (record { number = p .given; place = place; code = code; count = count; turns = 0 } ∷ [])) (D .is) isLonger)
-                    (C .cleared (queueIn longer) B) sheets lengths codes words enough isCode few isSheet fit P _
-                    (ap (λ (p : Part). toldWith admittedWord (p .given) place (record { queue = longer; given = p .given + 1; races = set (d .races) place unsought; boards = set (d .boards) place (record { on = boards }) })) (D .is));
+                    admitted_serves d place code count boards written exit (free_in d place D) known (subst (λ (p : Part). p.given < job_numbers) D.is left) D.races D.boards longer
+                    (subst (λ (p : Part). queue_in longer ≡ queue_in p.queue ++ (record { number = p.given; place = place; code = code; count = count; turns = 0 } ∷ [])) D.is is_longer)
+                    (C.cleared (queue_in longer) B) sheets lengths codes words enough is_code few is_sheet fit P _
+                    (ap (λ (p : Part). told_with admitted_word p.given place (record { queue = longer; given = p.given + 1; races = set d.races place unsought; boards = set d.boards place (record { on = boards }) })) D.is);
               };
         }
 
-  pub enter-full : (spare : ℕ) (sheets lengths codes words : List ℕ) (r : Entry) → FullOf part words r → AdmitIn part spare sheets lengths codes words words r
-  enter-full spare sheets lengths codes words r F = F .serves spare sheets lengths codes
+  pub enter_full : (spare : ℕ) (sheets lengths codes words : List ℕ) (r : Entry) → FullOf part words r → AdmitIn part spare sheets lengths codes words words r
+  enter_full spare sheets lengths codes words r F = F.serves spare sheets lengths codes
 
   -- the place taken out is the lowest free one
-  module _ (spare : ℕ) (S : SparePlace (queueIn (part .queue)) spare) (sheets lengths codes words : List ℕ) (r : Entry) where
-    module _ (v : Place) (place : ℕ) (found : placeIn v ≡ freePlaceIn (queueIn (part .queue))) (i : v ≡ places.At place) (code : ℕ) (isCode : code ≡ getD codes place channels) where
-      free-at : freePlaceIn (queueIn (part .queue)) ≡ some place
-      free-at = at-place (queueIn (part .queue)) v place found i
+  module _ (spare : ℕ) (S : SparePlace (queue_in part.queue) spare) (sheets lengths codes words : List ℕ) (r : Entry) where
+    module _ (v : Place) (place : ℕ) (found : place_in v ≡ free_place_in (queue_in part.queue)) (i : v ≡ places.At place) (code : ℕ) (is_code : code ≡ get_or codes place channels) where
+      free_at : free_place_in (queue_in part.queue) ≡ some place
+      free_at = at_place (queue_in part.queue) v place found i
 
-      pub enter-unknown : channels ≤ code → r ≡ refusedBy channelRefusal 0 part → AdmitIn part spare sheets lengths codes words words r
-      enter-unknown h e =
+      pub enter_unknown : channels ≤ code → r ≡ refused_by channel_refusal 0 part → AdmitIn part spare sheets lengths codes words words r
+      enter_unknown h e =
           record {
-            serves = λ d D. admit-unknown d place (free-in place free-at d spare D) sheets lengths codes words code isCode (enteredBy d spare r) h (kept d spare D channelRefusal 0 r e);
+            serves = λ d D. admit_unknown d place (free_in place free_at d spare D) sheets lengths codes words code is_code (entered_by d spare r) h (kept d spare D channel_refusal 0 r e);
           }
 
       module _ (known : code < channels) where
-        pub enter-short : length words < jobWordsLeast → r ≡ refusedBy benchRefusal 0 part → AdmitIn part spare sheets lengths codes words words r
-        enter-short h e =
+        pub enter_short : length words < job_words_least → r ≡ refused_by bench_refusal 0 part → AdmitIn part spare sheets lengths codes words words r
+        enter_short h e =
             record {
-              serves = λ d D. admit-short d place (free-in place free-at d spare D) sheets lengths codes words code isCode (enteredBy d spare r) known h (kept d spare D benchRefusal 0 r e);
+              serves = λ d D. admit_short d place (free_in place free_at d spare D) sheets lengths codes words code is_code (entered_by d spare r) known h (kept d spare D bench_refusal 0 r e);
             }
 
-        module _ (w : jobWordsLeast ≤ length words) (bits : ℕ) (exit : List ℕ) (B : PlacesOf (queueIn (part .queue)) bits) (C : ClearedBut bits words exit) where
-          free-cleared : (d : Held) → PartIs d spare part → FreeCleared (queueIn (d .queue)) words exit
-          free-cleared d D = subst (λ (p : Part). FreeCleared (queueIn (p .queue)) words exit) (D .is) (C .cleared (queueIn (part .queue)) B)
+        module _ (w : job_words_least ≤ length words) (bits : ℕ) (exit : List ℕ) (B : PlacesOf (queue_in part.queue) bits) (C : ClearedBut bits words exit) where
+          free_cleared : (d : Held) → PartIs d spare part → FreeCleared (queue_in d.queue) words exit
+          free_cleared d D = subst (λ (p : Part). FreeCleared (queue_in p.queue) words exit) D.is (C.cleared (queue_in part.queue) B)
 
-          pub enter-numbers : jobNumbers ≤ part .given → r ≡ refusedBy jobsRefusal 0 part → AdmitIn part spare sheets lengths codes words exit r
-          enter-numbers h e =
+          pub enter_numbers : job_numbers ≤ part.given → r ≡ refused_by jobs_refusal 0 part → AdmitIn part spare sheets lengths codes words exit r
+          enter_numbers h e =
               record {
                 serves = λ d D.
-                    admit-numbers d place (free-in place free-at d spare D) sheets lengths codes words code isCode (enteredBy d spare r) known w exit
-                    (subst (λ (p : Part). jobNumbers ≤ p .given) (D .is) h) (free-cleared d D) (kept d spare D jobsRefusal 0 r e);
+                    admit_numbers d place (free_in place free_at d spare D) sheets lengths codes words code is_code (entered_by d spare r) known w exit
+                    (subst (λ (p : Part). job_numbers ≤ p.given) D.is h) (free_cleared d D) (kept d spare D jobs_refusal 0 r e);
               }
 
-          pub enter-long : (size : ℕ) → size ≡ getD lengths place 0 → part .given < jobNumbers → textMost < size → r ≡ refusedBy lengthRefusal 0 part
+          pub enter_long : (size : ℕ) → size ≡ get_or lengths place 0 → part.given < job_numbers → text_most < size → r ≡ refused_by length_refusal 0 part
               → AdmitIn part spare sheets lengths codes words exit r
-          enter-long size isSize g h e =
+          enter_long size is_size g h e =
               record {
                 serves = λ d D.
-                    admit-long d place (free-in place free-at d spare D) sheets lengths codes words code isCode (enteredBy d spare r) known w exit size isSize
-                    (subst (λ (p : Part). p .given < jobNumbers) (D .is) g) h (free-cleared d D) (kept d spare D lengthRefusal 0 r e);
+                    admit_long d place (free_in place free_at d spare D) sheets lengths codes words code is_code (entered_by d spare r) known w exit size is_size
+                    (subst (λ (p : Part). p.given < job_numbers) D.is g) h (free_cleared d D) (kept d spare D length_refusal 0 r e);
               }
 
-      pub enter-read : (exit : List ℕ) (size : ℕ) → size ≡ getD lengths place 0 → ReadsIn part sheets size place code words exit r → AdmitIn part spare sheets lengths codes words exit r
-      enter-read exit size isSize N = subst⁻¹ (λ (p : ℕ). AdmitIn part p sheets lengths codes words exit r) (S .lowest place free-at) (N .serves lengths codes isSize isCode)
+      pub enter_read : (exit : List ℕ) (size : ℕ) → size ≡ get_or lengths place 0 → ReadsIn part sheets size place code words exit r → AdmitIn part spare sheets lengths codes words exit r
+      enter_read exit size is_size N = subst⁻¹ (λ (p : ℕ). AdmitIn part p sheets lengths codes words exit r) (S.lowest place free_at) (N.serves lengths codes is_size is_code)

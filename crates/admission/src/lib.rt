@@ -1,22 +1,22 @@
 // A job's admission: the sheet lent in the lowest free place is read into the words there, and the job goes behind the last.
-ghost use mathlib.Core.Path.{_≡_};
-ghost use mathlib.Core.Option.{none, some};
-ghost use Prim.Native.Nat.{_^_, _<_, _≤_};
-ghost use lib.ListN.{length};
-ghost use Rattle·model.specs.Limits.{channels, messagesMost, textMost, jobsMost, jobNumbers, jobWordsLeast};
-ghost use Rattle·queue.specs.Bridge.{queueIn, freePlaceIn};
-ghost use Rattle·taken_places.specs.Places.{SparePlace};
-ghost use Rattle·admission·specs.specs.Admission.{refusedBy, FullOf, HoldsNew, ReadsIn, AdmitIn};
-use answer_words::served::ADMITTED;
-use answer_words::served::REFUSED;
+#![tactic(auto)]
+
+ghost use Rattle.std.specs.Prelude.{◌≡◌, ◌^◌, ◌<◌, ◌≤◌, length};
+ghost use Rattle.std.proofs.Math.Option.{none, some};
+ghost use Rattle.model.specs.Limits.{channels, messages_most, text_most, jobs_most, job_numbers, job_words_least};
+ghost use Rattle.queue.specs.Bridge.{queue_in, free_place_in};
+ghost use Rattle.taken_places.specs.Places.{SparePlace};
+ghost use Rattle.admission.specs.Admission.{refused_by, FullOf, HoldsNew, ReadsIn, AdmitIn};
+
+use answer_words::served::{ADMITTED, REFUSED};
 use expansion::Expanded;
 use held_jobs::Boards;
-use queue::Job;
-use queue::Queue;
+use queue::{Job, Queue};
 use share::Race;
 use taken_places::Place;
 
 // What an admission may change: the queue, how many numbers were given out, and what stands in the new job's place.
+#[derive(Clone, Copy)]
 pub struct Part {
     pub queue: Queue,
     pub given: u32,
@@ -25,6 +25,7 @@ pub struct Part {
 }
 
 // What an admission leaves of it, with its word and numbers.
+#[derive(Clone, Copy)]
 pub struct Entry {
     pub word: u32,
     pub one: u32,
@@ -37,8 +38,8 @@ pub struct Entry {
 
 // An admission refused, with number and line: what it may change is as it was.
 fn refused(part: Part, number: u8, line: usize) -> Entry
-    requires { ⌜ line < 2 ^ 32 ⌝ }
-    ensures { λ r. ⌜ r ≡ refusedBy number line part ⌝ }
+    requires { line < 2 ^ 32 }
+    ensures { result ≡ refused_by number line part }
 {
     let queue = part.queue;
     let race = part.race;
@@ -56,8 +57,8 @@ fn refused(part: Part, number: u8, line: usize) -> Entry
 
 // An admission with no place free: there is no new sheet and no code to judge.
 fn full(part: Part, words: &[u64]) -> Entry
-    requires { ⌜ freePlaceIn (queueIn (part .queue)) ≡ none ⌝ }
-    ensures { λ r. ⌜ FullOf part (now (words .entry)) r ⌝ }
+    requires { free_place_in (queue_in part.queue) ≡ none }
+    ensures { FullOf part words.now result }
 {
     if words.len() < model::JOB_WORDS_LEAST {
         return refused(part, model::BENCH, 0);
@@ -74,10 +75,10 @@ fn hold(
     boards: Boards,
     words: &mut [u64],
 ) -> Entry
-    requires { ⌜ freePlaceIn (queueIn (part .queue)) ≡ some place ⌝ }
-    requires { ⌜ (place < jobsMost) × (code < channels) × (count ≤ messagesMost) × (part .given < jobNumbers) ⌝ }
-    requires { ⌜ jobWordsLeast ≤ length (now words) ⌝ }
-    ensures { λ r. ⌜ HoldsNew part place code count (boards .on) (now (words .entry)) (now (words .exit)) r ⌝ }
+    requires queue_value { free_place_in (queue_in part.queue) ≡ some place }
+    requires place_lt_jobs_most { (place < jobs_most) × (code < channels) × (count ≤ messages_most) × (part.given < job_numbers) }
+    requires job_words_least_in_bounds { job_words_least ≤ length words.old }
+    ensures { HoldsNew part place code count boards.on words.old words.new result }
 {
     let queue = part.queue;
     let job = Job {
@@ -115,10 +116,10 @@ fn read(
     code: usize,
     words: &mut [u64],
 ) -> Entry
-    requires { ⌜ freePlaceIn (queueIn (part .queue)) ≡ some place ⌝ }
-    requires { ⌜ (place < jobsMost) × (code < channels) × (size ≤ textMost) × (part .given < jobNumbers) ⌝ }
-    requires { ⌜ jobWordsLeast ≤ length (now words) ⌝ }
-    ensures { λ r. ⌜ ReadsIn part (now (sheets .entry)) size place code (now (words .entry)) (now (words .exit)) r ⌝ }
+    requires queue_value { free_place_in (queue_in part.queue) ≡ some place }
+    requires place_lt_jobs_most { (place < jobs_most) × (code < channels) × (size ≤ text_most) × (part.given < job_numbers) }
+    requires job_words_least_in_bounds { job_words_least ≤ length words.old }
+    ensures { ReadsIn part sheets.now size place code words.old words.new result }
 {
     let mut boards = Boards {
         on: [0; model::EVENTS_MOST],
@@ -144,8 +145,8 @@ pub fn admit_into(
     codes: &[u32],
     words: &mut [u64],
 ) -> Entry
-    requires { ⌜ SparePlace (queueIn (part .queue)) spare ⌝ }
-    ensures { λ r. ⌜ AdmitIn part spare (now (sheets .entry)) (now (lengths .entry)) (now (codes .entry)) (now (words .entry)) (now (words .exit)) r ⌝ }
+    requires { SparePlace (queue_in part.queue) spare }
+    ensures { AdmitIn part spare sheets.now lengths.now codes.now words.old words.new result }
 {
     let queue = part.queue;
     let found = taken_places::free_place(queue);

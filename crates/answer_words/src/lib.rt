@@ -1,5 +1,6 @@
 // The words of the calls' answers and the kinds of steps, as C is told them. Each is the number of the same name in the model, and a proof that
 // uses one ties the two together.
+#![tactic(auto)]
 
 // The check, with choices and with permitted senders too (specs/Answer).
 pub mod checked {

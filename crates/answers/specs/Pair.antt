@@ -1,5 +1,5 @@
 -- Two numbers behind a word, as C gets them. Assumes nothing.
-use Prim.Native.Nat.{ℕ, _^_, _<_}
+use Rattle.std.specs.Prelude.{ℕ, ◌^◌, ◌<◌}
 
 -- both fit 32 bits
 pub record SmallPair (first second : ℕ) : Type 0 where

@@ -1,14 +1,14 @@
 // The answer of the check as C gets it.
-ghost use mathlib.Core.Path.{_≡_};
-ghost use Rattle·verdict.specs.Parts.{numbersFor};
-ghost use Rattle·answers·specs.specs.Numbers.{Small, numbersIn};
-use answer_words::checked::FREE;
-use answer_words::checked::LOCKED;
-use answer_words::checked::REFUSED;
+ghost use Rattle.std.specs.Prelude.{◌≡◌};
+ghost use Rattle.verdict.specs.Parts.{numbers_for};
+ghost use Rattle.answers.specs.Numbers.{Small, numbers_in};
+
+use answer_words::checked::{FREE, LOCKED, REFUSED};
 use verdict::Answer;
 
 // word 0 free, 1 locked (one is the message, two the event, three the number of steps), 2 refused (one is the number, two the line).
 #[repr(C)]
+#[derive(Clone, Copy)]
 pub struct ChannelCheckAnswer {
     pub word: u32,
     pub one: u32,
@@ -18,8 +18,8 @@ pub struct ChannelCheckAnswer {
 
 // The answer's numbers. Each fits 32 bits.
 pub fn checked(answer: Answer) -> ChannelCheckAnswer
-    requires { ⌜ Small (numbersFor answer) ⌝ }
-    ensures { λ r. ⌜ numbersIn r ≡ numbersFor answer ⌝ }
+    requires { Small (numbers_for answer) }
+    ensures { numbers_in result ≡ numbers_for answer }
 {
     match answer {
         Answer::Free => ChannelCheckAnswer {

@@ -1,13 +1,14 @@
 // The cure's answer as C gets it.
-ghost use mathlib.Core.Path.{_≡_};
-ghost use Rattle·cure.specs.Parts.{numbersFor};
-ghost use Rattle·answers·specs.specs.Cures.{Small, numbersIn};
-use answer_words::cured::REFUSED;
-use answer_words::cured::WRITTEN;
+ghost use Rattle.std.specs.Prelude.{◌≡◌};
+ghost use Rattle.cure.specs.Parts.{numbers_for};
+ghost use Rattle.answers.specs.Cures.{Small, numbers_in};
+
+use answer_words::cured::{REFUSED, WRITTEN};
 use cure::Answer;
 
 // word 0 written (one is the text's length), 1 refused (one is the number, two the line).
 #[repr(C)]
+#[derive(Clone, Copy)]
 pub struct CureSheetAnswer {
     pub word: u32,
     pub one: u32,
@@ -16,8 +17,8 @@ pub struct CureSheetAnswer {
 
 // The answer's numbers. Each fits 32 bits.
 pub fn cured(answer: Answer) -> CureSheetAnswer
-    requires { ⌜ Small (numbersFor answer) ⌝ }
-    ensures { λ r. ⌜ numbersIn r ≡ numbersFor answer ⌝ }
+    requires { Small (numbers_for answer) }
+    ensures { numbers_in result ≡ numbers_for answer }
 {
     match answer {
         Answer::Written(length) => CureSheetAnswer {

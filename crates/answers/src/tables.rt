@@ -1,17 +1,16 @@
 // The judgement of a table of permitted senders as C gets it.
-ghost use mathlib.Core.Path.{_≡_};
-ghost use Rattle·senders.specs.Judgement.{numbersFor};
-ghost use Rattle·answers·specs.specs.Numbers.{Small};
-ghost use Rattle·answers·specs.specs.Tables.{numbersIn};
-use answer_words::judged::CLASH;
-use answer_words::judged::GAP;
-use answer_words::judged::REFUSED;
-use answer_words::judged::SOUND;
+ghost use Rattle.std.specs.Prelude.{◌≡◌};
+ghost use Rattle.senders.specs.Judgement.{numbers_for};
+ghost use Rattle.answers.specs.Numbers.{Small};
+ghost use Rattle.answers.specs.Tables.{numbers_in};
+
+use answer_words::judged::{CLASH, GAP, REFUSED, SOUND};
 use senders::Judgement;
 
 // word 0 sound, 1 gap (one is the pair), 2 clash (one is the pair, two and three the lines of its first two rules), 3 refused (one is the
 // number, two the line).
 #[repr(C)]
+#[derive(Clone, Copy)]
 pub struct SendersCheckAnswer {
     pub word: u32,
     pub one: u32,
@@ -21,8 +20,8 @@ pub struct SendersCheckAnswer {
 
 // The judgement's numbers. Each fits 32 bits.
 pub fn judged(judgement: Judgement) -> SendersCheckAnswer
-    requires { ⌜ Small (numbersFor judgement) ⌝ }
-    ensures { λ r. ⌜ numbersIn r ≡ numbersFor judgement ⌝ }
+    requires { Small (numbers_for judgement) }
+    ensures { numbers_in result ≡ numbers_for judgement }
 {
     match judgement {
         Judgement::Sound => SendersCheckAnswer {

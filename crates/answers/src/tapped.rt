@@ -1,14 +1,14 @@
 // The answer on two taps as C gets it.
-ghost use mathlib.Core.Path.{_≡_};
-ghost use Rattle·taps.specs.Parts.{numbersFor};
-ghost use Rattle·answers·specs.specs.Tapped.{Small, numbersIn};
-use answer_words::fitted::CLASH;
-use answer_words::fitted::FIT;
-use answer_words::fitted::REFUSED;
+ghost use Rattle.std.specs.Prelude.{◌≡◌};
+ghost use Rattle.taps.specs.Parts.{numbers_for};
+ghost use Rattle.answers.specs.Tapped.{Small, numbers_in};
+
+use answer_words::fitted::{CLASH, FIT, REFUSED};
 use taps::Answer;
 
 // word 0 fit (one is how many events are written), 1 clash (one is the event), 2 refused (one is the number, two the line).
 #[repr(C)]
+#[derive(Clone, Copy)]
 pub struct TapsCheckAnswer {
     pub word: u32,
     pub one: u32,
@@ -17,8 +17,8 @@ pub struct TapsCheckAnswer {
 
 // The answer's numbers. Each fits 32 bits.
 pub fn fitted(answer: Answer) -> TapsCheckAnswer
-    requires { ⌜ Small (numbersFor answer) ⌝ }
-    ensures { λ r. ⌜ numbersIn r ≡ numbersFor answer ⌝ }
+    requires { Small (numbers_for answer) }
+    ensures { numbers_in result ≡ numbers_for answer }
 {
     match answer {
         Answer::Fit(events) => TapsCheckAnswer {

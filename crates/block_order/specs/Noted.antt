@@ -1,16 +1,12 @@
 -- What a row does to the words of the open block's order, list by list.
 -- Assumes nothing.
-use Prim.Native.Nat.{ℕ, _+_, _*_, _<_}
-use mathlib.Core.Path.{_≡_}
-use mathlib.Core.Bool.{Bool, false, cond}
-use mathlib.Core.List.{List}
-use lib.ListN.{length, replicate}
-use Rattle·model.specs.Limits.{messagesMost}
-use Rattle·model.specs.Rows.{Row, sheet, message, order, block, call, choice}
-use Rattle·relation.specs.Width.{width}
-use Rattle·relation.specs.Rows.{holds, marked}
-use Rattle·joined_rows.specs.Joins.{copiedFrom}
-use Rattle·closure.specs.Insertion.{inserted}
+use Rattle.std.specs.Prelude.{ℕ, ◌+◌, ◌*◌, ◌<◌, ◌≡◌, Bool, false, cond, List, length, replicate}
+use Rattle.model.specs.Limits.{messages_most}
+use Rattle.model.specs.Rows.{Row, sheet, message, order, block, call, choice}
+use Rattle.relation.specs.Width.{width}
+use Rattle.relation.specs.Rows.{holds, marked}
+use Rattle.joined_rows.specs.Joins.{copied_from}
+use Rattle.closure.specs.Insertion.{inserted}
 
 -- a row of no events
 abbrev pub nothing : ℕ → List ℕ
@@ -19,7 +15,7 @@ nothing W = replicate W 0
 -- message m's two rows, made anew: the send is behind nothing, and the receive behind the send alone
 unfoldable pub begun : ℕ → List ℕ → ℕ → List ℕ
 begun W words m =
-    marked W (copiedFrom W (copiedFrom W words (2 * m) (nothing W) 0) (2 * m + 1) (nothing W) 0) (2 * m + 1) (2 * m)
+    marked W (copied_from W (copied_from W words (2 * m) (nothing W) 0) (2 * m + 1) (nothing W) 0) (2 * m + 1) (2 * m)
 
 -- the words behind a row, in a block of m messages
 unfoldable pub noted : List ℕ → ℕ → Row → List ℕ
@@ -42,7 +38,7 @@ circles words (choice m n) = false
 -- a row's message has room in a block of m messages; its events are among theirs
 abbrev pub Within : ℕ → Row → Type 0
 Within m (sheet n) = Unit {0}
-Within m (message a b) = m < messagesMost
+Within m (message a b) = m < messages_most
 Within m (order x y) = (x < 2 * m) × (y < 2 * m)
 Within m block = Unit {0}
 Within m (call n) = Unit {0}

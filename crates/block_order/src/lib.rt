@@ -1,18 +1,18 @@
 // The order of the open block, kept closed in words as its rows are read: refusal 11 is judged by it.
-ghost use mathlib.Core.Path.{_≡_};
-ghost use Prim.Native.Nat.{_*_, _<_, _≤_};
-ghost use lib.ListN.{length};
-ghost use Rattle·model.specs.Limits.{messagesMost};
-ghost use Rattle·model.specs.Rows.{order};
-ghost use Rattle·relation.specs.Width.{width};
-ghost use Rattle·place.specs.Letters.{rowFrom};
-ghost use Rattle·block_order·specs.specs.Noted.{begun, Within, NotedAs};
+#![tactic(auto)]
+
+ghost use Rattle.std.specs.Prelude.{◌≡◌, ◌*◌, ◌<◌, ◌≤◌, length};
+ghost use Rattle.model.specs.Limits.{messages_most};
+ghost use Rattle.model.specs.Rows.{order};
+ghost use Rattle.relation.specs.Width.{width};
+ghost use Rattle.place.specs.Letters.{row_from};
+ghost use Rattle.block_order.specs.Noted.{begun, Within, NotedAs};
 
 // Message m of the block is read: its send is put before its receive. Both rows are made anew, so that nothing of an earlier block is
 // left in them, and the words may be lent with any content.
 fn add_message(words: &mut [u64], m: usize)
-    requires { ⌜ (length (now words) ≡ 2 * messagesMost * width) × (m < messagesMost) ⌝ }
-    ensures { λ _. ⌜ now (words .exit) ≡ begun width (now (words .entry)) m ⌝ }
+    requires { (length words.old ≡ 2 * messages_most * width) × (m < messages_most) }
+    ensures { words.new ≡ begun width words.old m }
 {
     let nothing = [0u64; relation::WIDTH];
     let send = 2 * m;
@@ -24,8 +24,8 @@ fn add_message(words: &mut [u64], m: usize)
 
 // `P x y`, in a block of so many messages: where y is before x, the row would put x before itself; else x is put before y.
 fn add_order(words: &mut [u64], messages: usize, x: u16, y: u16) -> bool
-    requires { ⌜ (length (now words) ≡ 2 * messagesMost * width) × (messages ≤ messagesMost) × (x < 2 * messages) × (y < 2 * messages) ⌝ }
-    ensures { λ r. ⌜ NotedAs (now (words .entry)) messages (order x y) (now (words .exit)) r ⌝ }
+    requires { (length words.old ≡ 2 * messages_most * width) × (messages ≤ messages_most) × (x < 2 * messages) × (y < 2 * messages) }
+    ensures { NotedAs words.old messages (order x y) words.new result }
 {
     let first = x as usize;
     let second = y as usize;
@@ -38,8 +38,8 @@ fn add_order(words: &mut [u64], messages: usize, x: u16, y: u16) -> bool
 
 // A row that has its place, in a block of so many messages: whether it puts an event before itself; and the order behind it.
 pub fn note(kind: u8, one: u16, two: u16, messages: usize, words: &mut [u64]) -> bool
-    requires { ⌜ (length (now words) ≡ 2 * messagesMost * width) × (messages ≤ messagesMost) × Within messages (rowFrom kind one two) ⌝ }
-    ensures { λ r. ⌜ NotedAs (now (words .entry)) messages (rowFrom kind one two) (now (words .exit)) r ⌝ }
+    requires { (length words.old ≡ 2 * messages_most * width) × (messages ≤ messages_most) × Within messages (row_from kind one two) }
+    ensures { NotedAs words.old messages (row_from kind one two) words.new result }
 {
     if kind == b'M' {
         add_message(words, messages);

@@ -1,11 +1,10 @@
 // The masks of the boards, made message by message.
-ghost use mathlib.Core.Path.{_≡_};
-ghost use Prim.Native.Nat.{_*_, _<_, _≤_};
-ghost use lib.ListN.{length};
-ghost use Rattle·model.specs.Limits.{messagesMost};
-ghost use Rattle·relation.specs.Width.{width};
-ghost use Rattle·board·specs.specs.Boards.{boardsMost, BoardsBelow};
-ghost use Rattle·board·specs.specs.Masks.{maskRows, masksWith, MasksOf};
+ghost use Rattle.std.specs.Prelude.{◌≡◌, ◌*◌, ◌<◌, ◌≤◌, length};
+ghost use Rattle.model.specs.Limits.{messages_most};
+ghost use Rattle.relation.specs.Width.{width};
+ghost use Rattle.board.specs.Boards.{boards_most, BoardsBelow};
+ghost use Rattle.board.specs.Masks.{mask_rows, masks_with, MasksOf};
+
 use crate::board_of;
 use relation::WIDTH;
 
@@ -19,11 +18,11 @@ pub const SENDS: usize = 2 * model::BOARDS;
 
 // The masks with message m besides, from one board to another.
 fn mask_message(masks: &mut [u64], m: usize, source: usize, target: usize)
-    requires { ⌜ maskRows * width ≤ length (now masks) ⌝ }
-    requires { ⌜ m < messagesMost ⌝ }
-    requires { ⌜ source < boardsMost ⌝ }
-    requires { ⌜ target < boardsMost ⌝ }
-    ensures { λ _. ⌜ now (masks .exit) ≡ masksWith (now (masks .entry)) m source target ⌝ }
+    requires width_in_bounds { mask_rows * width ≤ length masks.old }
+    requires m_lt_messages_most { m < messages_most }
+    requires source_lt_boards_most { source < boards_most }
+    requires target_lt_boards_most { target < boards_most }
+    ensures { masks.new ≡ masks_with masks.old m source target }
 {
     let send = 2 * m;
     let receive = send + 1;
@@ -36,11 +35,11 @@ fn mask_message(masks: &mut [u64], m: usize, source: usize, target: usize)
 
 // The masks of `count` messages, whose events are on the boards given.
 pub fn board_masks(boards: &[u8], count: usize, masks: &mut [u64])
-    requires { ⌜ count ≤ messagesMost ⌝ }
-    requires { ⌜ 2 * count ≤ length (now boards) ⌝ }
-    requires { ⌜ maskRows * width ≤ length (now masks) ⌝ }
-    requires { ⌜ BoardsBelow count (now boards) ⌝ }
-    ensures { λ _. ⌜ MasksOf count (now (boards .entry)) (now (masks .exit)) ⌝ }
+    requires count_le_messages_most { count ≤ messages_most }
+    requires count_in_bounds { 2 * count ≤ length boards.now }
+    requires width_in_bounds { mask_rows * width ≤ length masks.old }
+    requires boards_below { BoardsBelow count boards.now }
+    ensures { MasksOf count boards.now masks.new }
 {
     relation::clear(masks, MASK_WORDS);
     for m in 0..count {

@@ -1,26 +1,26 @@
 -- A board in a set, and a pair of boards in two. Assumes nothing.
-use Prim.Native.Nat.{ℕ, _/_, _^_, _≤_, _<_}
-use native.Mathlib.Nat.{div-eq-of-lt, lt-of-lt-of-le}
-use mathlib.Core.Path.{_≡_}
-use mathlib.Core.Bool.{Bool, true, false, _&&_}
-use lib.Bits.{bitAnd, and-mask}
+use Prim.Native.Nat.{ℕ, ◌/◌, ◌^◌, ◌≤◌, ◌<◌}
+use native.Mathlib.Nat.{div-eq_of_lt, lt_of_lt_of_le}
+use mathlib.Core.Path.{◌≡◌}
+use mathlib.Core.Bool.{Bool, true, false, ◌&&◌}
+use lib.Bits.{bit_and, and_mask}
 use lib.Dec.{eqb}
-use lib.Pow.{pow-mono}
-use Rattle·model.specs.Limits.{boards}
-use Rattle·model.specs.Senders.{inSet}
+use lib.Pow.{pow_mono}
+use Rattle.model.specs.Limits.{boards}
+use Rattle.model.specs.Senders.{in_set}
 
 -- a board's bit, and no bit above the boards
-pub bit-read : (set board : ℕ) → eqb (bitAnd (set / 2 ^ board) 1) 1 ≡ inSet set board
-unfolding inSet
-bit-read set board = rw (and-mask (set / 2 ^ board) 1)
+pub bit_read : (set board : ℕ) → eqb (bit_and (set / 2 ^ board) 1) 1 ≡ in_set set board
+unfolding in_set
+bit_read set board = rw (and_mask (set / 2 ^ board) 1)
 
-pub no-board : (set board : ℕ) → boards ≤ board → set < 2 ^ boards → false ≡ inSet set board
-unfolding inSet
-no-board set board h l = rw (div-eq-of-lt (lt-of-lt-of-le l (pow-mono h)))
+pub no_board : (set board : ℕ) → boards ≤ board → set < 2 ^ boards → false ≡ in_set set board
+unfolding in_set
+no_board set board h l = rw (div-eq_of_lt (lt_of_lt_of_le l (pow_mono h)))
 
 -- the pair: both boards
-pub pair-in : (from to sender receiver : ℕ) (r r′ : Bool) → r ≡ inSet from sender → r ≡ true → r′ ≡ inSet to receiver → r′ ≡ (inSet from sender && inSet to receiver)
-pair-in from to sender receiver r r′ p h q = rw (← p, h, q)
+pub pair_in : (from to sender receiver : ℕ) (r r' : Bool) → r ≡ in_set from sender → r ≡ true → r' ≡ in_set to receiver → r' ≡ (in_set from sender && in_set to receiver)
+pair_in from to sender receiver r r' p h q = rw (← p, h, q)
 
-pub pair-out : (from to sender receiver : ℕ) (r : Bool) → r ≡ inSet from sender → r ≡ false → false ≡ (inSet from sender && inSet to receiver)
-pair-out from to sender receiver r p h = rw (← p, h)
+pub pair_out : (from to sender receiver : ℕ) (r : Bool) → r ≡ in_set from sender → r ≡ false → false ≡ (in_set from sender && in_set to receiver)
+pair_out from to sender receiver r p h = rw (← p, h)

@@ -1,16 +1,16 @@
 // What a row that calls does: whether it is a ninth A row, the sheet that it calls, and the A rows met behind it.
+#![tactic(auto)]
+
+ghost use Rattle.std.specs.Prelude.{◌≡◌, false, ◌<◌, length, get_or};
+ghost use Rattle.model.specs.Limits.{rows_most};
+ghost use Rattle.levels.specs.Options.{is_ninth, sheet_called, choices_behind};
+
 use levels::takes_second;
 use walk::Walk;
-ghost use mathlib.Core.Path.{_≡_};
-ghost use mathlib.Core.Bool.{false};
-ghost use Prim.Native.Nat.{_<_};
-ghost use lib.ListN.{length, getD};
-ghost use Rattle·model.specs.Limits.{rowsMost};
-ghost use Rattle·levels.specs.Options.{isNinth, sheetCalled, choicesBehind};
 
 // An A row behind the eighth: refusal 13.
 pub fn is_ninth(letter: u8, choices: usize) -> bool
-    ensures { λ r. ⌜ r ≡ isNinth letter choices ⌝ }
+    ensures { result ≡ is_ninth letter choices }
 {
     if letter == b'A' {
         return Walk::CHOICES_MOST <= choices;
@@ -27,9 +27,9 @@ pub fn called_sheet(
     options: usize,
     choices: usize,
 ) -> u16
-    requires { ⌜ isNinth letter choices ≡ false ⌝ }
-    requires { ⌜ (row < rowsMost) × (row < length (now one)) × (row < length (now two)) ⌝ }
-    ensures { λ r. ⌜ r ≡ sheetCalled letter (getD (now (one .entry)) row 0) (getD (now (two .entry)) row 0) options choices ⌝ }
+    requires choices_value { is_ninth letter choices ≡ false }
+    requires row_lt_rows_most { (row < rows_most) × (row < length one.now) × (row < length two.now) }
+    ensures { result ≡ sheet_called letter (get_or one.now row 0) (get_or two.now row 0) options choices }
 {
     let m = one[row];
     let n = two[row];
@@ -41,8 +41,8 @@ pub fn called_sheet(
 
 // The A rows met behind a call.
 pub fn choices_behind(letter: u8, choices: usize) -> usize
-    requires { ⌜ isNinth letter choices ≡ false ⌝ }
-    ensures { λ r. ⌜ r ≡ choicesBehind letter choices ⌝ }
+    requires { is_ninth letter choices ≡ false }
+    ensures { result ≡ choices_behind letter choices }
 {
     if letter == b'A' {
         return choices + 1;

@@ -1,10 +1,13 @@
 // Cancelling a job at the counter: the job with the number leaves the queue, and the words of its place are cleared.
-ghost use Rattle·cancellation·specs.specs.Cancelling.{LeavesIn};
-use answer_words::served::CANCELLED;
-use answer_words::served::REFUSED;
+#![tactic(auto)]
+
+ghost use Rattle.cancellation.specs.Cancelling.{LeavesIn};
+
+use answer_words::served::{CANCELLED, REFUSED};
 use queue::Queue;
 
 // What a cancellation leaves: its word and number, and the queue.
+#[derive(Clone, Copy)]
 pub struct Left {
     pub word: u32,
     pub one: u32,
@@ -13,7 +16,7 @@ pub struct Left {
 
 // A cancellation, from the queue.
 pub fn leave(queue: Queue, number: u32, words: &mut [u64]) -> Left
-    ensures { λ r. ⌜ LeavesIn queue number (now (words .entry)) (now (words .exit)) r ⌝ }
+    ensures { LeavesIn queue number words.old words.new result }
 {
     if words.len() < model::JOB_WORDS_LEAST {
         return Left {

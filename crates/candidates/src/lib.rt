@@ -1,16 +1,17 @@
 // The messages that the search of a class looks at: those whose step can be allowed at all.
-ghost use Prim.Native.Nat.{_+_, _*_, _<_, _≤_};
-ghost use lib.ListN.{length};
-ghost use Rattle·model.specs.Limits.{messagesMost};
-ghost use Rattle·relation.specs.Width.{width};
-ghost use Rattle·candidates·specs.specs.Candidates.{Exactly, isUnsent, isNeeded, isNeededDelivery, isOwn, isCandidate};
-use relation::SENDS;
-use relation::WIDTH;
+#![tactic(auto)]
+
+ghost use Rattle.std.specs.Prelude.{◌+◌, ◌*◌, ◌<◌, ◌≤◌, length};
+ghost use Rattle.model.specs.Limits.{messages_most};
+ghost use Rattle.relation.specs.Width.{width};
+ghost use Rattle.candidates.specs.Candidates.{Exactly, is_unsent, is_needed, is_needed_delivery, is_own, is_candidate};
+
+use relation::{SENDS, WIDTH};
 use step_classes::Class;
 
 // The sends that are not done.
 fn unsent(done: [u64; WIDTH]) -> [u64; WIDTH]
-    ensures { λ r. ⌜ Exactly (isUnsent done) r ⌝ }
+    ensures { Exactly (is_unsent done) result }
 {
     let mut rest = done;
     for i in 0..WIDTH {
@@ -21,8 +22,8 @@ fn unsent(done: [u64; WIDTH]) -> [u64; WIDTH]
 
 // The events of a row that are e's send or before it.
 fn needed(words: &[u64], e: usize, row: [u64; WIDTH]) -> [u64; WIDTH]
-    requires { ⌜ (e < messagesMost) × (2 * e * width + width ≤ length (now words)) ⌝ }
-    ensures { λ r. ⌜ Exactly (isNeeded (now (words .entry)) e row) r ⌝ }
+    requires { (e < messages_most) × (2 * e * width + width ≤ length words.now) }
+    ensures { Exactly (is_needed words.now e row) result }
 {
     let send = 2 * e;
     let from = send * WIDTH;
@@ -39,8 +40,8 @@ fn needed(words: &[u64], e: usize, row: [u64; WIDTH]) -> [u64; WIDTH]
 
 // Of the messages under way, those whose receive is before e's send.
 fn needed_deliveries(words: &[u64], e: usize, way: [u64; WIDTH]) -> [u64; WIDTH]
-    requires { ⌜ (e < messagesMost) × (2 * e * width + width ≤ length (now words)) ⌝ }
-    ensures { λ r. ⌜ Exactly (isNeededDelivery (now (words .entry)) e way) r ⌝ }
+    requires { (e < messages_most) × (2 * e * width + width ≤ length words.now) }
+    ensures { Exactly (is_needed_delivery words.now e way) result }
 {
     let from = 2 * e * WIDTH;
     let mut kept = way;
@@ -53,8 +54,8 @@ fn needed_deliveries(words: &[u64], e: usize, way: [u64; WIDTH]) -> [u64; WIDTH]
 
 // Message e, if it is under way.
 fn own_delivery(way: &[u64; WIDTH], e: usize) -> [u64; WIDTH]
-    requires { ⌜ e < messagesMost ⌝ }
-    ensures { λ r. ⌜ Exactly (isOwn (now (way .entry)) e) r ⌝ }
+    requires { e < messages_most }
+    ensures { Exactly (is_own way.now e) result }
 {
     let send = 2 * e;
     let mut own = [0u64; WIDTH];
@@ -73,8 +74,8 @@ pub fn candidates<'a>(
     e: usize,
     class: Class,
 ) -> [u64; WIDTH]
-    requires { ⌜ (e < messagesMost) × (2 * e * width + width ≤ length (now words)) ⌝ }
-    ensures { λ r. ⌜ Exactly (isCandidate (now (words .entry)) (now (done .entry)) (now (way .entry)) (now (held .entry)) e class) r ⌝ }
+    requires { (e < messages_most) × (2 * e * width + width ≤ length words.now) }
+    ensures { Exactly (is_candidate words.now done.now way.now held.now e class) result }
 {
     match class {
         Class::AnyConsume => *held,

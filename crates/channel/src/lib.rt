@@ -1,18 +1,18 @@
 // Whether a step is allowed: with a buffer, with the buffers in rows, and in a run.
-ghost use Prim.Native.Nat.{_<_};
-ghost use Rattle·board.specs.Masks.{Standing};
-ghost use Rattle·step.specs.Steps.{messageIn};
-ghost use Rattle·step_rules.specs.Steps.{Says};
-ghost use Rattle·channel·specs.specs.Steps.{SaysStep, SaysIn};
+#![tactic(auto)]
+
+ghost use Rattle.std.specs.Prelude.{◌<◌};
+ghost use Rattle.board.specs.Masks.{Standing};
+ghost use Rattle.step.specs.Steps.{message_in};
+ghost use Rattle.step_rules.specs.Steps.{Says};
+ghost use Rattle.channel.specs.Steps.{SaysStep, SaysIn};
+
 use buffers::HELD_WORDS;
 use channel_table::Channel;
 use relation::WIDTH;
-use run::Buffer;
-use run::Run;
-use run::board_at;
+use run::{Buffer, Run, board_at};
 use step::Step;
-use step_rules::allowed_by;
-use step_rules::held_up;
+use step_rules::{allowed_by, held_up};
 
 // A step is allowed, by the parts of a run that it reads, with the buffer of its board.
 pub fn allowed<'a>(
@@ -26,9 +26,9 @@ pub fn allowed<'a>(
     buffer: Buffer,
     step: Step,
 ) -> bool
-    requires { ⌜ Standing count (now boards) (now words) (now masks) ⌝ }
-    requires { ⌜ messageIn step < count ⌝ }
-    ensures { λ r. ⌜ SaysStep count (now (boards .entry)) (now (words .entry)) c (now (done .entry)) (now (way .entry)) buffer step r ⌝ }
+    requires standing { Standing count boards.now words.now masks.now }
+    requires step_bound { message_in step < count }
+    ensures { SaysStep count boards.now words.now c done.now way.now buffer step result }
 {
     if held_up(masks, c.eager, &buffer.held, 0, step) {
         return false;
@@ -59,9 +59,9 @@ pub fn may_step<'a>(
     rows: &'a [u64; HELD_WORDS],
     step: Step,
 ) -> bool
-    requires { ⌜ Standing count (now boards) (now words) (now masks) ⌝ }
-    requires { ⌜ messageIn step < count ⌝ }
-    ensures { λ r. ⌜ SaysIn count (now (boards .entry)) (now (words .entry)) c (now (done .entry)) (now (way .entry)) (now (rows .entry)) step r ⌝ }
+    requires standing { Standing count boards.now words.now masks.now }
+    requires step_bound { message_in step < count }
+    ensures { SaysIn count boards.now words.now c done.now way.now rows.now step result }
 {
     let board = board_at(boards, step);
     if held_up(masks, c.eager, rows, board, step) {
@@ -80,8 +80,8 @@ pub fn allowed_in(
     c: Channel,
     step: Step,
 ) -> bool
-    requires { ⌜ Standing count (now boards) (now words) (now masks) ⌝ }
-    ensures { λ r. ⌜ Says count (now (boards .entry)) (now (words .entry)) c run step r ⌝ }
+    requires { Standing count boards.now words.now masks.now }
+    ensures { Says count boards.now words.now c run step result }
 {
     let m = step.message();
     if count <= m {
@@ -90,14 +90,6 @@ pub fn allowed_in(
     let board = board_at(boards, step);
     let buffer = run.buffers[board];
     allowed(
-        words,
-        masks,
-        boards,
-        count,
-        c,
-        &run.done,
-        &run.way,
-        buffer,
-        step,
+        words, masks, boards, count, c, &run.done, &run.way, buffer, step,
     )
 }

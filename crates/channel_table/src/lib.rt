@@ -1,11 +1,13 @@
 // The channel table: one row a channel, by code.
-ghost use mathlib.Core.Path.{_≡_};
-ghost use Prim.Native.Nat.{_<_};
-ghost use Rattle·model.specs.Limits.{channels};
-ghost use Rattle·model.specs.Channel.{channelOf};
-ghost use Rattle·channel_table·specs.specs.Table.{channelIn};
+#![tactic(auto)]
+
+ghost use Rattle.std.specs.Prelude.{◌≡◌, ◌<◌};
+ghost use Rattle.model.specs.Limits.{channels};
+ghost use Rattle.model.specs.Channel.{channel_of};
+ghost use Rattle.channel_table.specs.Table.{channel_in};
 
 // To send m: no condition; no f under way with f's send before m's receive; the channel empty.
+#[derive(Clone, Copy)]
 pub enum ToSend {
     Always,
     NoEarlierUnderWay,
@@ -13,6 +15,7 @@ pub enum ToSend {
 }
 
 // To deliver m: no condition; no other f under way to that board with f's send before m's send; nothing else under way.
+#[derive(Clone, Copy)]
 pub enum ToDeliver {
     Always,
     InOrder,
@@ -20,6 +23,7 @@ pub enum ToDeliver {
 }
 
 // A row of the table. On an eager channel a board sends, or takes a delivery, only while its buffer is empty.
+#[derive(Clone, Copy)]
 pub struct Channel {
     pub eager: bool,
     pub to_send: ToSend,
@@ -62,8 +66,8 @@ const TABLE: [Channel; model::CHANNELS] = [
 
 // The channel of a code.
 pub fn channel_of(code: usize) -> Channel
-    requires { ⌜ code < channels ⌝ }
-    ensures { λ r. ⌜ channelIn r ≡ channelOf code ⌝ }
+    requires { code < channels }
+    ensures { channel_in result ≡ channel_of code }
 {
     TABLE[code]
 }

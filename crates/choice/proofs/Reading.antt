@@ -1,46 +1,46 @@
 -- What `judge` is to show, from the text's rows and what was decided over them. Assumes nothing.
 use Prim.Native.Nat.{ℕ}
 use native.Mathlib.Omega.{arith}
-use mathlib.Core.Path.{_≡_, subst⁻¹}
+use mathlib.Core.Path.{◌≡◌, subst⁻¹}
 use mathlib.Core.Bool.{true}
 use mathlib.Core.List.{List}
-use Rattle·model.specs.Refusal.{Out}
-use Rattle·model.specs.Rows.{Row}
-use Rattle·model.specs.Place.{readWith}
-use Rattle·model.specs.Choice.{listsOf, judgedOver, choiceAnswerFor}
-use Rattle·sheet.specs.Bridge.{rowsOf, ReadAs}
-use Rattle·sheet.specs.declared.Verdict.{Verdict}
-use Rattle·sheet.specs.declared.Verdict.the-variants as verdict
-use Rattle·sheet.proofs.Bridge.{refused-is, rows-are, starts-are, count-most, kind-long, one-long, two-long}
-use Rattle·expansion.specs.Lent.{RowsRead}
-use Rattle·choice_answer.specs.declared.Choice.{Choice}
-use Rattle·choice_answer.specs.declared.Choice.the-variants.{Refused}
-use Rattle·choice_verdict.specs.Judged.{Judged}
-use Rattle·choice_verdict.proofs.Deciding.{refuses}
+use Rattle.model.specs.Refusal.{Out}
+use Rattle.model.specs.Rows.{Row}
+use Rattle.model.specs.Place.{read_with}
+use Rattle.model.specs.Choice.{lists_of, judged_over, choice_answer_for}
+use Rattle.sheet.specs.Bridge.{rows_of, ReadAs}
+use Rattle.sheet.specs.declared.Verdict.{Verdict}
+use Rattle.sheet.specs.declared.Verdict.TheVariants as verdict
+use Rattle.sheet.proofs.Bridge.{refused_is, rows_are, starts_are, count_most, kind_long_holds, one_long_holds, two_long_holds}
+use Rattle.expansion.specs.Lent.{RowsRead}
+use Rattle.choice_answer.specs.declared.Choice.{Choice}
+use Rattle.choice_answer.specs.declared.Choice.TheVariants.{Refused}
+use Rattle.choice_verdict.specs.Judged.{Judged}
+use Rattle.choice_verdict.proofs.Deciding.{refuses}
 
 module _ (text kind one two start : List ℕ) (v : Verdict) (p : ReadAs true text kind one two start v) where
-  pub text-refused : (code number line : ℕ) (trace : List ℕ) → v ≡ verdict.Refused number line
-      → Judged (choiceAnswerFor (readWith true text) code) trace trace (Refused number line)
-  unfolding choiceAnswerFor
-  text-refused code number line trace i =
-      subst⁻¹ (λ (o : Out (List Row)). Judged (choiceAnswerFor o code) trace trace (Refused number line))
-      (refused-is true text kind one two start v p number line i) (refuses number line trace)
+  pub text_refused : (code number line : ℕ) (trace : List ℕ) → v ≡ verdict.Refused number line
+      → Judged (choice_answer_for (read_with true text) code) trace trace (Refused number line)
+  unfolding choice_answer_for
+  text_refused code number line trace i =
+      subst⁻¹ (λ (o : Out (List Row)). Judged (choice_answer_for o code) trace trace (Refused number line))
+      (refused_is true text kind one two start v p number line i) (refuses number line trace)
 
   module _ (count : ℕ) (i : v ≡ verdict.Rows count) where
-    pub text-rows : RowsRead kind one two count start
-    text-rows =
-        let few = count-most true text kind one two start v p count i in
+    pub text_rows : RowsRead kind one two count start
+    text_rows =
+        let few = count_most true text kind one two start v p count i in
         record {
-          read = (true, text, rows-are true text kind one two start v p count i);
-          starts = starts-are true text kind one two start v p count i;
-          kindLong = omega (arith, kind-long true text kind one two start v p count i);
-          oneLong = omega (arith, one-long true text kind one two start v p count i);
-          twoLong = omega (arith, two-long true text kind one two start v p count i);
+          read = (true, text, rows_are true text kind one two start v p count i);
+          starts = starts_are true text kind one two start v p count i;
+          kind_long = omega (arith, kind_long_holds true text kind one two start v p count i);
+          one_long = omega (arith, one_long_holds true text kind one two start v p count i);
+          two_long = omega (arith, two_long_holds true text kind one two start v p count i);
         }
 
-    pub text-judged : (code : ℕ) (trace traceExit : List ℕ) (r : Choice)
-        → Judged (judgedOver (rowsOf kind one two count) code (listsOf (rowsOf kind one two count))) trace traceExit r
-        → Judged (choiceAnswerFor (readWith true text) code) trace traceExit r
-    unfolding choiceAnswerFor
-    text-judged code trace traceExit r j =
-        subst⁻¹ (λ (o : Out (List Row)). Judged (choiceAnswerFor o code) trace traceExit r) (rows-are true text kind one two start v p count i) j
+    pub text_judged : (code : ℕ) (trace trace_exit : List ℕ) (r : Choice)
+        → Judged (judged_over (rows_of kind one two count) code (lists_of (rows_of kind one two count))) trace trace_exit r
+        → Judged (choice_answer_for (read_with true text) code) trace trace_exit r
+    unfolding choice_answer_for
+    text_judged code trace trace_exit r j =
+        subst⁻¹ (λ (o : Out (List Row)). Judged (choice_answer_for o code) trace trace_exit r) (rows_are true text kind one two start v p count i) j

@@ -1,24 +1,23 @@
 // The check of a file with choices between two subprograms: free if every choice list gives a free sheet, else the first locked list;
 // a refusal in any list comes before any lock.
-ghost use mathlib.Core.Path.{_≡_};
-ghost use mathlib.Core.Bool.{true};
-ghost use Prim.Native.Nat.{_*_, _<_, _≤_};
-ghost use lib.ListN.{length};
-ghost use Rattle·model.specs.Limits.{channels, messagesMost, traceLeast};
-ghost use Rattle·model.specs.Place.{readWith};
-ghost use Rattle·model.specs.Choice.{choiceAnswerFor, ChoiceChecked};
-ghost use Rattle·relation.specs.Width.{width};
-ghost use Rattle·choice_answer.specs.Bridge.{numbersFor, numbersIn};
-ghost use Rattle·choice_verdict.specs.Judged.{Judged};
-use choice_answer::Choice;
-use choice_answer::ChoiceCheckAnswer;
+#![tactic(auto)]
+
+ghost use Rattle.std.specs.Prelude.{◌≡◌, true, ◌*◌, ◌<◌, ◌≤◌, length};
+ghost use Rattle.model.specs.Limits.{channels, messages_most, trace_least};
+ghost use Rattle.model.specs.Place.{read_with};
+ghost use Rattle.model.specs.Choice.{choice_answer_for, ChoiceChecked};
+ghost use Rattle.relation.specs.Width.{width};
+ghost use Rattle.choice_answer.specs.Bridge.{numbers_for, numbers_in};
+ghost use Rattle.choice_verdict.specs.Judged.{Judged};
+
+use choice_answer::{Choice, ChoiceCheckAnswer};
 use sheet::Verdict;
 
 // A text: it is read once, with A rows let through.
 fn judge(text: &[u8], code: usize, words: &mut [u64], trace: &mut [u8]) -> Choice
-    requires { ⌜ length (now words) ≡ 2 * messagesMost * width ⌝ }
-    requires { ⌜ (code < channels) × (traceLeast ≤ length (now trace)) ⌝ }
-    ensures { λ r. ⌜ Judged (choiceAnswerFor (readWith true (now (text .entry))) code) (now (trace .entry)) (now (trace .exit)) r ⌝ }
+    requires words_len { length words.old ≡ 2 * messages_most * width }
+    requires code_lt_channels { (code < channels) × (trace_least ≤ length trace.old) }
+    ensures { Judged (choice_answer_for (read_with true text.now) code) trace.old trace.new result }
 {
     let mut kind = [0u8; model::ROWS_MOST];
     let mut one = [0u16; model::ROWS_MOST];
@@ -46,7 +45,7 @@ fn judge(text: &[u8], code: usize, words: &mut [u64], trace: &mut [u8]) -> Choic
 
 // The call: refusals 1 and 2 touch nothing; behind every other answer the scratch is cleared.
 fn check(text: &[u8], code: u32, scratch: &mut [u64], trace: &mut [u8]) -> Choice
-    ensures { λ r. ⌜ ChoiceChecked (now (text .entry)) code (now (scratch .entry)) (now (scratch .exit)) (now (trace .entry)) (now (trace .exit)) (numbersFor r) ⌝ }
+    ensures { ChoiceChecked text.now code scratch.old scratch.new trace.old trace.new (numbers_for result) }
 {
     let channel = code as usize;
     if model::CHANNELS <= channel {
@@ -71,7 +70,7 @@ pub fn choice_check(
     scratch: &mut [u64],
     trace: &mut [u8],
 ) -> ChoiceCheckAnswer
-    ensures { λ r. ⌜ ChoiceChecked (now (text .entry)) code (now (scratch .entry)) (now (scratch .exit)) (now (trace .entry)) (now (trace .exit)) (numbersIn r) ⌝ }
+    ensures { ChoiceChecked text.now code scratch.old scratch.new trace.old trace.new (numbers_in result) }
 {
     choice_answer::numbers(check(text, code, scratch, trace))
 }

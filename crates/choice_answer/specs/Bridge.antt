@@ -1,26 +1,26 @@
 -- The answer as the model's numbers. Assumes nothing.
-use Prim.Native.Nat.{_^_, _<_}
-use Rattle·model.specs.Answer.{freeWord, lockedWord, refusedWord}
-use Rattle·model.specs.Choice.{ChoiceNumbers}
-use Rattle·choice_answer·specs.specs.declared.Choice.{Choice}
-use Rattle·choice_answer·specs.specs.declared.Choice.the-variants.{Free, Locked, Refused}
-use Rattle·choice_answer·specs.specs.declared.ChoiceCheckAnswer.{ChoiceCheckAnswer}
+use Rattle.std.specs.Prelude.{◌^◌, ◌<◌}
+use Rattle.model.specs.Answer.{free_word, locked_word, refused_word}
+use Rattle.model.specs.Choice.{ChoiceNumbers}
+use Rattle.choice_answer.specs.declared.Choice.{Choice}
+use Rattle.choice_answer.specs.declared.Choice.TheVariants.{Free, Locked, Refused}
+use Rattle.choice_answer.specs.declared.ChoiceCheckAnswer.{ChoiceCheckAnswer}
 
 -- The word and the values of each answer: zeros for free; e, x, the step count and the list's length and number for locked; the
 -- refusal's number and its line for refused.
-abbrev pub numbersFor : Choice → ChoiceNumbers
-numbersFor Free = record { word = freeWord; one = 0; two = 0; three = 0; options = 0; choices = 0 }
-numbersFor (Locked e x steps met number) = record { word = lockedWord; one = e; two = x; three = steps; options = met; choices = number }
-numbersFor (Refused number line) = record { word = refusedWord; one = number; two = line; three = 0; options = 0; choices = 0 }
+abbrev pub numbers_for : Choice → ChoiceNumbers
+numbers_for Free = record { word = free_word; one = 0; two = 0; three = 0; options = 0; choices = 0 }
+numbers_for (Locked e x steps met number) = record { word = locked_word; one = e; two = x; three = steps; options = met; choices = number }
+numbers_for (Refused number line) = record { word = refused_word; one = number; two = line; three = 0; options = 0; choices = 0 }
 
 -- the six numbers handed to C
-abbrev pub numbersIn : ChoiceCheckAnswer → ChoiceNumbers
-numbersIn r = record { word = r .word; one = r .one; two = r .two; three = r .three; options = r .length; choices = r .choices }
+abbrev pub numbers_in : ChoiceCheckAnswer → ChoiceNumbers
+numbers_in r = record { word = r.word; one = r.one; two = r.two; three = r.three; options = r.length; choices = r.choices }
 
 -- the numbers behind the word fit 32 bits
 pub record Small (r : ChoiceNumbers) : Type 0 where
-  pub one : r .one < 2 ^ 32
-  pub two : r .two < 2 ^ 32
-  pub three : r .three < 2 ^ 32
-  pub options : r .options < 2 ^ 32
-  pub choices : r .choices < 2 ^ 32
+  pub one : r.one < 2 ^ 32
+  pub two : r.two < 2 ^ 32
+  pub three : r.three < 2 ^ 32
+  pub options : r.options < 2 ^ 32
+  pub choices : r.choices < 2 ^ 32

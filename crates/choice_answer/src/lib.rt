@@ -1,17 +1,17 @@
 // The answer of the check of a file with choices: as C gets it, and the number by which the first locked list is told.
-ghost use mathlib.Core.Path.{_≡_};
-ghost use Prim.Native.Nat.{_≤_};
-ghost use lib.ListN.{take};
-ghost use Rattle·model.specs.Limits.{choicesMost};
-ghost use Rattle·model.specs.Choice.{choicesNumber};
-ghost use Rattle·levels.specs.Options.{optionsOf};
-ghost use Rattle·choice_answer·specs.specs.Bridge.{numbersFor, numbersIn, Small};
-use answer_words::checked::FREE;
-use answer_words::checked::LOCKED;
-use answer_words::checked::REFUSED;
+#![tactic(auto)]
+
+ghost use Rattle.std.specs.Prelude.{◌≡◌, ◌≤◌, take};
+ghost use Rattle.model.specs.Limits.{choices_most};
+ghost use Rattle.model.specs.Choice.{choices_number};
+ghost use Rattle.levels.specs.Options.{options_of};
+ghost use Rattle.choice_answer.specs.Bridge.{numbers_for, numbers_in, Small};
+
+use answer_words::checked::{FREE, LOCKED, REFUSED};
 
 // Free; locked, with the race's message and event, the number of steps in the trace, and the first locked list's length and number; or
 // refused, with number and line.
+#[derive(Clone, Copy)]
 pub enum Choice {
     Free,
     Locked(usize, usize, usize, usize, usize),
@@ -21,6 +21,7 @@ pub enum Choice {
 // word 0 free, 1 locked (one is the message, two the event, three the steps; length and choices are the first locked list's), 2 refused
 // (one is the number, two the line).
 #[repr(C)]
+#[derive(Clone, Copy)]
 pub struct ChoiceCheckAnswer {
     pub word: u32,
     pub one: u32,
@@ -32,8 +33,8 @@ pub struct ChoiceCheckAnswer {
 
 // The answer's numbers. Each fits 32 bits.
 pub fn numbers(answer: Choice) -> ChoiceCheckAnswer
-    requires { ⌜ Small (numbersFor answer) ⌝ }
-    ensures { λ r. ⌜ numbersIn r ≡ numbersFor answer ⌝ }
+    requires { Small (numbers_for answer) }
+    ensures { numbers_in result ≡ numbers_for answer }
 {
     match answer {
         Choice::Free => ChoiceCheckAnswer {
@@ -69,8 +70,8 @@ pub fn numbers(answer: Choice) -> ChoiceCheckAnswer
 
 // The number of a list of so many options, with bit k set where its A row k takes n. The highest bit of the list's place is A row 0.
 pub fn choices_of(list: usize, met: usize) -> usize
-    requires { ⌜ met ≤ choicesMost ⌝ }
-    ensures { λ r. ⌜ r ≡ choicesNumber (take met (optionsOf list)) ⌝ }
+    requires { met ≤ choices_most }
+    ensures { result ≡ choices_number (take met (options_of list)) }
 {
     let mut number = 0;
     let mut k = met;

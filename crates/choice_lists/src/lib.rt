@@ -1,16 +1,17 @@
 // The way through all choice lists of a file, in their order: each is walked, and its scenario tested for a race while no lock is known.
-ghost use mathlib.Core.Path.{_≡_};
-ghost use Prim.Native.Nat.{_+_, _-_, _*_, _^_, _<_, _≤_};
-ghost use lib.ListN.{length};
-ghost use Rattle·model.specs.Limits.{channels, choicesMost, listsMost, messagesMost};
-ghost use Rattle·model.specs.Race.{lowestRace};
-ghost use Rattle·relation.specs.Width.{width};
-ghost use Rattle·relation.specs.Scenario.{scenarioIn};
-ghost use Rattle·sheet.specs.Bridge.{rowsOf};
-ghost use Rattle·at_or_before.specs.Lent.{Lent};
-ghost use Rattle·race.specs.Bridge.{ruleIn};
-ghost use Rattle·expansion.specs.Lent.{RowsRead};
-ghost use Rattle·choice_lists·specs.specs.Walked.{firstFrom, WalkedAs};
+#![tactic(auto)]
+
+ghost use Rattle.std.specs.Prelude.{◌≡◌, ◌+◌, ◌-◌, ◌*◌, ◌^◌, ◌<◌, ◌≤◌, length};
+ghost use Rattle.model.specs.Limits.{channels, choices_most, lists_most, messages_most};
+ghost use Rattle.model.specs.Race.{lowest_race};
+ghost use Rattle.relation.specs.Width.{width};
+ghost use Rattle.relation.specs.Scenario.{scenario_in};
+ghost use Rattle.sheet.specs.Bridge.{rows_of};
+ghost use Rattle.at_or_before.specs.Lent.{Lent};
+ghost use Rattle.race.specs.Bridge.{rule_in};
+ghost use Rattle.expansion.specs.Lent.{RowsRead};
+ghost use Rattle.choice_lists.specs.Walked.{first_from, WalkedAs};
+
 use expansion::Counted;
 use lowest_race::Lowest;
 use race::Rule;
@@ -20,6 +21,7 @@ pub const LISTS: usize = 1 << model::CHOICES_MOST;
 
 // All lists were walked: the last one's number, its messages, which are in boards and words, the A rows that it met, and the number of
 // the first locked list ahead of it, or LISTS. Or the refusal's number and line.
+#[derive(Clone, Copy)]
 pub enum Walked {
     Last(usize, usize, usize, usize),
     Refused(u8, usize),
@@ -27,8 +29,8 @@ pub enum Walked {
 
 // Where the list behind one of so many options begins.
 fn next_list(list: usize, met: usize) -> usize
-    requires { ⌜ (list < listsMost) × (met ≤ choicesMost) ⌝ }
-    ensures { λ r. ⌜ r ≡ list + 2 ^ (choicesMost - met) ⌝ }
+    requires { (list < lists_most) × (met ≤ choices_most) }
+    ensures { result ≡ list + 2 ^ (choices_most - met) }
 {
     let left = model::CHOICES_MOST - met;
     list + (1 << left)
@@ -43,8 +45,8 @@ fn first_locked(
     first: usize,
     list: usize,
 ) -> usize
-    requires { ⌜ Lent count (now boards) (now words) ⌝ }
-    ensures { λ r. ⌜ r ≡ firstFrom first list (lowestRace (scenarioIn count (now (boards .entry)) (now (words .entry))) (ruleIn rule)) ⌝ }
+    requires { Lent count boards.now words.now }
+    ensures { result ≡ first_from first list (lowest_race (scenario_in count boards.now words.now) (rule_in rule)) }
 {
     if first != LISTS {
         return first;
@@ -67,11 +69,11 @@ pub fn walk_lists(
     boards: &mut [u8],
     words: &mut [u64],
 ) -> Walked
-    requires { ⌜ RowsRead (now kind) (now one) (now two) count (now start) ⌝ }
-    requires { ⌜ code < channels ⌝ }
-    requires { ⌜ length (now boards) ≡ 2 * messagesMost ⌝ }
-    requires { ⌜ length (now words) ≡ 2 * messagesMost * width ⌝ }
-    ensures { λ r. ⌜ WalkedAs (rowsOf (now (kind .entry)) (now (one .entry)) (now (two .entry)) count) code (now (boards .exit)) (now (words .exit)) r ⌝ }
+    requires rows_read { RowsRead kind.now one.now two.now count start.now }
+    requires code_lt_channels { code < channels }
+    requires boards_len { length boards.old ≡ 2 * messages_most }
+    requires words_len { length words.old ≡ 2 * messages_most * width }
+    ensures { WalkedAs (rows_of kind.now one.now two.now count) code boards.new words.new result }
 {
     let rule = race::rule_of(code);
     let mut first = LISTS;

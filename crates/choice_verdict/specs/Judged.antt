@@ -1,20 +1,17 @@
 -- What the parts of the check promise each other of an answer. Assumes nothing.
-use Prim.Native.Nat.{ℕ}
-use mathlib.Core.Path.{_≡_}
-use mathlib.Core.Bool.{Bool}
-use mathlib.Core.List.{List}
-use Rattle·model.specs.Answer as model
-use Rattle·model.specs.Choice.{ChoiceAnswer, eachFree, firstLocked, firstRefused, choiceNumbers, traceChosen}
-use Rattle·choice_answer.specs.Bridge.{numbersFor}
-use Rattle·choice_answer.specs.declared.Choice.{Choice}
+use Rattle.std.specs.Prelude.{ℕ, ◌≡◌, Bool, List}
+use Rattle.model.specs.Answer as model
+use Rattle.model.specs.Choice.{ChoiceAnswer, each_free, first_locked, first_refused, choice_numbers, trace_chosen}
+use Rattle.choice_answer.specs.Bridge.{numbers_for}
+use Rattle.choice_answer.specs.declared.Choice.{Choice}
 
 -- the answer where a list decides, by the verdict on its scenario
-abbrev pub answerOn : List Bool → model.Answer → ChoiceAnswer
-answerOn l model.free = eachFree
-answerOn l (model.locked e x ts) = firstLocked l e x ts
-answerOn l (model.refused number line) = firstRefused number line
+abbrev pub answer_on : List Bool → model.Answer → ChoiceAnswer
+answer_on l model.free = each_free
+answer_on l (model.locked e x ts) = first_locked l e x ts
+answer_on l (model.refused number line) = first_refused number line
 
 -- the numbers are those of an answer, and the trace is left as it says
-pub record Judged (a : ChoiceAnswer) (trace traceExit : List ℕ) (r : Choice) : Type 0 where
-  pub answer : numbersFor r ≡ choiceNumbers a
-  pub traceLeft : traceExit ≡ traceChosen a trace
+pub record Judged (a : ChoiceAnswer) (trace trace_exit : List ℕ) (r : Choice) : Type 0 where
+  pub answer : numbers_for r ≡ choice_numbers a
+  pub trace_left : trace_exit ≡ trace_chosen a trace

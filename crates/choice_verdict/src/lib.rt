@@ -1,18 +1,19 @@
 // What the choice lists decide: free if every list's sheet is free, else the first locked list; a refusal in any list comes before any lock.
-ghost use mathlib.Core.Path.{_≡_};
-ghost use Prim.Native.Nat.{_*_, _<_, _≤_};
-ghost use lib.ListN.{length, take};
-ghost use Rattle·model.specs.Limits.{channels, choicesMost, messagesMost, traceLeast};
-ghost use Rattle·model.specs.Answer.{verdictOf};
-ghost use Rattle·model.specs.Choice.{listsOf, lockIn, judgedOver};
-ghost use Rattle·relation.specs.Width.{width};
-ghost use Rattle·relation.specs.Scenario.{scenarioIn};
-ghost use Rattle·sheet.specs.Bridge.{rowsOf};
-ghost use Rattle·levels.specs.Options.{optionsOf};
-ghost use Rattle·scenario.specs.Contract.{Fit};
-ghost use Rattle·expansion.specs.Lent.{RowsRead};
-ghost use Rattle·choice_lists.specs.Walked.{LockAt};
-ghost use Rattle·choice_verdict·specs.specs.Judged.{answerOn, Judged};
+#![tactic(auto)]
+
+ghost use Rattle.std.specs.Prelude.{◌≡◌, ◌*◌, ◌<◌, ◌≤◌, length, take};
+ghost use Rattle.model.specs.Limits.{channels, choices_most, messages_most, trace_least};
+ghost use Rattle.model.specs.Answer.{verdict_of};
+ghost use Rattle.model.specs.Choice.{lists_of, lock_in, judged_over};
+ghost use Rattle.relation.specs.Width.{width};
+ghost use Rattle.relation.specs.Scenario.{scenario_in};
+ghost use Rattle.sheet.specs.Bridge.{rows_of};
+ghost use Rattle.levels.specs.Options.{options_of};
+ghost use Rattle.scenario.specs.Contract.{Fit};
+ghost use Rattle.expansion.specs.Lent.{RowsRead};
+ghost use Rattle.choice_lists.specs.Walked.{LockAt};
+ghost use Rattle.choice_verdict.specs.Judged.{answer_on, Judged};
+
 use choice_answer::Choice;
 use choice_lists::Walked;
 use expansion::Counted;
@@ -28,9 +29,9 @@ fn decide_list(
     code: usize,
     trace: &mut [u8],
 ) -> Choice
-    requires { ⌜ Fit count (now boards) (now words) ⌝ }
-    requires { ⌜ (met ≤ choicesMost) × (code < channels) × (traceLeast ≤ length (now trace)) ⌝ }
-    ensures { λ r. ⌜ Judged (answerOn (take met (optionsOf list)) (verdictOf (scenarioIn count (now (boards .entry)) (now (words .entry))) code)) (now (trace .entry)) (now (trace .exit)) r ⌝ }
+    requires fit { Fit count boards.now words.now }
+    requires met_le_choices_most { (met ≤ choices_most) × (code < channels) × (trace_least ≤ length trace.old) }
+    ensures { Judged (answer_on (take met (options_of list)) (verdict_of (scenario_in count boards.now words.now) code)) trace.old trace.new result }
 {
     let answer = verdict::decide(words, boards, count, code, trace);
     match answer {
@@ -55,11 +56,11 @@ fn lock_list(
     words: &mut [u64],
     trace: &mut [u8],
 ) -> Choice
-    requires { ⌜ RowsRead (now kind) (now one) (now two) count (now start) ⌝ }
-    requires { ⌜ LockAt (rowsOf (now kind) (now one) (now two) count) code list ⌝ }
-    requires { ⌜ (code < channels) × (traceLeast ≤ length (now trace)) ⌝ }
-    requires { ⌜ (length (now boards) ≡ 2 * messagesMost) × (length (now words) ≡ 2 * messagesMost * width) ⌝ }
-    ensures { λ r. ⌜ Judged (lockIn (rowsOf (now (kind .entry)) (now (one .entry)) (now (two .entry)) count) code (listsOf (rowsOf (now (kind .entry)) (now (one .entry)) (now (two .entry)) count))) (now (trace .entry)) (now (trace .exit)) r ⌝ }
+    requires rows_read { RowsRead kind.now one.now two.now count start.now }
+    requires lock_at { LockAt (rows_of kind.now one.now two.now count) code list }
+    requires code_lt_channels { (code < channels) × (trace_least ≤ length trace.old) }
+    requires boards_len { (length boards.old ≡ 2 * messages_most) × (length words.old ≡ 2 * messages_most * width) }
+    ensures { Judged (lock_in (rows_of kind.now one.now two.now count) code (lists_of (rows_of kind.now one.now two.now count))) trace.old trace.new result }
 {
     let counted = expansion::expand_list(kind, one, two, count, start, list, boards, words);
     match counted {
@@ -82,10 +83,10 @@ pub fn judge_lists(
     words: &mut [u64],
     trace: &mut [u8],
 ) -> Choice
-    requires { ⌜ RowsRead (now kind) (now one) (now two) count (now start) ⌝ }
-    requires { ⌜ (code < channels) × (traceLeast ≤ length (now trace)) ⌝ }
-    requires { ⌜ (length (now boards) ≡ 2 * messagesMost) × (length (now words) ≡ 2 * messagesMost * width) ⌝ }
-    ensures { λ r. ⌜ Judged (judgedOver (rowsOf (now (kind .entry)) (now (one .entry)) (now (two .entry)) count) code (listsOf (rowsOf (now (kind .entry)) (now (one .entry)) (now (two .entry)) count))) (now (trace .entry)) (now (trace .exit)) r ⌝ }
+    requires rows_read { RowsRead kind.now one.now two.now count start.now }
+    requires code_lt_channels { (code < channels) × (trace_least ≤ length trace.old) }
+    requires boards_len { (length boards.old ≡ 2 * messages_most) × (length words.old ≡ 2 * messages_most * width) }
+    ensures { Judged (judged_over (rows_of kind.now one.now two.now count) code (lists_of (rows_of kind.now one.now two.now count))) trace.old trace.new result }
 {
     let walked = choice_lists::walk_lists(kind, one, two, count, start, code, boards, words);
     match walked {
@@ -95,16 +96,7 @@ pub fn judge_lists(
                 return decide_list(words, boards, messages, list, met, code, trace);
             }
             lock_list(
-                kind,
-                one,
-                two,
-                count,
-                start,
-                first,
-                code,
-                boards,
-                words,
-                trace,
+                kind, one, two, count, start, first, code, boards, words, trace,
             )
         }
     }

@@ -1,97 +1,97 @@
 -- An order with one pair more stays transitive, and is the least such; and `inserted` is that order.
 -- Assumes nothing.
-use mathlib.Core.Path.{_≡_, refl, sym, ap, _∙_, subst}
-use mathlib.Core.Bool.{Bool, true, false, not, _&&_, _||_, and-eq-true-iff, and-comm, and-false, or-false, true≢false}
-use mathlib.Core.Logic.{_⊎_, inl, inr, ⊎-elim}
+use mathlib.Core.Path.{◌≡◌, refl, sym, ap, ◌∙◌, subst}
+use mathlib.Core.Bool.{Bool, true, false, not, ◌&&◌, ◌||◌, and-eq-true_iff, and_comm, and-false, or-false, true≢false}
+use mathlib.Core.Logic.{◌⊎◌, inl, inr, ⊎_elim}
 use mathlib.Core.List.{List}
-use Prim.Native.Nat.{ℕ, _*_, _<_, _≤_}
+use Prim.Native.Nat.{ℕ, ◌*◌, ◌<◌, ◌≤◌}
 use native.Mathlib.Omega.{arith}
 use lib.Dec.{eqb, leb, ltb}
 use lib.ListN.{length}
-use borrow.Author.Tests.{eq-eqb, ne-eqb, eqb-true, le-leb, lt-ltb}
-use Rattle·model.proofs.Bounded.{or-cases, or-left, or-right}
-use Rattle·relation.specs.Width.{wordBits}
-use Rattle·relation.specs.Rows.{holds}
-use Rattle·relation.specs.Order.{before, Transitive}
-use Rattle·relation.proofs.Tests.{both-ways}
-use Rattle·relation.proofs.Order.{Within, Covers, linked}
-use Rattle·closure·specs.specs.Insertion.{inserted}
-use Rattle·closure·proofs.proofs.Inserted.{holds-inserted}
+use borrow.Author.Tests.{eq-eqb, ne_eqb, eqb-true, le-leb, lt-ltb}
+use Rattle.model.proofs.Bounded.{or_cases, or_left, or_right}
+use Rattle.relation.specs.Width.{word_bits}
+use Rattle.relation.specs.Rows.{holds}
+use Rattle.relation.specs.Order.{before, Transitive}
+use Rattle.relation.proofs.Tests.{both_ways}
+use Rattle.relation.proofs.Order.{Within, Covers, linked}
+use Rattle.closure.specs.Insertion.{inserted}
+use Rattle.closure.proofs.Inserted.{holds_inserted}
 
 -- what holds of z, and of b by the test r, holds of b where b is z or r is true
-same-or : (C : ℕ → Type 0) (b z : ℕ) (r : Bool) → (eqb b z || r) ≡ true → C z → (r ≡ true → C b) → C b
-same-or C b z r t same other = ⊎-elim (λ e. subst C (sym (eqb-true b z e)) same) other (or-cases (eqb b z) r t)
+same_or : (C : ℕ → Type 0) (b z : ℕ) (r : Bool) → (eqb b z || r) ≡ true → C z → (r ≡ true → C b) → C b
+same_or C b z r t same other = ⊎_elim (λ e. subst C (sym (eqb-true b z e)) same) other (or_cases (eqb b z) r t)
 
 module _ (n : ℕ) (R : ℕ → ℕ → Bool) (x y : ℕ) where
   -- all at or before x is before all at or behind y
   crossing : (a b : ℕ) → (eqb a x || R a x) ≡ true → (eqb b y || R y b) ≡ true → linked R x y a b ≡ true
-  crossing a b p q = or-right (R a b) _ (and-eq-true-iff (eqb a x || R a x) (eqb b y || R y b) .1 (p, q))
+  crossing a b p q = or_right (R a b) _ ((and-eq-true_iff (eqb a x || R a x) (eqb b y || R y b)).1 (p, q))
 
-  pub linked-holds : Within n R (linked R x y)
-  linked-holds a b ha hb t = or-left (R a b) _ t
+  pub linked_holds : Within n R (linked R x y)
+  linked_holds a b ha hb t = or_left (R a b) _ t
 
-  pub linked-pair : linked R x y x y ≡ true
-  linked-pair = crossing x y (or-left _ _ (eq-eqb x x refl)) (or-left _ _ (eq-eqb y y refl))
+  pub linked_pair : linked R x y x y ≡ true
+  linked_pair = crossing x y (or_left _ _ (eq-eqb x x refl)) (or_left _ _ (eq-eqb y y refl))
 
-  linked-split : (a b : ℕ) → linked R x y a b ≡ true
+  linked_split : (a b : ℕ) → linked R x y a b ≡ true
       → (R a b ≡ true) ⊎ (((eqb a x || R a x) ≡ true) × ((eqb b y || R y b) ≡ true))
-  linked-split a b t =
-      ⊎-elim inl (λ both. inr (and-eq-true-iff (eqb a x || R a x) (eqb b y || R y b) .0 both)) (or-cases (R a b) _ t)
+  linked_split a b t =
+      ⊎_elim inl (λ both. inr ((and-eq-true_iff (eqb a x || R a x) (eqb b y || R y b)).0 both)) (or_cases (R a b) _ t)
 
-  linked-transitive : Transitive n R → x < n → y < n → Transitive n (linked R x y)
-  linked-transitive closed hx hy a b c ha hb hc p q =
-      ⊎-elim
-      (λ ab. ⊎-elim (λ bc. linked-holds a c ha hc (closed a b c ha hb hc ab bc)) (λ w. crossing a c (sooner ab (w .0)) (w .1)) (linked-split b c q))
-      (λ v. ⊎-elim (λ bc. crossing a c (v .0) (later (v .1) bc)) (λ w. crossing a c (v .0) (w .1)) (linked-split b c q))
-      (linked-split a b p)
+  linked_transitive : Transitive n R → x < n → y < n → Transitive n (linked R x y)
+  linked_transitive closed hx hy a b c ha hb hc p q =
+      ⊎_elim
+      (λ ab. ⊎_elim (λ bc. linked_holds a c ha hc (closed a b c ha hb hc ab bc)) (λ w. crossing a c (sooner ab w.0) w.1) (linked_split b c q))
+      (λ v. ⊎_elim (λ bc. crossing a c v.0 (later v.1 bc)) (λ w. crossing a c v.0 w.1) (linked_split b c q))
+      (linked_split a b p)
     where
       sooner : R a b ≡ true → (eqb b x || R b x) ≡ true → (eqb a x || R a x) ≡ true
       sooner ab t =
-          or-right (eqb a x) (R a x)
-          (same-or (λ (z : ℕ). R a z ≡ true → R a x ≡ true) b x (R b x) t (λ ax. ax) (λ bx ab. closed a b x ha hb hx ab bx) ab)
+          or_right (eqb a x) (R a x)
+          (same_or (λ (z : ℕ). R a z ≡ true → R a x ≡ true) b x (R b x) t (λ ax. ax) (λ bx ab. closed a b x ha hb hx ab bx) ab)
 
       later : (eqb b y || R y b) ≡ true → R b c ≡ true → (eqb c y || R y c) ≡ true
       later t bc =
-          or-right (eqb c y) (R y c)
-          (same-or (λ (z : ℕ). R z c ≡ true → R y c ≡ true) b y (R y b) t (λ yc. yc) (λ yb bc. closed y b c hy hb hc yb bc) bc)
+          or_right (eqb c y) (R y c)
+          (same_or (λ (z : ℕ). R z c ≡ true → R y c ≡ true) b y (R y b) t (λ yc. yc) (λ yb bc. closed y b c hy hb hc yb bc) bc)
 
-  pub linked-least : (S : ℕ → ℕ → Bool) → Transitive n S → Within n R S → S x y ≡ true → x < n → y < n → Within n (linked R x y) S
-  linked-least S closed holdsR xy hx hy a b ha hb t =
-      ⊎-elim (λ ab. holdsR a b ha hb ab) (λ w. on (w .1) (to-y (w .0))) (linked-split a b t)
+  pub linked_least : (S : ℕ → ℕ → Bool) → Transitive n S → Within n R S → S x y ≡ true → x < n → y < n → Within n (linked R x y) S
+  linked_least S closed holds_r xy hx hy a b ha hb t =
+      ⊎_elim (λ ab. holds_r a b ha hb ab) (λ w. on w.1 (to_y w.0)) (linked_split a b t)
     where
-      to-y : (eqb a x || R a x) ≡ true → S a y ≡ true
-      to-y p = same-or (λ (z : ℕ). S z y ≡ true) a x (R a x) p xy (λ ax. closed a x y ha hx hy (holdsR a x ha hx ax) xy)
+      to_y : (eqb a x || R a x) ≡ true → S a y ≡ true
+      to_y p = same_or (λ (z : ℕ). S z y ≡ true) a x (R a x) p xy (λ ax. closed a x y ha hx hy (holds_r a x ha hx ax) xy)
 
       on : (eqb b y || R y b) ≡ true → S a y ≡ true → S a b ≡ true
-      on q ay = same-or (λ (z : ℕ). S a z ≡ true) b y (R y b) q ay (λ yb. closed a y b ha hy hb ay (holdsR y b hy hb yb))
+      on q ay = same_or (λ (z : ℕ). S a z ≡ true) b y (R y b) q ay (λ yb. closed a y b ha hy hb ay (holds_r y b hy hb yb))
 
-module _ (W n : ℕ) (l : List ℕ) (x y from to : ℕ) (events : n ≤ wordBits * W) (hx : x < n) (hy : y < n) (room : to * W ≤ length l)
+module _ (W n : ℕ) (l : List ℕ) (x y from to : ℕ) (events : n ≤ word_bits * W) (hx : x < n) (hy : y < n) (room : to * W ≤ length l)
     (covers : Covers W l n y from to) (closed : Transitive n (before W l)) where
   -- a closed order that has the pair has all that the pair brings
-  linked-already : (a b : ℕ) → a < n → b < n → holds W l y x ≡ true → holds W l b a ≡ linked (before W l) x y a b
-  linked-already a b ha hb xy =
-      both-ways (holds W l b a) (linked (before W l) x y a b) (linked-holds n (before W l) x y a b ha hb)
-      (linked-least n (before W l) x y (before W l) closed (λ a b ha hb t. t) xy hx hy a b ha hb)
+  linked_already : (a b : ℕ) → a < n → b < n → holds W l y x ≡ true → holds W l b a ≡ linked (before W l) x y a b
+  linked_already a b ha hb xy =
+      both_ways (holds W l b a) (linked (before W l) x y a b) (linked_holds n (before W l) x y a b ha hb)
+      (linked_least n (before W l) x y (before W l) closed (λ a b ha hb t. t) xy hx hy a b ha hb)
 
-  pub inserted-linked : (a b : ℕ) → a < n → b < n → before W (inserted W l x y from to) a b ≡ linked (before W l) x y a b
-  inserted-linked a b ha hb =
-      holds-inserted W l x y from to b a room (omega arith) (omega arith) (omega arith)
-      ∙ by-pair (holds W l y x) refl
+  pub inserted_linked : (a b : ℕ) → a < n → b < n → before W (inserted W l x y from to) a b ≡ linked (before W l) x y a b
+  inserted_linked a b ha hb =
+      holds_inserted W l x y from to b a room (omega arith) (omega arith) (omega arith)
+      ∙ by_pair (holds W l y x) refl
     where
       go : (t : Bool) → (leb from b && ltb b to) ≡ t
           → (t && ((eqb b y || holds W l b y) && (eqb a x || holds W l x a))) ≡ ((eqb a x || holds W l x a) && (eqb b y || holds W l b y))
-      go true e = and-comm (eqb b y || holds W l b y) (eqb a x || holds W l x a)
+      go true e = and_comm (eqb b y || holds W l b y) (eqb a x || holds W l x a)
       go false e =
           let out : (b ≡ y → ⊥) × (holds W l b y ≡ false) = covers b hb (λ p q. true≢false (rw (le-leb from b p, lt-ltb b to q) at e)) in
-          rw (ne-eqb b y (out .0), out .1, and-false)
+          rw (ne_eqb b y out.0, out.1, and-false)
 
-      by-pair : (t : Bool) → holds W l y x ≡ t
+      by_pair : (t : Bool) → holds W l y x ≡ t
           → (holds W l b a || not t && (leb from b && ltb b to && ((eqb b y || holds W l b y) && (eqb a x || holds W l x a))))
           ≡ linked (before W l) x y a b
-      by-pair true e = or-false (holds W l b a) ∙ linked-already a b ha hb e
-      by-pair false e = ap (λ (t : Bool). holds W l b a || t) (go (leb from b && ltb b to) refl)
+      by_pair true e = or-false (holds W l b a) ∙ linked_already a b ha hb e
+      by_pair false e = ap (λ (t : Bool). holds W l b a || t) (go (leb from b && ltb b to) refl)
 
-  pub inserted-closed : Transitive n (before W (inserted W l x y from to))
-  inserted-closed a b c ha hb hc p q =
-      inserted-linked a c ha hc
-      ∙ linked-transitive n (before W l) x y closed hx hy a b c ha hb hc (sym (inserted-linked a b ha hb) ∙ p) (sym (inserted-linked b c hb hc) ∙ q)
+  pub inserted_closed : Transitive n (before W (inserted W l x y from to))
+  inserted_closed a b c ha hb hc p q =
+      inserted_linked a c ha hc
+      ∙ linked_transitive n (before W l) x y closed hx hy a b c ha hb hc (sym (inserted_linked a b ha hb) ∙ p) (sym (inserted_linked b c hb hc) ∙ q)

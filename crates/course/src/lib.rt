@@ -1,29 +1,28 @@
 // One course of events from lists of event numbers: a list is judged, its links go into the relation, and the course is taken from it.
-ghost use mathlib.Core.Path.{_≡_};
-ghost use mathlib.Core.Bool.{true};
-ghost use mathlib.Core.List.{_++_};
-ghost use Prim.Native.Nat.{_*_, _≤_};
-ghost use lib.ListN.{length, drop};
-ghost use Rattle·model.specs.Bounded.{eachOnce};
-ghost use Rattle·model.specs.Taps.{courseOf};
-ghost use Rattle·relation.specs.Width.{width, wordBits};
-ghost use Rattle·relation.specs.Order.{before};
-ghost use Rattle·course·specs.specs.Links.{Room, linkedBy};
-ghost use Rattle·course·specs.specs.Left.{AllLeft, NoCircle};
+#![tactic(auto)]
+
+ghost use Rattle.std.specs.Prelude.{◌≡◌, true, ◌++◌, ◌*◌, ◌≤◌, length, drop};
+ghost use Rattle.model.specs.Bounded.{each_once};
+ghost use Rattle.model.specs.Taps.{course_of};
+ghost use Rattle.relation.specs.Width.{width, word_bits};
+ghost use Rattle.relation.specs.Order.{before};
+ghost use Rattle.course.specs.Links.{Room, linked_by};
+ghost use Rattle.course.specs.Left.{AllLeft, NoCircle};
+
 use free_event::next_event;
 use relation::WIDTH;
 
 // An event's number, as an index.
 fn wide(event: u16) -> usize
-    ensures { λ r. ⌜ r ≡ event ⌝ }
+    ensures { result ≡ event }
 {
     event as usize
 }
 
 // The members of the list are events, below `events`, and none is there twice.
 pub fn each_once(list: &[u16], events: usize) -> bool
-    requires { ⌜ events ≤ wordBits * width ⌝ }
-    ensures { λ r. ⌜ r ≡ eachOnce events (now (list .entry)) ⌝ }
+    requires { events ≤ word_bits * width }
+    ensures { result ≡ each_once events list.now }
 {
     let mut seen = [0u64; WIDTH];
     for i in 0..list.len() {
@@ -41,9 +40,9 @@ pub fn each_once(list: &[u16], events: usize) -> bool
 
 // Each member of the list is put before the next. The relation is kept closed.
 pub fn link(words: &mut [u64], list: &[u16], events: usize)
-    requires { ⌜ Room events (now words) ⌝ }
-    requires { ⌜ eachOnce events (now list) ≡ true ⌝ }
-    ensures { λ _. ⌜ now (words .exit) ≡ linkedBy width events (now (list .entry)) (now (words .entry)) ⌝ }
+    requires room { Room events words.old }
+    requires list_value { each_once events list.now ≡ true }
+    ensures { words.new ≡ linked_by width events list.now words.old }
 {
     for i in 1..list.len() {
         let ahead = i - 1;
@@ -55,8 +54,8 @@ pub fn link(words: &mut [u64], list: &[u16], events: usize)
 
 // All events are left.
 fn all_left(events: usize) -> [u64; WIDTH]
-    requires { ⌜ events ≤ wordBits * width ⌝ }
-    ensures { λ r. ⌜ AllLeft events r ⌝ }
+    requires { events ≤ word_bits * width }
+    ensures { AllLeft events result }
 {
     let mut left = [0u64; WIDTH];
     for x in 0..events {
@@ -67,10 +66,10 @@ fn all_left(events: usize) -> [u64; WIDTH]
 
 // The course of all events: always the lowest that has nothing left before it.
 pub fn write_course(words: &[u64], events: usize, output: &mut [u16])
-    requires { ⌜ wordBits * width * width ≤ length (now words) ⌝ }
-    requires { ⌜ (events ≤ wordBits * width) × (events ≤ length (now output)) ⌝ }
-    requires { ⌜ NoCircle events (now words) ⌝ }
-    ensures { λ _. ⌜ now (output .exit) ≡ courseOf events (before width (now (words .entry))) events ++ drop events (now (output .entry)) ⌝ }
+    requires width_in_bounds { word_bits * width * width ≤ length words.now }
+    requires events_bound { (events ≤ word_bits * width) × (events ≤ length output.old) }
+    requires no_circle { NoCircle events words.now }
+    ensures { output.new ≡ course_of events (before width words.now) events ++ drop events output.old }
 {
     let mut left = all_left(events);
     for i in 0..events {

@@ -1,45 +1,45 @@
 -- What a search has met, as the model has it: which receivers are faulty with the sender, and the first two rules of the pair. Assumes nothing.
-use Prim.Native.Nat.{ℕ, suc, _+_, _*_, _/_, _%_, _<_}
-use native.Mathlib.Nat.{mul-comm}
+use Prim.Native.Nat.{ℕ, suc, ◌+◌, ◌*◌, ◌/◌, ◌%◌, ◌<◌}
+use native.Mathlib.Nat.{mul_comm}
 use native.Mathlib.Omega.{arith}
-use mathlib.Core.Path.{_≡_, refl, sym, _∙_, ap}
-use mathlib.Core.Bool.{Bool, true, false, not, cond, _&&_, _||_}
-use mathlib.Core.List.{List, [], _∷_}
-use borrow.Author.Tests.{ne-eqb}
-use lib.Arith.{digits-div, digits-mod}
-use lib.Bits.{bitAnd, bitOr}
+use mathlib.Core.Path.{◌≡◌, refl, sym, ◌∙◌, ap}
+use mathlib.Core.Bool.{Bool, true, false, not, cond, ◌&&◌, ◌||◌}
+use mathlib.Core.List.{List, [], ◌∷◌}
+use borrow.Author.Tests.{ne_eqb}
+use lib.Arith.{digits_div, digits_mod}
+use lib.Bits.{bit_and, bit_or}
 use lib.Dec.{eqb}
 use lib.ListN.{length}
-use Rattle·relation.specs.Rows.{has}
-use Rattle·relation.proofs.Bits.{has-zero, has-or}
-use Rattle·relation.proofs.Words.{has-and}
-use Rattle·model.specs.Limits.{boards}
-use Rattle·model.specs.Place.{lineOf}
-use Rattle·model.specs.Senders.{pairOf, inSet, covers, rulesWith, isFaulty}
-use Rattle·coverage·specs.specs.Rules.{ruleAs, rulesAs}
-use Rattle·coverage·specs.specs.Search.{begun, joinedBy, notedBy, metBy, searched}
-use Rattle·coverage·specs.specs.declared.Rule.{Rule}
-use Rattle·coverage·specs.specs.declared.Search.{Search}
+use Rattle.relation.specs.Rows.{has}
+use Rattle.relation.proofs.Bits.{has_zero, has_or}
+use Rattle.relation.proofs.Words.{has_and}
+use Rattle.model.specs.Limits.{boards}
+use Rattle.model.specs.Place.{line_of}
+use Rattle.model.specs.Senders.{pair_of, in_set, covers, rules_with, is_faulty}
+use Rattle.coverage.specs.Rules.{rule_as, rules_as}
+use Rattle.coverage.specs.Search.{begun, joined_by, noted_by, met_by, searched}
+use Rattle.coverage.specs.declared.Rule.{Rule}
+use Rattle.coverage.specs.declared.Search.{Search}
 
 -- the bits of two sets together
-pub set-or : (a b k : ℕ) → inSet (bitOr a b) k ≡ (inSet a k || inSet b k)
-unfolding inSet has
-set-or a b k = has-or a b k
+pub set_or : (a b k : ℕ) → in_set (bit_or a b) k ≡ (in_set a k || in_set b k)
+unfolding in_set has
+set_or a b k = has_or a b k
 
-pub set-and : (a b k : ℕ) → inSet (bitAnd a b) k ≡ (inSet a k && inSet b k)
-unfolding inSet has
-set-and a b k = has-and a b k
+pub set_and : (a b k : ℕ) → in_set (bit_and a b) k ≡ (in_set a k && in_set b k)
+unfolding in_set has
+set_and a b k = has_and a b k
 
-pub empty-set : (k : ℕ) → inSet 0 k ≡ false
-unfolding inSet has
-empty-set k = has-zero k
+pub empty_set : (k : ℕ) → in_set 0 k ≡ false
+unfolding in_set has
+empty_set k = has_zero k
 
 -- a rule with a pair, by its two sets
-pub pair-covers : (r : Rule) (a b : ℕ) → b < boards → covers (ruleAs r) (pairOf a b) ≡ (inSet (r .from) a && inSet (r .to) b)
+pub pair_covers : (r : Rule) (a b : ℕ) → b < boards → covers (rule_as r) (pair_of a b) ≡ (in_set r.from a && in_set r.to b)
 unfolding covers
-pair-covers r a b h =
-    let d : (boards * a + b) / boards ≡ a = rw (mul-comm boards a) (digits-div a h) in
-    let m : (boards * a + b) % boards ≡ b = rw (mul-comm boards a) (digits-mod a h) in
+pair_covers r a b h =
+    let d : (boards * a + b) / boards ≡ a = rw (mul_comm boards a) (digits_div a h) in
+    let m : (boards * a + b) % boards ≡ b = rw (mul_comm boards a) (digits_mod a h) in
     rw (d, m)
 
 -- some rules, and two or more
@@ -58,199 +58,199 @@ Lines = ℕ × ℕ
 note : Lines → ℕ → Lines
 note (f, g) k = cond (eqb f 0) (k, g) (cond (eqb g 0) (f, k) (f, g))
 
-noteAll : Lines → List ℕ → Lines
-noteAll p [] = p
-noteAll p (k ∷ ks) = noteAll (note p (lineOf k)) ks
+note_all : Lines → List ℕ → Lines
+note_all p [] = p
+note_all p (k ∷ ks) = note_all (note p (line_of k)) ks
 
 abbrev lines : Search → Lines
-lines s = (s .first, s .second)
+lines s = (s.first, s.second)
 
 -- what one rule adds: to the receivers, where it has the sender, and to the lines, where it has the pair
 record OneMore (s : Search) (i : ℕ) (r : Rule) (t : Search) : Type 0 where
-  sender : t .sender ≡ s .sender
-  receiver : t .receiver ≡ s .receiver
-  once : (b : ℕ) → inSet (t .once) b ≡ (inSet (s .once) b || (inSet (r .from) (s .sender) && inSet (r .to) b))
-  twice : (b : ℕ) → inSet (t .twice) b ≡ (inSet (s .twice) b || (inSet (s .once) b && (inSet (r .from) (s .sender) && inSet (r .to) b)))
-  noted : lines t ≡ cond (inSet (r .from) (s .sender) && inSet (r .to) (s .receiver)) (note (lines s) (lineOf i)) (lines s)
+  sender : t.sender ≡ s.sender
+  receiver : t.receiver ≡ s.receiver
+  once : (b : ℕ) → in_set t.once b ≡ (in_set s.once b || (in_set r.from s.sender && in_set r.to b))
+  twice : (b : ℕ) → in_set t.twice b ≡ (in_set s.twice b || (in_set s.once b && (in_set r.from s.sender && in_set r.to b)))
+  noted : lines t ≡ cond (in_set r.from s.sender && in_set r.to s.receiver) (note (lines s) (line_of i)) (lines s)
 
-or-false : (b : Bool) → b ≡ (b || false)
-or-false true = refl
-or-false false = refl
+or_false : (b : Bool) → b ≡ (b || false)
+or_false true = refl
+or_false false = refl
 
-and-false : (a b : Bool) → b ≡ false → (a && b) ≡ false
-and-false true b h = h
-and-false false b h = refl
+and_false : (a b : Bool) → b ≡ false → (a && b) ≡ false
+and_false true b h = h
+and_false false b h = refl
 
 record Added (s : Search) (r : Rule) (t : Search) : Type 0 where
-  sender : t .sender ≡ s .sender
-  receiver : t .receiver ≡ s .receiver
-  once : (b : ℕ) → inSet (t .once) b ≡ (inSet (s .once) b || (inSet (r .from) (s .sender) && inSet (r .to) b))
-  twice : (b : ℕ) → inSet (t .twice) b ≡ (inSet (s .twice) b || (inSet (s .once) b && (inSet (r .from) (s .sender) && inSet (r .to) b)))
+  sender : t.sender ≡ s.sender
+  receiver : t.receiver ≡ s.receiver
+  once : (b : ℕ) → in_set t.once b ≡ (in_set s.once b || (in_set r.from s.sender && in_set r.to b))
+  twice : (b : ℕ) → in_set t.twice b ≡ (in_set s.twice b || (in_set s.once b && (in_set r.from s.sender && in_set r.to b)))
   same : lines t ≡ lines s
 
-added : (s : Search) (r : Rule) → Added s r (joinedBy s (r .from) (r .to))
-unfolding joinedBy
-added s r = go (inSet (r .from) (s .sender)) refl
+added : (s : Search) (r : Rule) → Added s r (joined_by s r.from r.to)
+unfolding joined_by
+added s r = go (in_set r.from s.sender) refl
   where
-    go : (c : Bool) → inSet (r .from) (s .sender) ≡ c
-        → Added s r (cond c (record { sender = s .sender; receiver = s .receiver; once = bitOr (s .once) (r .to); twice = bitOr (s .twice) (bitAnd (s .once) (r .to)); first = s .first; second = s .second }) s)
+    go : (c : Bool) → in_set r.from s.sender ≡ c
+        → Added s r (cond c (record { sender = s.sender; receiver = s.receiver; once = bit_or s.once r.to; twice = bit_or s.twice (bit_and s.once r.to); first = s.first; second = s.second }) s)
     go true e =
         record {
           sender = refl;
           receiver = refl;
-          once = λ b. rw (e, set-or (s .once) (r .to) b);
-          twice = λ b. rw (e, set-or (s .twice) (bitAnd (s .once) (r .to)) b, set-and (s .once) (r .to) b);
+          once = λ b. rw (e, set_or s.once r.to b);
+          twice = λ b. rw (e, set_or s.twice (bit_and s.once r.to) b, set_and s.once r.to b);
           same = refl;
         }
     go false e =
         record {
           sender = refl;
           receiver = refl;
-          once = λ b. rw e (or-false (inSet (s .once) b));
-          twice = λ b. rw (e, and-false (inSet (s .once) b) false refl) (or-false (inSet (s .twice) b));
+          once = λ b. rw e (or_false (in_set s.once b));
+          twice = λ b. rw (e, and_false (in_set s.once b) false refl) (or_false (in_set s.twice b));
           same = refl;
         }
 
 record Noted (s : Search) (n : ℕ) (t : Search) : Type 0 where
-  sender : t .sender ≡ s .sender
-  receiver : t .receiver ≡ s .receiver
-  once : t .once ≡ s .once
-  twice : t .twice ≡ s .twice
+  sender : t.sender ≡ s.sender
+  receiver : t.receiver ≡ s.receiver
+  once : t.once ≡ s.once
+  twice : t.twice ≡ s.twice
   note : lines t ≡ note (lines s) n
 
-note-lines : (s : Search) (n : ℕ) → Noted s n (notedBy s n)
-unfolding notedBy note
-note-lines s n = go (eqb (s .first) 0) (eqb (s .second) 0) refl refl
+note_lines : (s : Search) (n : ℕ) → Noted s n (noted_by s n)
+unfolding noted_by note
+note_lines s n = go (eqb s.first 0) (eqb s.second 0) refl refl
   where
-    go : (f g : Bool) → eqb (s .first) 0 ≡ f → eqb (s .second) 0 ≡ g
-        → Noted s n (cond f (record { sender = s .sender; receiver = s .receiver; once = s .once; twice = s .twice; first = n; second = s .second })
-        (cond g (record { sender = s .sender; receiver = s .receiver; once = s .once; twice = s .twice; first = s .first; second = n }) s))
-    go true g e e′ = record { sender = refl; receiver = refl; once = refl; twice = refl; note = rw e }
-    go false true e e′ = record { sender = refl; receiver = refl; once = refl; twice = refl; note = rw (e, e′) }
-    go false false e e′ = record { sender = refl; receiver = refl; once = refl; twice = refl; note = rw (e, e′) }
+    go : (f g : Bool) → eqb s.first 0 ≡ f → eqb s.second 0 ≡ g
+        → Noted s n (cond f (record { sender = s.sender; receiver = s.receiver; once = s.once; twice = s.twice; first = n; second = s.second })
+        (cond g (record { sender = s.sender; receiver = s.receiver; once = s.once; twice = s.twice; first = s.first; second = n }) s))
+    go true g e e' = record { sender = refl; receiver = refl; once = refl; twice = refl; note = rw e }
+    go false true e e' = record { sender = refl; receiver = refl; once = refl; twice = refl; note = rw (e, e') }
+    go false false e e' = record { sender = refl; receiver = refl; once = refl; twice = refl; note = rw (e, e') }
 
-one-more : (s : Search) (i : ℕ) (r : Rule) → OneMore s i r (metBy s i r)
-unfolding metBy
-one-more s i r = go (inSet (r .from) (s .sender) && inSet (r .to) (s .receiver)) refl (added s r)
+one_more : (s : Search) (i : ℕ) (r : Rule) → OneMore s i r (met_by s i r)
+unfolding met_by
+one_more s i r = go (in_set r.from s.sender && in_set r.to s.receiver) refl (added s r)
   where
     t : Search
-    t = joinedBy s (r .from) (r .to)
+    t = joined_by s r.from r.to
 
-    go : (c : Bool) → (inSet (r .from) (s .sender) && inSet (r .to) (s .receiver)) ≡ c → Added s r t → OneMore s i r (cond c (notedBy t (lineOf i)) t)
+    go : (c : Bool) → (in_set r.from s.sender && in_set r.to s.receiver) ≡ c → Added s r t → OneMore s i r (cond c (noted_by t (line_of i)) t)
     go true e a =
-        let n : Noted t (lineOf i) (notedBy t (lineOf i)) = note-lines t (lineOf i) in
+        let n : Noted t (line_of i) (noted_by t (line_of i)) = note_lines t (line_of i) in
         record {
-          sender = n .sender ∙ a .sender;
-          receiver = n .receiver ∙ a .receiver;
-          once = λ b. ap (λ (w : ℕ). inSet w b) (n .once) ∙ a .once b;
-          twice = λ b. ap (λ (w : ℕ). inSet w b) (n .twice) ∙ a .twice b;
-          noted = n .note ∙ ap (λ (p : Lines). note p (lineOf i)) (a .same) ∙ rw e;
+          sender = n.sender ∙ a.sender;
+          receiver = n.receiver ∙ a.receiver;
+          once = λ b. ap (λ (w : ℕ). in_set w b) n.once ∙ a.once b;
+          twice = λ b. ap (λ (w : ℕ). in_set w b) n.twice ∙ a.twice b;
+          noted = n.note ∙ ap (λ (p : Lines). note p (line_of i)) a.same ∙ rw e;
         }
-    go false e a = record { sender = a .sender; receiver = a .receiver; once = a .once; twice = a .twice; noted = a .same ∙ rw e }
+    go false e a = record { sender = a.sender; receiver = a.receiver; once = a.once; twice = a.twice; noted = a.same ∙ rw e }
 
 -- a rule more, and those behind it
-once-more : (o c s : Bool) → ((o || c) || s) ≡ (o || (c || s))
-once-more true c s = refl
-once-more false c s = refl
+once_more : (o c s : Bool) → ((o || c) || s) ≡ (o || (c || s))
+once_more true c s = refl
+once_more false c s = refl
 
-some-more : (c : Bool) (i : ℕ) (ks : List ℕ) → (c || some? ks) ≡ some? (cond c (i ∷ ks) ks)
+some_more : (c : Bool) (i : ℕ) (ks : List ℕ) → (c || some? ks) ≡ some? (cond c (i ∷ ks) ks)
 unfolding some?
-some-more true i ks = refl
-some-more false i ks = refl
+some_more true i ks = refl
+some_more false i ks = refl
 
-twice-more : (t o c : Bool) (i : ℕ) (ks : List ℕ)
+twice_more : (t o c : Bool) (i : ℕ) (ks : List ℕ)
     → ((t || (o && c)) || (((o || c) && some? ks) || two? ks)) ≡ (t || ((o && some? (cond c (i ∷ ks) ks)) || two? (cond c (i ∷ ks) ks)))
 unfolding some? two?
-twice-more true o c i ks = refl
-twice-more false true true i ks = refl
-twice-more false true false i ks = refl
-twice-more false false false i ks = refl
-twice-more false false true i [] = refl
-twice-more false false true i (k ∷ ks) = refl
+twice_more true o c i ks = refl
+twice_more false true true i ks = refl
+twice_more false true false i ks = refl
+twice_more false false false i ks = refl
+twice_more false false true i [] = refl
+twice_more false false true i (k ∷ ks) = refl
 
 module _ (a b : ℕ) (inside : b < boards) where
   abbrev found : ℕ → List Rule → List ℕ
-  found i rs = rulesWith (pairOf a b) i (rulesAs rs)
+  found i rs = rules_with (pair_of a b) i (rules_as rs)
 
-  found-step : (i : ℕ) (r : Rule) (rs : List Rule) → found i (r ∷ rs) ≡ cond (inSet (r .from) a && inSet (r .to) b) (i ∷ found (suc i) rs) (found (suc i) rs)
-  unfolding rulesWith
-  found-step i r rs = rw (pair-covers r a b inside)
+  found_step : (i : ℕ) (r : Rule) (rs : List Rule) → found i (r ∷ rs) ≡ cond (in_set r.from a && in_set r.to b) (i ∷ found (suc i) rs) (found (suc i) rs)
+  unfolding rules_with
+  found_step i r rs = rw (pair_covers r a b inside)
 
-  sets-met : (i : ℕ) (rs : List Rule) (s : Search) → s .sender ≡ a
-      → (inSet ((searched i rs s) .once) b ≡ (inSet (s .once) b || some? (found i rs)))
-      × (inSet ((searched i rs s) .twice) b ≡ (inSet (s .twice) b || ((inSet (s .once) b && some? (found i rs)) || two? (found i rs))))
-  unfolding searched rulesWith some? two?
-  sets-met i [] s e = (or-false (inSet (s .once) b), rw (and-false (inSet (s .once) b) false refl) (or-false (inSet (s .twice) b)))
-  sets-met i (r ∷ rs) s e =
-      let m : OneMore s i r (metBy s i r) = one-more s i r in
+  sets_met : (i : ℕ) (rs : List Rule) (s : Search) → s.sender ≡ a
+      → (in_set (searched i rs s).once b ≡ (in_set s.once b || some? (found i rs)))
+      × (in_set (searched i rs s).twice b ≡ (in_set s.twice b || ((in_set s.once b && some? (found i rs)) || two? (found i rs))))
+  unfolding searched rules_with some? two?
+  sets_met i [] s e = (or_false (in_set s.once b), rw (and_false (in_set s.once b) false refl) (or_false (in_set s.twice b)))
+  sets_met i (r ∷ rs) s e =
+      let m : OneMore s i r (met_by s i r) = one_more s i r in
       let ks : List ℕ = found (suc i) rs in
-      let c : Bool = inSet (r .from) a && inSet (r .to) b in
-      let o : inSet ((metBy s i r) .once) b ≡ (inSet (s .once) b || c) =
-      m .once b ∙ ap (λ (x : ℕ). inSet (s .once) b || (inSet (r .from) x && inSet (r .to) b)) e in
-      let t : inSet ((metBy s i r) .twice) b ≡ (inSet (s .twice) b || (inSet (s .once) b && c)) =
-      m .twice b ∙ ap (λ (x : ℕ). inSet (s .twice) b || (inSet (s .once) b && (inSet (r .from) x && inSet (r .to) b))) e in
-      let later = sets-met (suc i) rs (metBy s i r) (m .sender ∙ e) in
-      let l : found i (r ∷ rs) ≡ cond c (i ∷ ks) ks = found-step i r rs in (
-        later .0 ∙ rw o (once-more (inSet (s .once) b) c (some? ks) ∙ ap (λ (x : Bool). inSet (s .once) b || x) (some-more c i ks ∙ ap some? (sym l))),
-        later .1 ∙ rw (t, o) (twice-more (inSet (s .twice) b) (inSet (s .once) b) c i ks
-            ∙ ap (λ (x : List ℕ). inSet (s .twice) b || ((inSet (s .once) b && some? x) || two? x)) (sym l)),
+      let c : Bool = in_set r.from a && in_set r.to b in
+      let o : in_set (met_by s i r).once b ≡ (in_set s.once b || c) =
+      m.once b ∙ ap (λ (x : ℕ). in_set s.once b || (in_set r.from x && in_set r.to b)) e in
+      let t : in_set (met_by s i r).twice b ≡ (in_set s.twice b || (in_set s.once b && c)) =
+      m.twice b ∙ ap (λ (x : ℕ). in_set s.twice b || (in_set s.once b && (in_set r.from x && in_set r.to b))) e in
+      let later = sets_met (suc i) rs (met_by s i r) (m.sender ∙ e) in
+      let l : found i (r ∷ rs) ≡ cond c (i ∷ ks) ks = found_step i r rs in (
+        later.0 ∙ rw o (once_more (in_set s.once b) c (some? ks) ∙ ap (λ (x : Bool). in_set s.once b || x) (some_more c i ks ∙ ap some? (sym l))),
+        later.1 ∙ rw (t, o) (twice_more (in_set s.twice b) (in_set s.once b) c i ks
+            ∙ ap (λ (x : List ℕ). in_set s.twice b || ((in_set s.once b && some? x) || two? x)) (sym l)),
       )
 
-  lines-met : (i : ℕ) (rs : List Rule) (s : Search) → s .sender ≡ a → s .receiver ≡ b → lines (searched i rs s) ≡ noteAll (lines s) (found i rs)
-  unfolding searched rulesWith noteAll
-  lines-met i [] s e h = refl
-  lines-met i (r ∷ rs) s e h =
-      let m : OneMore s i r (metBy s i r) = one-more s i r in
+  lines_met : (i : ℕ) (rs : List Rule) (s : Search) → s.sender ≡ a → s.receiver ≡ b → lines (searched i rs s) ≡ note_all (lines s) (found i rs)
+  unfolding searched rules_with note_all
+  lines_met i [] s e h = refl
+  lines_met i (r ∷ rs) s e h =
+      let m : OneMore s i r (met_by s i r) = one_more s i r in
       let ks : List ℕ = found (suc i) rs in
-      let c : Bool = inSet (r .from) a && inSet (r .to) b in
-      let n : lines (metBy s i r) ≡ cond c (note (lines s) (lineOf i)) (lines s) =
-      m .noted ∙ ap (λ (x : ℕ). cond (inSet (r .from) x && inSet (r .to) (s .receiver)) (note (lines s) (lineOf i)) (lines s)) e
-      ∙ ap (λ (x : ℕ). cond (inSet (r .from) a && inSet (r .to) x) (note (lines s) (lineOf i)) (lines s)) h in
-      lines-met (suc i) rs (metBy s i r) (m .sender ∙ e) (m .receiver ∙ h) ∙ ap (λ (p : Lines). noteAll p ks) n ∙ more c ks
-      ∙ ap (noteAll (lines s)) (sym (found-step i r rs))
+      let c : Bool = in_set r.from a && in_set r.to b in
+      let n : lines (met_by s i r) ≡ cond c (note (lines s) (line_of i)) (lines s) =
+      m.noted ∙ ap (λ (x : ℕ). cond (in_set r.from x && in_set r.to s.receiver) (note (lines s) (line_of i)) (lines s)) e
+      ∙ ap (λ (x : ℕ). cond (in_set r.from a && in_set r.to x) (note (lines s) (line_of i)) (lines s)) h in
+      lines_met (suc i) rs (met_by s i r) (m.sender ∙ e) (m.receiver ∙ h) ∙ ap (λ (p : Lines). note_all p ks) n ∙ more c ks
+      ∙ ap (note_all (lines s)) (sym (found_step i r rs))
     where
-      more : (c : Bool) (ks : List ℕ) → noteAll (cond c (note (lines s) (lineOf i)) (lines s)) ks ≡ noteAll (lines s) (cond c (i ∷ ks) ks)
+      more : (c : Bool) (ks : List ℕ) → note_all (cond c (note (lines s) (line_of i)) (lines s)) ks ≡ note_all (lines s) (cond c (i ∷ ks) ks)
       more true ks = refl
       more false ks = refl
 
 -- both lines are noted, and stay
-both-noted : (f g : ℕ) (ks : List ℕ) → noteAll (lineOf f, lineOf g) ks ≡ (lineOf f, lineOf g)
-unfolding noteAll note
-both-noted f g [] = refl
-both-noted f g (k ∷ ks) = rw (ne-eqb (lineOf f) 0 (λ e. omega arith), ne-eqb (lineOf g) 0 (λ e. omega arith)) (both-noted f g ks)
+both_noted : (f g : ℕ) (ks : List ℕ) → note_all (line_of f, line_of g) ks ≡ (line_of f, line_of g)
+unfolding note_all note
+both_noted f g [] = refl
+both_noted f g (k ∷ ks) = rw (ne_eqb (line_of f) 0 (λ e. omega arith), ne_eqb (line_of g) 0 (λ e. omega arith)) (both_noted f g ks)
 
 -- a pair is faulty by the rules that it is in
-not-once : (ks : List ℕ) → not (eqb (length ks) 1) ≡ (not (some? ks) || two? ks)
+not_once : (ks : List ℕ) → not (eqb (length ks) 1) ≡ (not (some? ks) || two? ks)
 unfolding some? two?
-not-once [] = refl
-not-once (k ∷ []) = refl
-not-once (k ∷ j ∷ ks) = rw (ne-eqb (suc (suc (length ks))) 1 (λ e. omega arith))
+not_once [] = refl
+not_once (k ∷ []) = refl
+not_once (k ∷ j ∷ ks) = rw (ne_eqb (suc (suc (length ks))) 1 (λ e. omega arith))
 
 module _ (a : ℕ) (rs : List Rule) where
   -- a receiver is faulty with the sender exactly if it is in no rule or in two
-  pub faulty-sets : (b c : ℕ) → b < boards
-      → isFaulty (rulesAs rs) (pairOf a b) ≡ (not (inSet ((searched 0 rs (begun a c)) .once) b) || inSet ((searched 0 rs (begun a c)) .twice) b)
-  unfolding isFaulty
-  faulty-sets b c h =
-      let m = sets-met a b h 0 rs (begun a c) refl in
-      let o : inSet ((searched 0 rs (begun a c)) .once) b ≡ some? (found a b h 0 rs) = m .0 ∙ rw (empty-set b) in
-      let t : inSet ((searched 0 rs (begun a c)) .twice) b ≡ two? (found a b h 0 rs) = m .1 ∙ rw (empty-set b) in
-      not-once (found a b h 0 rs) ∙ rw (o, t)
+  pub faulty_sets : (b c : ℕ) → b < boards
+      → is_faulty (rules_as rs) (pair_of a b) ≡ (not (in_set (searched 0 rs (begun a c)).once b) || in_set (searched 0 rs (begun a c)).twice b)
+  unfolding is_faulty
+  faulty_sets b c h =
+      let m = sets_met a b h 0 rs (begun a c) refl in
+      let o : in_set (searched 0 rs (begun a c)).once b ≡ some? (found a b h 0 rs) = m.0 ∙ rw (empty_set b) in
+      let t : in_set (searched 0 rs (begun a c)).twice b ≡ two? (found a b h 0 rs) = m.1 ∙ rw (empty_set b) in
+      not_once (found a b h 0 rs) ∙ rw (o, t)
 
   -- the first two rules of the pair, by their lines
   abbrev pub FirstTwo : List ℕ → Search → Type 0
-  FirstTwo [] t = t .first ≡ 0
-  FirstTwo (k ∷ []) t = (t .first ≡ lineOf k) × (t .second ≡ 0)
-  FirstTwo (k ∷ j ∷ ks) t = (t .first ≡ lineOf k) × (t .second ≡ lineOf j)
+  FirstTwo [] t = t.first ≡ 0
+  FirstTwo (k ∷ []) t = (t.first ≡ line_of k) × (t.second ≡ 0)
+  FirstTwo (k ∷ j ∷ ks) t = (t.first ≡ line_of k) × (t.second ≡ line_of j)
 
-  pub first-two : (b : ℕ) → b < boards → FirstTwo (rulesWith (pairOf a b) 0 (rulesAs rs)) (searched 0 rs (begun a b))
-  unfolding noteAll note
-  first-two b h = go (rulesWith (pairOf a b) 0 (rulesAs rs)) (lines-met a b h 0 rs (begun a b) refl refl)
+  pub first_two : (b : ℕ) → b < boards → FirstTwo (rules_with (pair_of a b) 0 (rules_as rs)) (searched 0 rs (begun a b))
+  unfolding note_all note
+  first_two b h = go (rules_with (pair_of a b) 0 (rules_as rs)) (lines_met a b h 0 rs (begun a b) refl refl)
     where
-      go : (ks : List ℕ) → lines (searched 0 rs (begun a b)) ≡ noteAll (0, 0) ks → FirstTwo ks (searched 0 rs (begun a b))
-      go [] e = ap (λ (p : Lines). p .0) e
-      go (k ∷ []) e = (ap (λ (p : Lines). p .0) e, ap (λ (p : Lines). p .1) e)
+      go : (ks : List ℕ) → lines (searched 0 rs (begun a b)) ≡ note_all (0, 0) ks → FirstTwo ks (searched 0 rs (begun a b))
+      go [] e = ap (λ (p : Lines). p.0) e
+      go (k ∷ []) e = (ap (λ (p : Lines). p.0) e, ap (λ (p : Lines). p.1) e)
       go (k ∷ j ∷ ks) e =
-          let n : note (lineOf k, 0) (lineOf j) ≡ (lineOf k, lineOf j) = rw (ne-eqb (lineOf k) 0 (λ z. omega arith)) in
-          let d : lines (searched 0 rs (begun a b)) ≡ (lineOf k, lineOf j) = e ∙ ap (λ (p : Lines). noteAll p ks) n ∙ both-noted k j ks in
-          (ap (λ (p : Lines). p .0) d, ap (λ (p : Lines). p .1) d)
+          let n : note (line_of k, 0) (line_of j) ≡ (line_of k, line_of j) = rw (ne_eqb (line_of k) 0 (λ z. omega arith)) in
+          let d : lines (searched 0 rs (begun a b)) ≡ (line_of k, line_of j) = e ∙ ap (λ (p : Lines). note_all p ks) n ∙ both_noted k j ks in
+          (ap (λ (p : Lines). p.0) d, ap (λ (p : Lines). p.1) d)

@@ -1,10 +1,10 @@
 -- The rules that are lent, as the model's. Assumes nothing.
-use mathlib.Core.List.{List, map}
-use Rattle·model.specs.Senders as senders
-use Rattle·coverage·specs.specs.declared.Rule.{Rule}
+use Rattle.std.specs.Prelude.{List, map}
+use Rattle.model.specs.Senders as senders
+use Rattle.coverage.specs.declared.Rule.{Rule}
 
-abbrev pub ruleAs : Rule → senders.Rule
-ruleAs r = record { from = r .from; to = r .to; verdict = r .verdict }
+abbrev pub rule_as : Rule → senders.Rule
+rule_as r = record { from = r.from; to = r.to; verdict = r.verdict }
 
-abbrev pub rulesAs : List Rule → List senders.Rule
-rulesAs rs = map ruleAs rs
+abbrev pub rules_as : List Rule → List senders.Rule
+rules_as rs = map rule_as rs

@@ -1,12 +1,14 @@
 // The coverage search, a rule at a time: which pairs of boards the rules of a table of permitted senders are about, and which rules one pair
 // is in.
-use board_set::in_set;
-use board_set::is_covered;
-ghost use mathlib.Core.Path.{_≡_};
-ghost use Prim.Native.Nat.{_+_, _^_, _<_};
-ghost use Rattle·coverage·specs.specs.Search.{begun, joinedBy, notedBy, metBy};
+#![tactic(auto)]
+
+ghost use Rattle.std.specs.Prelude.{◌≡◌, ◌+◌, ◌^◌, ◌<◌};
+ghost use Rattle.coverage.specs.Search.{begun, joined_by, noted_by, met_by};
+
+use board_set::{in_set, is_covered};
 
 // A rule: the boards that may send, or may not, to the boards of the other set. Bit k of a set is board k.
+#[derive(Clone, Copy)]
 pub struct Rule {
     pub from: u16,
     pub to: u16,
@@ -15,6 +17,7 @@ pub struct Rule {
 
 // What a search over the rules has met, for one sender: the receivers that are in some rule with it, and those in two or more; and the lines
 // of the first two rules that the sender and the one receiver are in. Line 0 is no rule's.
+#[derive(Clone, Copy)]
 pub struct Search {
     pub sender: usize,
     pub receiver: usize,
@@ -26,7 +29,7 @@ pub struct Search {
 
 // A search for a sender and a receiver, ahead of the first rule.
 pub fn begin(sender: usize, receiver: usize) -> Search
-    ensures { λ r. ⌜ r ≡ begun sender receiver ⌝ }
+    ensures { result ≡ begun sender receiver }
 {
     Search {
         sender,
@@ -40,7 +43,7 @@ pub fn begin(sender: usize, receiver: usize) -> Search
 
 // The receivers that the rule of these two sets adds.
 fn joined(mut s: Search, from: u16, to: u16) -> Search
-    ensures { λ r. ⌜ r ≡ joinedBy s from to ⌝ }
+    ensures { result ≡ joined_by s from to }
 {
     if in_set(from, s.sender) {
         s.twice = s.twice | (s.once & to);
@@ -51,7 +54,7 @@ fn joined(mut s: Search, from: u16, to: u16) -> Search
 
 // A rule with the pair, at the given line, is noted if it is one of the first two.
 fn noted(mut s: Search, line: usize) -> Search
-    ensures { λ r. ⌜ r ≡ notedBy s line ⌝ }
+    ensures { result ≡ noted_by s line }
 {
     if s.first == 0 {
         s.first = line;
@@ -66,8 +69,8 @@ fn noted(mut s: Search, line: usize) -> Search
 // The search behind the rule with the given number, from 0; rule 0 stands at line 2. Most rules of a table are without the sender: one test
 // passes them.
 pub fn met(s: Search, number: usize, rule: Rule) -> Search
-    requires { ⌜ number + 2 < 2 ^ 64 ⌝ }
-    ensures { λ r. ⌜ r ≡ metBy s number rule ⌝ }
+    requires { number + 2 < 2 ^ 64 }
+    ensures { result ≡ met_by s number rule }
 {
     if !in_set(rule.from, s.sender) {
         return s;

@@ -1,29 +1,28 @@
 // What stands directly before each send in the cured order, in words. The row of a message's receive, which the cured order does not need,
 // becomes that of the events directly before its send, on its board.
-ghost use mathlib.Core.Path.{_≡_};
-ghost use Prim.Native.Nat.{_+_, _*_, _^_, _<_, _≤_};
-ghost use lib.ListN.{length, getD};
-ghost use Rattle·model.specs.Limits.{messagesMost};
-ghost use Rattle·relation.specs.Width.{width, wordBits};
-ghost use Rattle·board.specs.Boards.{BoardsBelow};
-ghost use Rattle·board.specs.Masks.{maskRows, Standing};
-ghost use Rattle·covers·specs.specs.Covers.{RowOf, hiddenBy, hiddenAt, Hidden, CoverWord, coverAt, Sheet, CoverRows};
-use relation::SENDS;
-use relation::WIDTH;
-use relation::WORD_BITS;
+#![tactic(auto)]
+
+ghost use Rattle.std.specs.Prelude.{◌≡◌, ◌+◌, ◌*◌, ◌^◌, ◌<◌, ◌≤◌, length, get_or};
+ghost use Rattle.model.specs.Limits.{messages_most};
+ghost use Rattle.relation.specs.Width.{width, word_bits};
+ghost use Rattle.board.specs.Boards.{BoardsBelow};
+ghost use Rattle.board.specs.Masks.{mask_rows, Standing};
+ghost use Rattle.covers.specs.Covers.{RowOf, hidden_by, hidden_at, Hidden, CoverWord, cover_at, Sheet, CoverRows};
+
+use relation::{SENDS, WIDTH, WORD_BITS};
 
 // A count of bits, as an index.
 fn wide(bits: u32) -> usize
-    ensures { λ r. ⌜ (r ≡ bits) × (r < 2 ^ 32) ⌝ }
+    ensures { (result ≡ bits) × (result < 2 ^ 32) }
 {
     bits as usize
 }
 
 // All that is before the send is hidden, where it is one of the sheet's.
 fn hide_by(words: &[u64], hidden: &mut [u64], count: usize, send: usize)
-    requires { ⌜ (count ≤ messagesMost) × (2 * count * width ≤ length (now words)) ⌝ }
-    requires { ⌜ width ≤ length (now hidden) ⌝ }
-    ensures { λ _. ⌜ now (hidden .exit) ≡ hiddenBy (now (words .entry)) count send (now (hidden .entry)) ⌝ }
+    requires count_le_messages_most { (count ≤ messages_most) × (2 * count * width ≤ length words.now) }
+    requires width_in_bounds { width ≤ length hidden.old }
+    ensures { hidden.new ≡ hidden_by words.now count send hidden.old }
 {
     let events = 2 * count;
     if send < events {
@@ -33,10 +32,10 @@ fn hide_by(words: &[u64], hidden: &mut [u64], count: usize, send: usize)
 
 // Each send in word i of e's row hides all that is before it: from send to send by trailing zeros.
 fn hide_word(words: &[u64], hidden: &mut [u64], count: usize, e: usize, i: usize)
-    requires { ⌜ (e < count) × (count ≤ messagesMost) ⌝ }
-    requires { ⌜ (2 * count * width ≤ length (now words)) × (i < width) ⌝ }
-    requires { ⌜ Hidden (now words) count e (wordBits * i) (now hidden) ⌝ }
-    ensures { λ _. ⌜ Hidden (now (words .entry)) count e (wordBits * (i + 1)) (now (hidden .exit)) ⌝ }
+    requires e_lt_count { (e < count) × (count ≤ messages_most) }
+    requires width_in_bounds { (2 * count * width ≤ length words.now) × (i < width) }
+    requires hidden { Hidden words.now count e (word_bits * i) hidden.old }
+    ensures { Hidden words.now count e (word_bits * (i + 1)) hidden.new }
 {
     let at = 2 * e * WIDTH + i;
     let sends = words[at] & SENDS;
@@ -54,9 +53,9 @@ fn hide_word(words: &[u64], hidden: &mut [u64], count: usize, e: usize, i: usize
 
 // What is before a send that is before e's send.
 fn hidden_from(words: &[u64], count: usize, e: usize) -> [u64; WIDTH]
-    requires { ⌜ (e < count) × (count ≤ messagesMost) ⌝ }
-    requires { ⌜ 2 * count * width ≤ length (now words) ⌝ }
-    ensures { λ r. ⌜ RowOf (hiddenAt (now (words .entry)) count e) r ⌝ }
+    requires e_lt_count { (e < count) × (count ≤ messages_most) }
+    requires width_in_bounds { 2 * count * width ≤ length words.now }
+    ensures { RowOf (hidden_at words.now count e) result }
 {
     let mut hidden = [0u64; WIDTH];
     for i in 0..WIDTH {
@@ -67,7 +66,7 @@ fn hidden_from(words: &[u64], count: usize, e: usize) -> [u64; WIDTH]
 
 // Of a word of e's row: what is not hidden, nor the send of a receive in the row, and is on the board of the mask.
 fn cover_word(row: u64, hidden: u64, mask: u64) -> u64
-    ensures { λ r. ⌜ CoverWord row hidden mask r ⌝ }
+    ensures { CoverWord row hidden mask result }
 {
     let sent = (row >> 1) & SENDS;
     row & !(hidden | sent) & mask
@@ -75,10 +74,10 @@ fn cover_word(row: u64, hidden: u64, mask: u64) -> u64
 
 // Word i of the events on the board of e's send.
 fn mask_word(masks: &[u64], boards: &[u8], count: usize, e: usize, i: usize) -> u64
-    requires { ⌜ maskRows * width ≤ length (now masks) ⌝ }
-    requires { ⌜ (2 * count ≤ length (now boards)) × BoardsBelow count (now boards) ⌝ }
-    requires { ⌜ (e < count) × (i < width) ⌝ }
-    ensures { λ r. ⌜ r ≡ getD (now (masks .entry)) (getD (now (boards .entry)) (2 * e) 0 * width + i) 0 ⌝ }
+    requires width_in_bounds { mask_rows * width ≤ length masks.now }
+    requires count_in_bounds { (2 * count ≤ length boards.now) × BoardsBelow count boards.now }
+    requires e_lt_count { (e < count) × (i < width) }
+    ensures { result ≡ get_or masks.now (get_or boards.now (2 * e) 0 * width + i) 0 }
 {
     let send = 2 * e;
     let board = board::board_of(boards, send);
@@ -88,9 +87,9 @@ fn mask_word(masks: &[u64], boards: &[u8], count: usize, e: usize, i: usize) -> 
 
 // The events directly before e's send, on its board.
 fn cover(words: &[u64], masks: &[u64], boards: &[u8], count: usize, e: usize) -> [u64; WIDTH]
-    requires { ⌜ Standing count (now boards) (now words) (now masks) ⌝ }
-    requires { ⌜ e < count ⌝ }
-    ensures { λ r. ⌜ RowOf (coverAt (now (words .entry)) (now (boards .entry)) count e) r ⌝ }
+    requires standing { Standing count boards.now words.now masks.now }
+    requires e_lt_count { e < count }
+    ensures { RowOf (cover_at words.now boards.now count e) result }
 {
     let hidden = hidden_from(words, count, e);
     let send = 2 * e;
@@ -106,8 +105,8 @@ fn cover(words: &[u64], masks: &[u64], boards: &[u8], count: usize, e: usize) ->
 
 // The row of each receive becomes the events directly before its send.
 pub fn cover_rows(words: &mut [u64], boards: &[u8], count: usize)
-    requires { ⌜ Sheet count (now boards) (now words) ⌝ }
-    ensures { λ _. ⌜ CoverRows count (now (boards .entry)) (now (words .entry)) (now (words .exit)) ⌝ }
+    requires { Sheet count boards.now words.old }
+    ensures { CoverRows count boards.now words.old words.new }
 {
     let mut masks = [0u64; board::MASK_WORDS];
     board::board_masks(boards, count, &mut masks);

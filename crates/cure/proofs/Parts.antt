@@ -1,111 +1,111 @@
 -- What the parts of the call hand on to each other, and the whole promise from it. Assumes nothing.
-use mathlib.Core.Path.{_≡_, refl, sym, _∙_, ap, subst}
+use mathlib.Core.Path.{◌≡◌, refl, sym, ◌∙◌, ap, subst}
 use mathlib.Core.Bool.{Bool, true, false, cond, or-true}
-use mathlib.Core.List.{List, _++_}
-use Prim.Native.Nat.{ℕ, _+_, _*_, _<_, _≤_}
+use mathlib.Core.List.{List, ◌++◌}
+use Prim.Native.Nat.{ℕ, ◌+◌, ◌*◌, ◌<◌, ◌≤◌}
 use native.Mathlib.Omega.{arith}
 use lib.Dec.{ltb}
 use lib.ListN.{length, drop}
 use borrow.Author.Tests.{lt-ltb, le-ltb}
-use Rattle·model.specs.Limits.{rowsMost, scratchLeast, sheetOutputLeast}
-use Rattle·model.specs.Refusal.{Out, ok, refusal, andThen, benchRefusal, curedRowsRefusal}
-use Rattle·model.specs.Order.{Scenario}
-use Rattle·model.specs.Answer.{sheetOf, scratchBehind}
-use Rattle·model.specs.Cure.{Written, headingText, rowsText, curedRows, curedText, curedOf, cureOf, outputWith, cureNumbers, CureChecked}
-use Rattle·model.proofs.Accepted.{sheet-causal, sheet-count}
-use Rattle·model.proofs.Cure.{cure-promised}
-use Rattle·relation.specs.Rows.{cleared}
-use Rattle·relation.proofs.Cleared.{cleared-all}
-use Rattle·relation.specs.Scenario.{scenarioIn}
-use Rattle·expansion.specs.declared.Expanded.{Expanded}
-use Rattle·expansion.specs.declared.Expanded.the-variants as expanded
-use Rattle·scenario.specs.Contract.{SheetIn}
-use Rattle·scenario.proofs.Laws.{sheet-refused, sheet-is, scratch-behind}
-use Rattle·sheet_text.specs.Writing.{Writes}
-use Rattle·covers.specs.Covers.{CoverRows}
-use Rattle·order_count.specs.Orders.{ordersTo}
-use Rattle·cured_sheet.specs.Sheet.{rowsIn, textIn}
-use Rattle·cured_sheet.proofs.Rows.{rows-count}
-use Rattle·cure·specs.specs.declared.Answer.{Answer}
-use Rattle·cure·specs.specs.declared.Answer.the-variants as answer
-use Rattle·cure·specs.specs.Parts.{numbersFor, outcomeIn, Decides}
-use Rattle·cure·proofs.proofs.Bridge.{rows-same}
+use Rattle.model.specs.Limits.{rows_most, scratch_least, sheet_output_least}
+use Rattle.model.specs.Refusal.{Out, ok, refusal, and_then, bench_refusal, cured_rows_refusal}
+use Rattle.model.specs.Order.{Scenario}
+use Rattle.model.specs.Answer.{sheet_of, scratch_behind}
+use Rattle.model.specs.Cure.{Written, heading_text, rows_text, cured_rows, cured_text, cured_of, cure_of, output_with, cure_numbers, CureChecked}
+use Rattle.model.proofs.Accepted.{sheet_causal, sheet_count}
+use Rattle.model.proofs.Cure.{cure_promised}
+use Rattle.relation.specs.Rows.{cleared}
+use Rattle.relation.proofs.Cleared.{cleared_all}
+use Rattle.relation.specs.Scenario.{scenario_in}
+use Rattle.expansion.specs.declared.Expanded.{Expanded}
+use Rattle.expansion.specs.declared.Expanded.TheVariants as expanded
+use Rattle.scenario.specs.Contract.{SheetIn}
+use Rattle.scenario.proofs.Laws.{sheet_refused, sheet_is, scratch_behind_holds}
+use Rattle.sheet_text.specs.Writing.{Writes}
+use Rattle.covers.specs.Covers.{CoverRows}
+use Rattle.order_count.specs.Orders.{orders_to}
+use Rattle.cured_sheet.specs.Sheet.{rows_in, text_in}
+use Rattle.cured_sheet.proofs.Rows.{rows_count}
+use Rattle.cure.specs.declared.Answer.{Answer}
+use Rattle.cure.specs.declared.Answer.TheVariants as answer
+use Rattle.cure.specs.Parts.{numbers_for, outcome_in, Decides}
+use Rattle.cure.proofs.Bridge.{rows_same}
 
 -- The rows are counted, and the sheet is written or not.
-module _ (boards made : List ℕ) (count orders : ℕ) (counts : orders ≡ length (ordersTo made count (2 * count))) where
-  whole : length (rowsIn count boards made) ≡ 1 + count + orders
-  whole = rows-count boards made count ∙ ap (λ (k : ℕ). 1 + count + k) (sym counts)
+module _ (boards made : List ℕ) (count orders : ℕ) (counts : orders ≡ length (orders_to made count (2 * count))) where
+  whole : length (rows_in count boards made) ≡ 1 + count + orders
+  whole = rows_count boards made count ∙ ap (λ (k : ℕ). 1 + count + k) (sym counts)
 
-  pub rows-fit : 1 + count + orders ≤ rowsMost → length (rowsIn count boards made) ≤ rowsMost
-  rows-fit h = omega (arith, whole)
+  pub rows_fit : 1 + count + orders ≤ rows_most → length (rows_in count boards made) ≤ rows_most
+  rows_fit h = omega (arith, whole)
 
-  pub too-many : (output : List ℕ) → rowsMost < 1 + count + orders → Decides (outcomeIn count boards made) output output (answer.Refused curedRowsRefusal 0)
-  unfolding outcomeIn outputWith
-  too-many output h =
-      let l : rowsMost < length (rowsIn count boards made) = omega (arith, whole) in
-      record { answer = rw (lt-ltb rowsMost (length (rowsIn count boards made)) l); outputLeft = rw (lt-ltb rowsMost (length (rowsIn count boards made)) l) }
+  pub too_many : (output : List ℕ) → rows_most < 1 + count + orders → Decides (outcome_in count boards made) output output (answer.Refused cured_rows_refusal 0)
+  unfolding outcome_in output_with
+  too_many output h =
+      let l : rows_most < length (rows_in count boards made) = omega (arith, whole) in
+      record { answer = rw (lt-ltb rows_most (length (rows_in count boards made)) l); output_left = rw (lt-ltb rows_most (length (rows_in count boards made)) l) }
 
-  pub sheet-decides : (output exit : List ℕ) (n : ℕ) → 1 + count + orders ≤ rowsMost → Writes (textIn count boards made) output exit n
-      → Decides (outcomeIn count boards made) output exit (answer.Written n)
-  unfolding outcomeIn outputWith
-  sheet-decides output exit n h w =
-      let l : length (rowsIn count boards made) ≤ rowsMost = rows-fit h in
+  pub sheet_decides : (output exit : List ℕ) (n : ℕ) → 1 + count + orders ≤ rows_most → Writes (text_in count boards made) output exit n
+      → Decides (outcome_in count boards made) output exit (answer.Written n)
+  unfolding outcome_in output_with
+  sheet_decides output exit n h w =
+      let l : length (rows_in count boards made) ≤ rows_most = rows_fit h in
       record {
-        answer = rw (le-ltb rowsMost (length (rowsIn count boards made)) l, ← w .long);
-        outputLeft = rw (le-ltb rowsMost (length (rowsIn count boards made)) l) (w .bytes);
+        answer = rw (le-ltb rows_most (length (rows_in count boards made)) l, ← w.long);
+        output_left = rw (le-ltb rows_most (length (rows_in count boards made)) l) w.bytes;
       }
 
 -- What the way to the scenario hands on.
 module _ (text boards words : List ℕ) (v : Expanded) (p : SheetIn text boards words v) (output : List ℕ) where
-  pub scenario-refused : (number line : ℕ) → v ≡ expanded.Refused number line → Decides (andThen (sheetOf text) curedOf) output output (answer.Refused number line)
-  unfolding andThen outputWith
-  scenario-refused number line i =
-      let e = sheet-refused text boards words v p number line i in
-      record { answer = rw e; outputLeft = rw e }
+  pub scenario_refused : (number line : ℕ) → v ≡ expanded.Refused number line → Decides (and_then (sheet_of text) cured_of) output output (answer.Refused number line)
+  unfolding and_then output_with
+  scenario_refused number line i =
+      let e = sheet_refused text boards words v p number line i in
+      record { answer = rw e; output_left = rw e }
 
-  pub scenario-decided : (count : ℕ) → v ≡ expanded.Messages count → (made exit : List ℕ) (r : Answer) → CoverRows count boards words made
-      → Decides (outcomeIn count boards made) output exit r → Decides (andThen (sheetOf text) curedOf) output exit r
-  unfolding andThen outcomeIn curedOf textIn curedText
-  scenario-decided count i made exit r R d =
-      let S = scenarioIn count boards words in
-      let e : sheetOf text ≡ ok S = sheet-is text boards words v p count i in
-      let rows = rows-same count boards words (sheet-count text S e) (sheet-causal text S e) made R in
-      let outcome : outcomeIn count boards made ≡ curedOf S =
-      ap (λ (rs : List Written). cond (ltb rowsMost (length rs)) (refusal curedRowsRefusal 0) (ok (headingText ++ rowsText rs))) rows in
-      subst (λ (o : Out (List ℕ)). Decides o output exit r) (outcome ∙ sym (ap (λ (o : Out Scenario). andThen o curedOf) e)) d
+  pub scenario_decided : (count : ℕ) → v ≡ expanded.Messages count → (made exit : List ℕ) (r : Answer) → CoverRows count boards words made
+      → Decides (outcome_in count boards made) output exit r → Decides (and_then (sheet_of text) cured_of) output exit r
+  unfolding and_then outcome_in cured_of text_in cured_text
+  scenario_decided count i made exit r R d =
+      let S = scenario_in count boards words in
+      let e : sheet_of text ≡ ok S = sheet_is text boards words v p count i in
+      let rows = rows_same count boards words (sheet_count text S e) (sheet_causal text S e) made R in
+      let outcome : outcome_in count boards made ≡ cured_of S =
+      ap (λ (rs : List Written). cond (ltb rows_most (length rs)) (refusal cured_rows_refusal 0) (ok (heading_text ++ rows_text rs))) rows in
+      subst (λ (o : Out (List ℕ)). Decides o output exit r) (outcome ∙ sym (ap (λ (o : Out Scenario). and_then o cured_of) e)) d
 
 -- What each return of `cure` is to show: refusal 2 for a short buffer, else what the sheet decides.
 module _ (text scratch output : List ℕ) where
-  refuses : cureOf text (length scratch) (length output) ≡ refusal benchRefusal 0 → CureChecked text scratch scratch output output (numbersFor (answer.Refused benchRefusal 0))
-  unfolding scratchBehind outputWith
-  refuses e = cure-promised text scratch scratch output output _ (rw e) (rw e) (rw e)
+  refuses : cure_of text (length scratch) (length output) ≡ refusal bench_refusal 0 → CureChecked text scratch scratch output output (numbers_for (answer.Refused bench_refusal 0))
+  unfolding scratch_behind output_with
+  refuses e = cure_promised text scratch scratch output output _ (rw e) (rw e) (rw e)
 
-  pub refuses-scratch : length scratch < scratchLeast → CureChecked text scratch scratch output output (numbersFor (answer.Refused benchRefusal 0))
-  unfolding cureOf
-  refuses-scratch l = refuses (rw (lt-ltb (length scratch) scratchLeast l))
+  pub refuses_scratch : length scratch < scratch_least → CureChecked text scratch scratch output output (numbers_for (answer.Refused bench_refusal 0))
+  unfolding cure_of
+  refuses_scratch l = refuses (rw (lt-ltb (length scratch) scratch_least l))
 
-  pub refuses-output : length output < sheetOutputLeast → CureChecked text scratch scratch output output (numbersFor (answer.Refused benchRefusal 0))
-  unfolding cureOf
-  refuses-output l = refuses (rw (lt-ltb (length output) sheetOutputLeast l, or-true (ltb (length scratch) scratchLeast)))
+  pub refuses_output : length output < sheet_output_least → CureChecked text scratch scratch output output (numbers_for (answer.Refused bench_refusal 0))
+  unfolding cure_of
+  refuses_output l = refuses (rw (lt-ltb (length output) sheet_output_least l, or-true (ltb (length scratch) scratch_least)))
 
   -- refusal 15 is behind the sheet's, so the rows do not change what is left in the scratch
-  scratch-same : (o : Out Scenario) → scratchBehind o scratch ≡ scratchBehind (andThen o curedOf) scratch
-  unfolding scratchBehind andThen curedOf
-  scratch-same (refusal number line) = refl
-  scratch-same (ok S) = go (ltb rowsMost (length (curedRows S)))
+  scratch_same : (o : Out Scenario) → scratch_behind o scratch ≡ scratch_behind (and_then o cured_of) scratch
+  unfolding scratch_behind and_then cured_of
+  scratch_same (refusal number line) = refl
+  scratch_same (ok S) = go (ltb rows_most (length (cured_rows S)))
     where
-      go : (b : Bool) → scratchBehind (ok S) scratch ≡ scratchBehind (cond b (refusal curedRowsRefusal 0) (ok (curedText S))) scratch
+      go : (b : Bool) → scratch_behind (ok S) scratch ≡ scratch_behind (cond b (refusal cured_rows_refusal 0) (ok (cured_text S))) scratch
       go true = refl
       go false = refl
 
-  pub answers : (scratchExit outputExit used : List ℕ) (n : ℕ) (r : Answer) (w : ℕ) → scratchLeast ≤ length scratch → sheetOutputLeast ≤ length output → length used ≡ n
-      → n ≤ scratchLeast → scratchExit ≡ cleared w (used ++ drop n scratch) → w ≡ scratchLeast → Decides (andThen (sheetOf text) curedOf) output outputExit r
-      → CureChecked text scratch scratchExit output outputExit (numbersFor r)
-  unfolding cureOf
-  answers scratchExit outputExit used n r w l k e m s all d =
-      let outcome : cureOf text (length scratch) (length output) ≡ andThen (sheetOf text) curedOf =
-      rw (le-ltb (length scratch) scratchLeast l, le-ltb (length output) sheetOutputLeast k) in
-      cure-promised text scratch scratchExit output outputExit (numbersFor r)
-      (d .answer ∙ ap cureNumbers (sym outcome))
-      (cleared-all scratchLeast w (used ++ drop n scratch) scratchExit s all ∙ scratch-behind text scratch used n e m ∙ scratch-same (sheetOf text) ∙ ap (λ (o : Out (List ℕ)). scratchBehind o scratch) (sym outcome))
-      (d .outputLeft ∙ ap (λ (o : Out (List ℕ)). outputWith o output) (sym outcome))
+  pub answers : (scratch_exit output_exit used : List ℕ) (n : ℕ) (r : Answer) (w : ℕ) → scratch_least ≤ length scratch → sheet_output_least ≤ length output → length used ≡ n
+      → n ≤ scratch_least → scratch_exit ≡ cleared w (used ++ drop n scratch) → w ≡ scratch_least → Decides (and_then (sheet_of text) cured_of) output output_exit r
+      → CureChecked text scratch scratch_exit output output_exit (numbers_for r)
+  unfolding cure_of
+  answers scratch_exit output_exit used n r w l k e m s all d =
+      let outcome : cure_of text (length scratch) (length output) ≡ and_then (sheet_of text) cured_of =
+      rw (le-ltb (length scratch) scratch_least l, le-ltb (length output) sheet_output_least k) in
+      cure_promised text scratch scratch_exit output output_exit (numbers_for r)
+      (d.answer ∙ ap cure_numbers (sym outcome))
+      (cleared_all scratch_least w (used ++ drop n scratch) scratch_exit s all ∙ scratch_behind_holds text scratch used n e m ∙ scratch_same (sheet_of text) ∙ ap (λ (o : Out (List ℕ)). scratch_behind o scratch) (sym outcome))
+      (d.output_left ∙ ap (λ (o : Out (List ℕ)). output_with o output) (sym outcome))

@@ -1,28 +1,23 @@
 -- The answer's numbers, and what the parts of the call promise each other. Assumes nothing.
-use mathlib.Core.Path.{_≡_}
-use mathlib.Core.Bool.{cond}
-use mathlib.Core.List.{List}
-use Prim.Native.Nat.{ℕ}
-use lib.Dec.{ltb}
-use lib.ListN.{length}
-use Rattle·model.specs.Limits.{rowsMost}
-use Rattle·model.specs.Refusal.{Out, ok, refusal, curedRowsRefusal}
-use Rattle·model.specs.Cure.{outputWith, CureNumbers, writtenWord, refusedWord, cureNumbers}
-use Rattle·cured_sheet.specs.Sheet.{rowsIn, textIn}
-use Rattle·cure·specs.specs.declared.Answer.{Answer}
-use Rattle·cure·specs.specs.declared.Answer.the-variants as answer
+use Rattle.std.specs.Prelude.{◌≡◌, cond, List, ℕ, ltb, length}
+use Rattle.model.specs.Limits.{rows_most}
+use Rattle.model.specs.Refusal.{Out, ok, refusal, cured_rows_refusal}
+use Rattle.model.specs.Cure.{output_with, CureNumbers, written_word, refused_word, cure_numbers}
+use Rattle.cured_sheet.specs.Sheet.{rows_in, text_in}
+use Rattle.cure.specs.declared.Answer.{Answer}
+use Rattle.cure.specs.declared.Answer.TheVariants as answer
 
 -- the word and the two numbers of an answer
-abbrev pub numbersFor : Answer → CureNumbers
-numbersFor (answer.Written length) = record { word = writtenWord; one = length; two = 0 }
-numbersFor (answer.Refused number line) = record { word = refusedWord; one = number; two = line }
+abbrev pub numbers_for : Answer → CureNumbers
+numbers_for (answer.Written length) = record { word = written_word; one = length; two = 0 }
+numbers_for (answer.Refused number line) = record { word = refused_word; one = number; two = line }
 
 -- the text, unless it has too many rows
-unfoldable pub outcomeIn : ℕ → List ℕ → List ℕ → Out (List ℕ)
-outcomeIn count boards words =
-    cond (ltb rowsMost (length (rowsIn count boards words))) (refusal curedRowsRefusal 0) (ok (textIn count boards words))
+unfoldable pub outcome_in : ℕ → List ℕ → List ℕ → Out (List ℕ)
+outcome_in count boards words =
+    cond (ltb rows_most (length (rows_in count boards words))) (refusal cured_rows_refusal 0) (ok (text_in count boards words))
 
 -- the answer and the output for a text or a refusal
-pub record Decides (o : Out (List ℕ)) (output outputExit : List ℕ) (r : Answer) : Type 0 where
-  pub answer : numbersFor r ≡ cureNumbers o
-  pub outputLeft : outputExit ≡ outputWith o output
+pub record Decides (o : Out (List ℕ)) (output output_exit : List ℕ) (r : Answer) : Type 0 where
+  pub answer : numbers_for r ≡ cure_numbers o
+  pub output_left : output_exit ≡ output_with o output

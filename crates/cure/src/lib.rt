@@ -1,18 +1,20 @@
 // The loosest change that cures a sheet: a text, scratch words and output bytes in; the cured sheet as text out, or the refusal.
-ghost use mathlib.Core.Path.{_≡_};
-ghost use Prim.Native.Nat.{_*_, _≤_};
-ghost use lib.ListN.{length};
-ghost use Rattle·model.specs.Limits.{messagesMost, sheetOutputLeast};
-ghost use Rattle·model.specs.Answer.{sheetOf};
-ghost use Rattle·model.specs.Refusal.{andThen};
-ghost use Rattle·model.specs.Cure.{curedOf, CureChecked};
-ghost use Rattle·relation.specs.Width.{width};
-ghost use Rattle·scenario.specs.Contract.{Fit};
-ghost use Rattle·covers.specs.Covers.{CoverRows};
-ghost use Rattle·cure·specs.specs.Parts.{outcomeIn, numbersFor, Decides};
+#![tactic(auto)]
+
+ghost use Rattle.std.specs.Prelude.{◌≡◌, ◌*◌, ◌≤◌, length};
+ghost use Rattle.model.specs.Limits.{messages_most, sheet_output_least};
+ghost use Rattle.model.specs.Answer.{sheet_of};
+ghost use Rattle.model.specs.Refusal.{and_then};
+ghost use Rattle.model.specs.Cure.{cured_of, CureChecked};
+ghost use Rattle.relation.specs.Width.{width};
+ghost use Rattle.scenario.specs.Contract.{Fit};
+ghost use Rattle.covers.specs.Covers.{CoverRows};
+ghost use Rattle.cure.specs.Parts.{outcome_in, numbers_for, Decides};
+
 use expansion::Expanded;
 
 // Written, with the text's length; or refused, with number and line.
+#[derive(Clone, Copy)]
 pub enum Answer {
     Written(usize),
     Refused(u8, usize),
@@ -20,10 +22,10 @@ pub enum Answer {
 
 // A sheet: what stands directly before each send, and its cure, unless that has too many rows.
 fn decide(words: &mut [u64], boards: &[u8], count: usize, output: &mut [u8]) -> Answer
-    requires { ⌜ Fit count (now boards) (now words) ⌝ }
-    requires { ⌜ sheetOutputLeast ≤ length (now output) ⌝ }
-    ensures { λ r. ⌜ CoverRows count (now (boards .entry)) (now (words .entry)) (now (words .exit)) ⌝ }
-    ensures { λ r. ⌜ Decides (outcomeIn count (now (boards .entry)) (now (words .exit))) (now (output .entry)) (now (output .exit)) r ⌝ }
+    requires fit { Fit count boards.now words.old }
+    requires sheet_output_least_in_bounds { sheet_output_least ≤ length output.old }
+    ensures cover_rows { CoverRows count boards.now words.old words.new }
+    ensures decides { Decides (outcome_in count boards.now words.new) output.old output.new result }
 {
     covers::cover_rows(words, boards, count);
     let orders = order_count::count_orders(words, count);
@@ -36,9 +38,9 @@ fn decide(words: &mut [u64], boards: &[u8], count: usize, output: &mut [u8]) -> 
 
 // A text: its scenario, in the words of the relation, and its cure.
 fn judge(text: &[u8], words: &mut [u64], output: &mut [u8]) -> Answer
-    requires { ⌜ length (now words) ≡ 2 * messagesMost * width ⌝ }
-    requires { ⌜ sheetOutputLeast ≤ length (now output) ⌝ }
-    ensures { λ r. ⌜ Decides (andThen (sheetOf (now (text .entry))) curedOf) (now (output .entry)) (now (output .exit)) r ⌝ }
+    requires words_len { length words.old ≡ 2 * messages_most * width }
+    requires sheet_output_least_in_bounds { sheet_output_least ≤ length output.old }
+    ensures { Decides (and_then (sheet_of text.now) cured_of) output.old output.new result }
 {
     let mut boards = [0u8; model::EVENTS_MOST];
     let outcome = scenario::scenario_of(text, &mut boards, words);
@@ -50,7 +52,7 @@ fn judge(text: &[u8], words: &mut [u64], output: &mut [u8]) -> Answer
 
 // The call: refusal 2 touches nothing; behind every other answer the scratch is cleared.
 pub fn cure(text: &[u8], scratch: &mut [u64], output: &mut [u8]) -> Answer
-    ensures { λ r. ⌜ CureChecked (now (text .entry)) (now (scratch .entry)) (now (scratch .exit)) (now (output .entry)) (now (output .exit)) (numbersFor r) ⌝ }
+    ensures { CureChecked text.now scratch.old scratch.new output.old output.new (numbers_for result) }
 {
     if scratch.len() < model::SCRATCH_LEAST {
         return Answer::Refused(model::BENCH, 0);

@@ -1,44 +1,41 @@
 -- The cured sheet as the code has it: boards, and words whose receives' rows hold what stands directly before the sends. That it is the
 -- model's is a law of crate cure. Assumes nothing.
-use mathlib.Core.Bool.{cond}
-use mathlib.Core.List.{List, [], _∷_, _++_}
-use Prim.Native.Nat.{ℕ, _+_, _*_}
+use Rattle.std.specs.Prelude.{cond, List, [], ◌∷◌, ◌++◌, ℕ, ◌+◌, ◌*◌, get_or}
 use Prim.Native.Char.{code}
-use lib.ListN.{getD}
-use Rattle·model.specs.Cure.{Written, messageRows, orderRows, rowText, rowsText, headingText}
-use Rattle·relation.specs.Width.{width}
-use Rattle·relation.specs.Rows.{holds}
-use Rattle·relation.specs.Scenario.{scenarioIn}
-use Rattle·sheet_text.specs.Writing.{rowBytesMost, headingBytes}
-use Rattle·order_count.specs.Orders.{ordersTo}
+use Rattle.model.specs.Cure.{Written, message_rows, order_rows, row_text, rows_text, heading_text}
+use Rattle.relation.specs.Width.{width}
+use Rattle.relation.specs.Rows.{holds}
+use Rattle.relation.specs.Scenario.{scenario_in}
+use Rattle.sheet_text.specs.Writing.{row_bytes_most, heading_bytes}
+use Rattle.order_count.specs.Orders.{orders_to}
 
 -- the M row of message m, whose boards stand at the numbers of its events, and the M rows
-abbrev pub messageRow : List ℕ → ℕ → Written
-messageRow boards m = record { letter = code "M"; one = getD boards (2 * m) 0; two = getD boards (2 * m + 1) 0 }
+abbrev pub message_row : List ℕ → ℕ → Written
+message_row boards m = record { letter = code "M"; one = get_or boards (2 * m) 0; two = get_or boards (2 * m + 1) 0 }
 
-abbrev pub messagesIn : List ℕ → ℕ → List Written
-messagesIn boards m = messageRows (scenarioIn 0 boards []) m
+abbrev pub messages_in : List ℕ → ℕ → List Written
+messages_in boards m = message_rows (scenario_in 0 boards []) m
 
 -- the P row of event x with e's send, if there is one
-abbrev pub orderIf : List ℕ → ℕ → ℕ → List (ℕ × ℕ)
-orderIf words x e = cond (holds width words (2 * e + 1) x) ((x, 2 * e) ∷ []) []
+abbrev pub order_if : List ℕ → ℕ → ℕ → List (ℕ × ℕ)
+order_if words x e = cond (holds width words (2 * e + 1) x) ((x, 2 * e) ∷ []) []
 
 -- the heading and the row of sheet 0, and those with the M rows
-abbrev pub sheetRow : Written
-sheetRow = record { letter = code "S"; one = 0; two = 0 }
+abbrev pub sheet_row : Written
+sheet_row = record { letter = code "S"; one = 0; two = 0 }
 
-abbrev pub headText : List ℕ
-headText = headingText ++ rowText sheetRow
+abbrev pub head_text : List ℕ
+head_text = heading_text ++ row_text sheet_row
 
-abbrev pub listedText : List ℕ → ℕ → List ℕ
-listedText boards count = headText ++ rowsText (messagesIn boards count)
+abbrev pub listed_text : List ℕ → ℕ → List ℕ
+listed_text boards count = head_text ++ rows_text (messages_in boards count)
 
-abbrev pub headMost : ℕ
-headMost = headingBytes + rowBytesMost
+abbrev pub head_most : ℕ
+head_most = heading_bytes + row_bytes_most
 
-unfoldable pub rowsIn : ℕ → List ℕ → List ℕ → List Written
-rowsIn count boards words =
-    sheetRow ∷ messagesIn boards count ++ orderRows (ordersTo words count (2 * count))
+unfoldable pub rows_in : ℕ → List ℕ → List ℕ → List Written
+rows_in count boards words =
+    sheet_row ∷ messages_in boards count ++ order_rows (orders_to words count (2 * count))
 
-unfoldable pub textIn : ℕ → List ℕ → List ℕ → List ℕ
-textIn count boards words = headingText ++ rowsText (rowsIn count boards words)
+unfoldable pub text_in : ℕ → List ℕ → List ℕ → List ℕ
+text_in count boards words = heading_text ++ rows_text (rows_in count boards words)

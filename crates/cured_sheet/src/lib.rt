@@ -1,17 +1,17 @@
 // The cured sheet as text, row by row: each row starts at the byte after the one before, and its writer is lent the rest of the output.
-ghost use mathlib.Core.Path.{_≡_};
-ghost use Prim.Native.Nat.{_+_, _*_, _/_, _%_, _<_, _≤_};
-ghost use lib.ListN.{length};
-ghost use Rattle·model.specs.Limits.{messagesMost, numberMost, rowsMost, sheetOutputLeast};
-ghost use Rattle·model.specs.Cure.{rowText, rowsText, orderRows};
-ghost use Rattle·relation.specs.Width.{width, wordBits};
-ghost use Rattle·relation.specs.Rows.{has};
-ghost use Rattle·sheet_text.specs.Writing.{Writes, rowBytesMost};
-ghost use Rattle·order_count.specs.Orders.{ordersFrom, ordersTo};
-ghost use Rattle·cured_sheet·specs.specs.Sheet.{messageRow, messagesIn, orderIf, headMost, headText, listedText, rowsIn, textIn};
-ghost use Rattle·cured_sheet·specs.specs.Spans.{wordBefore, EventsOf, NoneFirst, NoneLast, SpanOf, SpanHeld};
-use relation::WIDTH;
-use relation::WORD_BITS;
+#![tactic(auto)]
+
+ghost use Rattle.std.specs.Prelude.{◌≡◌, ◌+◌, ◌*◌, ◌/◌, ◌%◌, ◌<◌, ◌≤◌, length};
+ghost use Rattle.model.specs.Limits.{messages_most, number_most, rows_most, sheet_output_least};
+ghost use Rattle.model.specs.Cure.{row_text, rows_text, order_rows};
+ghost use Rattle.relation.specs.Width.{width, word_bits};
+ghost use Rattle.relation.specs.Rows.{has};
+ghost use Rattle.sheet_text.specs.Writing.{Writes, row_bytes_most};
+ghost use Rattle.order_count.specs.Orders.{orders_from, orders_to};
+ghost use Rattle.cured_sheet.specs.Sheet.{message_row, messages_in, order_if, head_most, head_text, listed_text, rows_in, text_in};
+ghost use Rattle.cured_sheet.specs.Spans.{word_before, EventsOf, NoneFirst, NoneLast, SpanOf, SpanHeld};
+
+use relation::{WIDTH, WORD_BITS};
 
 // The letters of the rows.
 const SHEET: u8 = 83;
@@ -22,17 +22,17 @@ const ORDER: u8 = 80;
 
 // A board's number, as one of a row.
 fn wide(board: u8) -> u16
-    ensures { λ r. ⌜ r ≡ board ⌝ }
-    ensures { λ r. ⌜ r ≤ numberMost ⌝ }
+    ensures value { result ≡ board }
+    ensures upper_bound { result ≤ number_most }
 {
     board as u16
 }
 
 // The M row of message m.
 fn write_message(boards: &[u8], m: usize, rest: &mut [u8]) -> usize
-    requires { ⌜ (m < messagesMost) × (2 * m + 1 < length (now boards)) ⌝ }
-    requires { ⌜ rowBytesMost ≤ length (now rest) ⌝ }
-    ensures { λ r. ⌜ Writes (rowText (messageRow (now (boards .entry)) m)) (now (rest .entry)) (now (rest .exit)) r ⌝ }
+    requires m_lt_messages_most { (m < messages_most) × (2 * m + 1 < length boards.now) }
+    requires row_bytes_most_in_bounds { row_bytes_most ≤ length rest.old }
+    ensures { Writes (row_text (message_row boards.now m)) rest.old rest.new result }
 {
     let send = 2 * m;
     let receive = send + 1;
@@ -41,10 +41,10 @@ fn write_message(boards: &[u8], m: usize, rest: &mut [u8]) -> usize
 
 // The M rows, in the walk's numbering.
 fn write_messages(boards: &[u8], count: usize, rest: &mut [u8]) -> usize
-    requires { ⌜ (count ≤ messagesMost) × (2 * count ≤ length (now boards)) ⌝ }
-    requires { ⌜ rowBytesMost * count ≤ length (now rest) ⌝ }
-    ensures { λ r. ⌜ Writes (rowsText (messagesIn (now (boards .entry)) count)) (now (rest .entry)) (now (rest .exit)) r ⌝ }
-    ensures { λ r. ⌜ r ≤ rowBytesMost * count ⌝ }
+    requires count_le_messages_most { (count ≤ messages_most) × (2 * count ≤ length boards.now) }
+    requires count_in_bounds { row_bytes_most * count ≤ length rest.old }
+    ensures writes { Writes (rows_text (messages_in boards.now count)) rest.old rest.new result }
+    ensures upper_bound { result ≤ row_bytes_most * count }
 {
     let mut at = 0;
     for m in 0..count {
@@ -55,10 +55,10 @@ fn write_messages(boards: &[u8], count: usize, rest: &mut [u8]) -> usize
 
 // The P row of event x with e's send, where x stands directly before it.
 fn write_order(words: &[u64], x: usize, e: usize, rest: &mut [u8]) -> usize
-    requires { ⌜ (e < messagesMost) × (x < 2 * messagesMost) ⌝ }
-    requires { ⌜ (2 * e + 1) * width + width ≤ length (now words) ⌝ }
-    requires { ⌜ rowBytesMost ≤ length (now rest) ⌝ }
-    ensures { λ r. ⌜ Writes (rowsText (orderRows (orderIf (now (words .entry)) x e))) (now (rest .entry)) (now (rest .exit)) r ⌝ }
+    requires e_lt_messages_most { (e < messages_most) × (x < 2 * messages_most) }
+    requires width_in_bounds { (2 * e + 1) * width + width ≤ length words.now }
+    requires row_bytes_most_in_bounds { row_bytes_most ≤ length rest.old }
+    ensures { Writes (rows_text (order_rows (order_if words.now x e))) rest.old rest.new result }
 {
     let send = 2 * e;
     let receive = send + 1;
@@ -70,9 +70,9 @@ fn write_order(words: &[u64], x: usize, e: usize, rest: &mut [u8]) -> usize
 
 // The word of the events directly before e's send: word w of the row of its receive.
 fn word_before(words: &[u64], e: usize, w: usize) -> u64
-    requires { ⌜ (e < messagesMost) × (w < width) ⌝ }
-    requires { ⌜ (2 * e + 1) * width + width ≤ length (now words) ⌝ }
-    ensures { λ r. ⌜ r ≡ wordBefore (now (words .entry)) w e ⌝ }
+    requires e_lt_messages_most { (e < messages_most) × (w < width) }
+    requires width_in_bounds { (2 * e + 1) * width + width ≤ length words.now }
+    ensures { result ≡ word_before words.now w e }
 {
     let row = (2 * e + 1) * WIDTH;
     let at = row + w;
@@ -81,9 +81,9 @@ fn word_before(words: &[u64], e: usize, w: usize) -> u64
 
 // The events of word w that stand directly before some send.
 fn events_of(words: &[u64], count: usize, w: usize) -> u64
-    requires { ⌜ (count ≤ messagesMost) × (w < width) ⌝ }
-    requires { ⌜ 2 * count * width ≤ length (now words) ⌝ }
-    ensures { λ r. ⌜ EventsOf (now (words .entry)) count w r ⌝ }
+    requires count_le_messages_most { (count ≤ messages_most) × (w < width) }
+    requires width_in_bounds { 2 * count * width ≤ length words.now }
+    ensures { EventsOf words.now count w result }
 {
     let mut events = 0;
     for e in 0..count {
@@ -94,9 +94,9 @@ fn events_of(words: &[u64], count: usize, w: usize) -> u64
 
 // The first message with an event of word w directly before its send; where there is none, all messages.
 fn first_behind(words: &[u64], count: usize, w: usize) -> usize
-    requires { ⌜ (count ≤ messagesMost) × (w < width) ⌝ }
-    requires { ⌜ 2 * count * width ≤ length (now words) ⌝ }
-    ensures { λ r. ⌜ NoneFirst (now (words .entry)) count w r ⌝ }
+    requires count_le_messages_most { (count ≤ messages_most) × (w < width) }
+    requires width_in_bounds { 2 * count * width ≤ length words.now }
+    ensures { NoneFirst words.now count w result }
 {
     for e in 0..count {
         if word_before(words, e, w) != 0 {
@@ -108,9 +108,9 @@ fn first_behind(words: &[u64], count: usize, w: usize) -> usize
 
 // The message behind the last of these; where there is none, 0.
 fn end_behind(words: &[u64], count: usize, w: usize) -> usize
-    requires { ⌜ (count ≤ messagesMost) × (w < width) ⌝ }
-    requires { ⌜ 2 * count * width ≤ length (now words) ⌝ }
-    ensures { λ r. ⌜ NoneLast (now (words .entry)) count w r ⌝ }
+    requires count_le_messages_most { (count ≤ messages_most) × (w < width) }
+    requires width_in_bounds { 2 * count * width ≤ length words.now }
+    ensures { NoneLast words.now count w result }
 {
     let mut end = count;
     while 0 < end {
@@ -124,6 +124,7 @@ fn end_behind(words: &[u64], count: usize, w: usize) -> usize
 }
 
 // Of the events of a word: those directly before some send, the first message with such a send, and the one behind the last.
+#[derive(Clone, Copy)]
 struct Span {
     events: u64,
     first: usize,
@@ -132,9 +133,9 @@ struct Span {
 
 // The span of word w; empty where no event of it stands directly before a send.
 fn span_of(words: &[u64], count: usize, w: usize) -> Span
-    requires { ⌜ (count ≤ messagesMost) × (w < width) ⌝ }
-    requires { ⌜ 2 * count * width ≤ length (now words) ⌝ }
-    ensures { λ r. ⌜ SpanOf (now (words .entry)) count w r ⌝ }
+    requires count_le_messages_most { (count ≤ messages_most) × (w < width) }
+    requires width_in_bounds { 2 * count * width ≤ length words.now }
+    ensures { SpanOf words.now count w result }
 {
     let events = events_of(words, count, w);
     if events == 0 {
@@ -151,10 +152,10 @@ fn span_of(words: &[u64], count: usize, w: usize) -> Span
 
 // The span of event x's word: the one that is held, or that of the next word where one begins.
 fn span_at(words: &[u64], count: usize, x: usize, span: Span) -> Span
-    requires { ⌜ (count ≤ messagesMost) × (x < 2 * count) ⌝ }
-    requires { ⌜ 2 * count * width ≤ length (now words) ⌝ }
-    requires { ⌜ SpanHeld (now words) count x span ⌝ }
-    ensures { λ r. ⌜ SpanOf (now (words .entry)) count (x / wordBits) r ⌝ }
+    requires count_le_messages_most { (count ≤ messages_most) × (x < 2 * count) }
+    requires width_in_bounds { 2 * count * width ≤ length words.now }
+    requires span_held { SpanHeld words.now count x span }
+    ensures { SpanOf words.now count (x / word_bits) result }
 {
     if x % WORD_BITS == 0 {
         return span_of(words, count, x / WORD_BITS);
@@ -164,18 +165,18 @@ fn span_at(words: &[u64], count: usize, x: usize, span: Span) -> Span
 
 // Event x stands directly before some send.
 fn is_before(span: Span, x: usize) -> bool
-    ensures { λ r. ⌜ r ≡ has (span .events) (x % wordBits) ⌝ }
+    ensures { result ≡ has span.events (x % word_bits) }
 {
     (span.events >> (x % WORD_BITS)) & 1 == 1
 }
 
 // The P rows of event x, by the sends that it stands directly before: none of them is outside the span.
 fn write_orders_from(words: &[u64], count: usize, x: usize, span: Span, rest: &mut [u8]) -> usize
-    requires { ⌜ (count ≤ messagesMost) × (x < 2 * count) ⌝ }
-    requires { ⌜ 2 * count * width ≤ length (now words) ⌝ }
-    requires { ⌜ SpanOf (now words) count (x / wordBits) span ⌝ }
-    requires { ⌜ rowBytesMost * length (ordersFrom (now words) x count) + rowBytesMost ≤ length (now rest) ⌝ }
-    ensures { λ r. ⌜ Writes (rowsText (orderRows (ordersFrom (now (words .entry)) x count))) (now (rest .entry)) (now (rest .exit)) r ⌝ }
+    requires count_le_messages_most { (count ≤ messages_most) × (x < 2 * count) }
+    requires width_in_bounds { 2 * count * width ≤ length words.now }
+    requires span_of { SpanOf words.now count (x / word_bits) span }
+    requires row_bytes_most_in_bounds { row_bytes_most * length (orders_from words.now x count) + row_bytes_most ≤ length rest.old }
+    ensures { Writes (rows_text (order_rows (orders_from words.now x count))) rest.old rest.new result }
 {
     if !is_before(span, x) {
         return 0;
@@ -189,10 +190,10 @@ fn write_orders_from(words: &[u64], count: usize, x: usize, span: Span, rest: &m
 
 // All P rows, by x and then y.
 fn write_orders(words: &[u64], count: usize, rest: &mut [u8]) -> usize
-    requires { ⌜ count ≤ messagesMost ⌝ }
-    requires { ⌜ 2 * count * width ≤ length (now words) ⌝ }
-    requires { ⌜ rowBytesMost * length (ordersTo (now words) count (2 * count)) + rowBytesMost ≤ length (now rest) ⌝ }
-    ensures { λ r. ⌜ Writes (rowsText (orderRows (ordersTo (now (words .entry)) count (2 * count)))) (now (rest .entry)) (now (rest .exit)) r ⌝ }
+    requires count_le_messages_most { count ≤ messages_most }
+    requires width_in_bounds { 2 * count * width ≤ length words.now }
+    requires row_bytes_most_in_bounds { row_bytes_most * length (orders_to words.now count (2 * count)) + row_bytes_most ≤ length rest.old }
+    ensures { Writes (rows_text (order_rows (orders_to words.now count (2 * count)))) rest.old rest.new result }
 {
     let events = 2 * count;
     let mut at = 0;
@@ -210,9 +211,9 @@ fn write_orders(words: &[u64], count: usize, rest: &mut [u8]) -> usize
 
 // The heading, and the row of sheet 0.
 fn write_head(output: &mut [u8]) -> usize
-    requires { ⌜ headMost ≤ length (now output) ⌝ }
-    ensures { λ r. ⌜ Writes headText (now (output .entry)) (now (output .exit)) r ⌝ }
-    ensures { λ r. ⌜ r ≤ headMost ⌝ }
+    requires { head_most ≤ length output.old }
+    ensures writes { Writes head_text output.old output.new result }
+    ensures upper_bound { result ≤ head_most }
 {
     let at = sheet_text::write_heading(output);
     at + sheet_text::write_row(&mut output[at..], SHEET, 0, 0)
@@ -220,10 +221,10 @@ fn write_head(output: &mut [u8]) -> usize
 
 // All but the P rows.
 fn write_listed(boards: &[u8], count: usize, output: &mut [u8]) -> usize
-    requires { ⌜ (count ≤ messagesMost) × (2 * count ≤ length (now boards)) ⌝ }
-    requires { ⌜ headMost + rowBytesMost * count ≤ length (now output) ⌝ }
-    ensures { λ r. ⌜ Writes (listedText (now (boards .entry)) count) (now (output .entry)) (now (output .exit)) r ⌝ }
-    ensures { λ r. ⌜ r ≤ headMost + rowBytesMost * count ⌝ }
+    requires count_le_messages_most { (count ≤ messages_most) × (2 * count ≤ length boards.now) }
+    requires count_in_bounds { head_most + row_bytes_most * count ≤ length output.old }
+    ensures writes { Writes (listed_text boards.now count) output.old output.new result }
+    ensures upper_bound { result ≤ head_most + row_bytes_most * count }
 {
     let at = write_head(output);
     at + write_messages(boards, count, &mut output[at..])
@@ -231,11 +232,11 @@ fn write_listed(boards: &[u8], count: usize, output: &mut [u8]) -> usize
 
 // The cured sheet: the heading, sheet 0, the M rows and the P rows, each from the byte behind the one before.
 pub fn write_sheet(words: &[u64], boards: &[u8], count: usize, output: &mut [u8]) -> usize
-    requires { ⌜ (count ≤ messagesMost) × (2 * count ≤ length (now boards)) ⌝ }
-    requires { ⌜ 2 * count * width ≤ length (now words) ⌝ }
-    requires { ⌜ sheetOutputLeast ≤ length (now output) ⌝ }
-    requires { ⌜ length (rowsIn count (now boards) (now words)) ≤ rowsMost ⌝ }
-    ensures { λ r. ⌜ Writes (textIn count (now (boards .entry)) (now (words .entry))) (now (output .entry)) (now (output .exit)) r ⌝ }
+    requires count_le_messages_most { (count ≤ messages_most) × (2 * count ≤ length boards.now) }
+    requires width_in_bounds { 2 * count * width ≤ length words.now }
+    requires sheet_output_least_in_bounds { sheet_output_least ≤ length output.old }
+    requires words_len_bound { length (rows_in count boards.now words.now) ≤ rows_most }
+    ensures { Writes (text_in count boards.now words.now) output.old output.new result }
 {
     let at = write_listed(boards, count, output);
     at + write_orders(words, count, &mut output[at..])

@@ -1,7 +1,10 @@
 // Several makers at the counter: up to eight jobs, each with its place and its words, and a turn at a time for the head of their queue.
-ghost use mathlib.Core.Path.{_≡_};
-ghost use Rattle·model.specs.Dispatcher.{emptyDispatcher, WholeLists};
-ghost use Rattle·dispatcher·specs.specs.Bridge.{dispatcherIn, Holds, emptied, answerIn, AdmitOf, TurnOf, CancelOf};
+#![tactic(auto)]
+
+ghost use Rattle.std.specs.Prelude.{◌≡◌};
+ghost use Rattle.model.specs.Dispatcher.{empty_dispatcher, WholeLists};
+ghost use Rattle.dispatcher.specs.Bridge.{dispatcher_in, Holds, emptied, answer_in, AdmitOf, TurnOf, CancelOf};
+
 use admission::Part;
 pub use held_jobs::Boards;
 use last_turn::Numbers;
@@ -11,6 +14,7 @@ use share::Race;
 // The jobs in the order of their turns; how many numbers were given out; and of each place what the race search of its job has found, and
 // the boards of its events. The relation of a job is in the words of its place.
 #[repr(C)]
+#[derive(Clone, Copy)]
 pub struct Dispatcher {
     pub queue: Queue,
     pub given: u32,
@@ -21,6 +25,7 @@ pub struct Dispatcher {
 // word 0 admitted (one is the job's number, two its place), 1 idle, 2 a turn of job one, 3 job one answered, 4 job one cancelled, 5 refused (one is
 // the number, two the line); the check's answer, zero but on 3; and the dispatcher to go on with.
 #[repr(C)]
+#[derive(Clone, Copy)]
 pub struct DispatcherAnswer {
     pub word: u32,
     pub one: u32,
@@ -32,8 +37,8 @@ pub struct DispatcherAnswer {
 impl Dispatcher {
     // No job is held, and no number was given out.
     pub fn empty() -> Self
-        ensures { λ r. ⌜ r ≡ emptied ⌝ }
-        ensures { λ r. ⌜ dispatcherIn r ≡ emptyDispatcher ⌝ }
+        ensures value { result ≡ emptied }
+        ensures result_value { dispatcher_in result ≡ empty_dispatcher }
     {
         Dispatcher {
             queue: Queue::empty(),
@@ -57,7 +62,7 @@ impl Dispatcher {
         codes: &[u32],
         words: &mut [u64],
     ) -> DispatcherAnswer
-        ensures { λ r. ⌜ AdmitOf self (now (sheets .entry)) (now (lengths .entry)) (now (codes .entry)) (now (words .entry)) (now (words .exit)) (answerIn r) × WholeLists dispatcherIn Holds emptied ⌝ }
+        ensures { AdmitOf self sheets.now lengths.now codes.now words.old words.new (answer_in result) × WholeLists dispatcher_in Holds emptied }
     {
         let queue = self.queue;
         let mut boards = self.boards;
@@ -89,7 +94,7 @@ impl Dispatcher {
     // A turn takes the head of the queue. It reads no sheet and no code. The parts that it may change are taken out and put back, since a value is
     // copied whole wherever it goes.
     pub fn turn(self, words: &mut [u64], trace: &mut [u8]) -> DispatcherAnswer
-        ensures { λ r. ⌜ TurnOf self (now (words .entry)) (now (trace .entry)) (now (words .exit)) (now (trace .exit)) (answerIn r) × WholeLists dispatcherIn Holds emptied ⌝ }
+        ensures { TurnOf self words.old trace.old words.new trace.new (answer_in result) × WholeLists dispatcher_in Holds emptied }
     {
         let queue = self.queue;
         let boards = self.boards;
@@ -118,7 +123,7 @@ impl Dispatcher {
 
     // The job with the number leaves. No sheet and no code is read.
     pub fn cancel(self, number: u32, words: &mut [u64]) -> DispatcherAnswer
-        ensures { λ r. ⌜ CancelOf self number (now (words .entry)) (now (words .exit)) (answerIn r) × WholeLists dispatcherIn Holds emptied ⌝ }
+        ensures { CancelOf self number words.old words.new (answer_in result) × WholeLists dispatcher_in Holds emptied }
     {
         let queue = self.queue;
         let races = self.races;
@@ -142,7 +147,7 @@ impl Dispatcher {
 
 // What an admission may change, from what was taken out.
 fn part_of(queue: Queue, given: u32, race: Race, boards: Boards) -> Part
-    ensures { λ r. ⌜ r ≡ record { queue = queue; given = given; race = race; boards = boards } ⌝ }
+    ensures { result ≡ record { queue = queue; given = given; race = race; boards = boards } }
 {
     Part {
         queue,

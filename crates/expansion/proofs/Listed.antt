@@ -1,48 +1,48 @@
 -- What a caller uses of the walk on a list of options: the scenario of the rows, or the refusal. Assumes nothing.
 use Prim.Native.Nat.{ℕ}
-use mathlib.Core.Path.{_≡_, refl, sym, _∙_, ap}
+use mathlib.Core.Path.{◌≡◌, refl, sym, ◌∙◌, ap}
 use mathlib.Core.Bool.{Bool}
 use mathlib.Core.List.{List, []}
-use Rattle·model.specs.Refusal.{Out, ok, refusal, andThen}
-use Rattle·model.specs.Rows.{Row}
-use Rattle·model.specs.Expansion.{Progress}
-use Rattle·model.specs.Expansion.{expand as expandRows}
-use Rattle·model.specs.Order.{Scenario, Met, metOps, nothingMet, exchangeOf, scenarioOf}
-use Rattle·model.specs.Answer.{expandedWith}
-use Rattle·model.specs.Choice.{Plain}
-use Rattle·model.proofs.WithoutChoices.{expanded-plain}
-use Rattle·relation.specs.Scenario.{scenarioIn}
-use Rattle·blocks.specs.Store.{countedWith}
-use Rattle·expansion·specs.specs.Outcome.{countedOf}
-use Rattle·expansion·specs.specs.declared.Counted.{Counted}
-use Rattle·expansion·specs.specs.declared.Counted.the-variants as counted
+use Rattle.model.specs.Refusal.{Out, ok, refusal, and_then}
+use Rattle.model.specs.Rows.{Row}
+use Rattle.model.specs.Expansion.{Progress}
+use Rattle.model.specs.Expansion.{expand as expand_rows}
+use Rattle.model.specs.Order.{Scenario, Met, met_ops, nothing_met, exchange_of, scenario_of}
+use Rattle.model.specs.Answer.{expanded_with}
+use Rattle.model.specs.Choice.{Plain}
+use Rattle.model.proofs.WithoutChoices.{expanded_plain}
+use Rattle.relation.specs.Scenario.{scenario_in}
+use Rattle.blocks.specs.Store.{counted_with}
+use Rattle.expansion.specs.Outcome.{counted_of}
+use Rattle.expansion.specs.declared.Counted.{Counted}
+use Rattle.expansion.specs.declared.Counted.TheVariants as counted
 
 -- Without the A rows met: the scenario of the rows on a list of options, and of rows without an A row.
-uncounted-same : (options : List Bool) (rows : List Row) → expandedWith options rows ≡ andThen (countedWith options rows) (λ p. ok (p .0))
-unfolding expandedWith countedWith andThen
-uncounted-same options rows = go (expandRows metOps options rows nothingMet)
+uncounted_same : (options : List Bool) (rows : List Row) → expanded_with options rows ≡ and_then (counted_with options rows) (λ p. ok p.0)
+unfolding expanded_with counted_with and_then
+uncounted_same options rows = go (expand_rows met_ops options rows nothing_met)
   where
-    go : (o : Out (Progress Met)) → andThen o (λ s. ok (scenarioOf (exchangeOf s)))
-        ≡ andThen (andThen {B = Scenario × ℕ} o (λ s. ok (scenarioOf (exchangeOf s), s .walk .choices))) (λ p. ok (p .0))
+    go : (o : Out (Progress Met)) → and_then o (λ s. ok (scenario_of (exchange_of s)))
+        ≡ and_then (and_then {B = Scenario × ℕ} o (λ s. ok (scenario_of (exchange_of s), s.walk.choices))) (λ p. ok p.0)
     go (ok u) = refl
     go (refusal number line) = refl
 
-module _ (boards words : List ℕ) (r : Counted) (options : List Bool) (rows : List Row) (h : countedOf r boards words ≡ countedWith options rows) where
-  listed : (o : Out (Scenario × ℕ)) → countedOf r boards words ≡ o → andThen o (λ p. ok (p .0)) ≡ expandedWith options rows
-  listed o e = ap (λ (q : Out (Scenario × ℕ)). andThen q (λ p. ok (p .0))) (sym e ∙ h) ∙ sym (uncounted-same options rows)
+module _ (boards words : List ℕ) (r : Counted) (options : List Bool) (rows : List Row) (h : counted_of r boards words ≡ counted_with options rows) where
+  listed : (o : Out (Scenario × ℕ)) → counted_of r boards words ≡ o → and_then o (λ p. ok p.0) ≡ expanded_with options rows
+  listed o e = ap (λ (q : Out (Scenario × ℕ)). and_then q (λ p. ok p.0)) (sym e ∙ h) ∙ sym (uncounted_same options rows)
 
-  pub listed-refused : (number line : ℕ) → r ≡ counted.Refused number line → refusal number line ≡ expandedWith options rows
-  unfolding andThen
-  listed-refused number line i = listed (refusal number line) (ap (λ (c : Counted). countedOf c boards words) i)
+  pub listed_refused : (number line : ℕ) → r ≡ counted.Refused number line → refusal number line ≡ expanded_with options rows
+  unfolding and_then
+  listed_refused number line i = listed (refusal number line) (ap (λ (c : Counted). counted_of c boards words) i)
 
-  pub listed-messages : (count choices : ℕ) → r ≡ counted.Messages count choices → ok (scenarioIn count boards words) ≡ expandedWith options rows
-  unfolding andThen
-  listed-messages count choices i = listed (ok (scenarioIn count boards words, choices)) (ap (λ (c : Counted). countedOf c boards words) i)
+  pub listed_messages : (count choices : ℕ) → r ≡ counted.Messages count choices → ok (scenario_in count boards words) ≡ expanded_with options rows
+  unfolding and_then
+  listed_messages count choices i = listed (ok (scenario_in count boards words, choices)) (ap (λ (c : Counted). counted_of c boards words) i)
 
   -- rows without an A row
   module _ (plain : Plain rows) where
-    pub plain-refused : (number line : ℕ) → r ≡ counted.Refused number line → refusal number line ≡ expandedWith [] rows
-    plain-refused number line i = listed-refused number line i ∙ expanded-plain rows plain options
+    pub plain_refused : (number line : ℕ) → r ≡ counted.Refused number line → refusal number line ≡ expanded_with [] rows
+    plain_refused number line i = listed_refused number line i ∙ expanded_plain rows plain options
 
-    pub plain-messages : (count choices : ℕ) → r ≡ counted.Messages count choices → ok (scenarioIn count boards words) ≡ expandedWith [] rows
-    plain-messages count choices i = listed-messages count choices i ∙ expanded-plain rows plain options
+    pub plain_messages : (count choices : ℕ) → r ≡ counted.Messages count choices → ok (scenario_in count boards words) ≡ expanded_with [] rows
+    plain_messages count choices i = listed_messages count choices i ∙ expanded_plain rows plain options

@@ -1,23 +1,19 @@
 -- What the caller lends: the rows of a text in three columns, and where each sheet starts.
 -- Assumes nothing.
-use Prim.Native.Nat.{ℕ, _≤_}
-use mathlib.Core.Path.{_≡_}
-use mathlib.Core.Bool.{Bool}
-use mathlib.Core.List.{List}
-use lib.ListN.{length}
-use Rattle·model.specs.Refusal.{ok}
-use Rattle·model.specs.Rows.{Row}
-use Rattle·model.specs.Place.{readWith}
-use Rattle·sheet.specs.Bridge.{rowsOf, startsOf}
+use Rattle.std.specs.Prelude.{ℕ, ◌≤◌, ◌≡◌, Bool, List, length}
+use Rattle.model.specs.Refusal.{ok}
+use Rattle.model.specs.Rows.{Row}
+use Rattle.model.specs.Place.{read_with}
+use Rattle.sheet.specs.Bridge.{rows_of, starts_of}
 
 -- the rows are those of some text, with or without A rows let through
 abbrev pub AreRead : List Row → Type 0
-AreRead rs = (choices : Bool) × (text : List ℕ) × (readWith choices text ≡ ok rs)
+AreRead rs = (choices : Bool) × (text : List ℕ) × (read_with choices text ≡ ok rs)
 
 -- The columns lent hold the rows of some text, and the table says where each sheet starts.
 pub record RowsRead (kind one two : List ℕ) (count : ℕ) (start : List ℕ) : Type 0 where
-  pub read : AreRead (rowsOf kind one two count)
-  pub starts : start ≡ startsOf (rowsOf kind one two count)
-  pub kindLong : count ≤ length kind
-  pub oneLong : count ≤ length one
-  pub twoLong : count ≤ length two
+  pub read : AreRead (rows_of kind one two count)
+  pub starts : start ≡ starts_of (rows_of kind one two count)
+  pub kind_long : count ≤ length kind
+  pub one_long : count ≤ length one
+  pub two_long : count ≤ length two

@@ -1,37 +1,40 @@
 // The expansion of calls: rows in, and a list of options for their A rows; the messages that the walk meets and their causal order in
 // words, or refusal 8 to 10 or 13, out.
+#![tactic(auto)]
+
+ghost use Rattle.std.specs.Prelude.{◌≡◌, ◌*◌, length};
+ghost use Rattle.model.specs.Limits.{boards as boards_most, messages_most};
+ghost use Rattle.model.specs.Answer.{expanded_of};
+ghost use Rattle.model.specs.Choice.{Plain};
+ghost use Rattle.relation.specs.Width.{width};
+ghost use Rattle.sheet.specs.Bridge.{rows_of};
+ghost use Rattle.blocks.specs.Store.{store_of, counted_with, walked_on};
+ghost use Rattle.walk.specs.Block.{state_of};
+ghost use Rattle.levels.specs.Options.{options_of};
+ghost use Rattle.expansion.specs.Lent.{RowsRead};
+ghost use Rattle.expansion.specs.Outcome.{outcome_of, counted_of, zeros};
+ghost use Rattle.expansion.specs.Ends.{Rests, Ends, beginning};
+
 use blocks::PAST;
 use next_block::Reached;
-use walk::Walk;
-use walk::Walked;
-ghost use mathlib.Core.Path.{_≡_};
-ghost use Prim.Native.Nat.{_*_};
-ghost use lib.ListN.{length};
-ghost use Rattle·model.specs.Limits.{boards as boardsMost, messagesMost};
-ghost use Rattle·model.specs.Answer.{expandedOf};
-ghost use Rattle·model.specs.Choice.{Plain};
-ghost use Rattle·relation.specs.Width.{width};
-ghost use Rattle·sheet.specs.Bridge.{rowsOf};
-ghost use Rattle·blocks.specs.Store.{storeOf, countedWith, walkedOn};
-ghost use Rattle·walk.specs.Block.{stateOf};
-ghost use Rattle·levels.specs.Options.{optionsOf};
-ghost use Rattle·expansion·specs.specs.Lent.{RowsRead};
-ghost use Rattle·expansion·specs.specs.Outcome.{outcomeOf, countedOf, zeros};
-ghost use Rattle·expansion·specs.specs.Ends.{Rests, Ends, beginning};
+use walk::{Walk, Walked};
 
 // Where a walk ends: how far it has come, the next block being open; or the refusal's number and line.
+#[derive(Clone, Copy)]
 pub enum Ended {
     At(Walk),
     Refused(u8, usize),
 }
 
 // So many messages are in boards and words; or the refusal's number and line.
+#[derive(Clone, Copy)]
 pub enum Expanded {
     Messages(usize),
     Refused(u8, usize),
 }
 
 // So many messages are in boards and words, and so many A rows were met; or the refusal's number and line.
+#[derive(Clone, Copy)]
 pub enum Counted {
     Messages(usize, usize),
     Refused(u8, usize),
@@ -39,8 +42,8 @@ pub enum Counted {
 
 // Every event is on board 0, and none is met.
 fn clear_boards(boards: &mut [u8])
-    requires { ⌜ length (now boards) ≡ 2 * messagesMost ⌝ }
-    ensures { λ _. ⌜ now (boards .exit) ≡ zeros (2 * messagesMost) ⌝ }
+    requires { length boards.old ≡ 2 * messages_most }
+    ensures { boards.new ≡ zeros (2 * messages_most) }
 {
     for i in 0..model::EVENTS_MOST {
         boards[i] = 0;
@@ -61,9 +64,9 @@ pub fn walk_on(
     past: &mut [u64],
     ended: Walk,
 ) -> Ended
-    requires { ⌜ RowsRead (now kind) (now one) (now two) count (now start) ⌝ }
-    requires { ⌜ Rests ended (storeOf (now boards) (now words) (now past)) ⌝ }
-    ensures { λ r. ⌜ Ends r (storeOf (now (boards .exit)) (now (words .exit)) (now (past .exit))) (walkedOn (optionsOf options) (rowsOf (now (kind .entry)) (now (one .entry)) (now (two .entry)) count) (stateOf ended (storeOf (now (boards .entry)) (now (words .entry)) (now (past .entry))))) ⌝ }
+    requires rows_read { RowsRead kind.now one.now two.now count start.now }
+    requires rests { Rests ended (store_of boards.old words.old past.old) }
+    ensures { Ends result (store_of boards.new words.new past.new) (walked_on (options_of options) (rows_of kind.now one.now two.now count) (state_of ended (store_of boards.old words.old past.old))) }
 {
     let mut from = [0usize; model::LEVELS];
     let mut level = 0;
@@ -114,25 +117,16 @@ pub fn walk_once(
     words: &mut [u64],
     past: &mut [u64],
 ) -> Ended
-    requires { ⌜ RowsRead (now kind) (now one) (now two) count (now start) ⌝ }
-    requires { ⌜ length (now boards) ≡ 2 * messagesMost ⌝ }
-    requires { ⌜ length (now words) ≡ 2 * messagesMost * width ⌝ }
-    requires { ⌜ now past ≡ zeros (boardsMost * width) ⌝ }
-    ensures { λ r. ⌜ Ends r (storeOf (now (boards .exit)) (now (words .exit)) (now (past .exit))) (walkedOn (optionsOf options) (rowsOf (now (kind .entry)) (now (one .entry)) (now (two .entry)) count) (beginning (now (words .entry)))) ⌝ }
+    requires rows_read { RowsRead kind.now one.now two.now count start.now }
+    requires boards_len { length boards.old ≡ 2 * messages_most }
+    requires words_len { length words.old ≡ 2 * messages_most * width }
+    requires past_value { past.old ≡ zeros (boards_most * width) }
+    ensures { Ends result (store_of boards.new words.new past.new) (walked_on (options_of options) (rows_of kind.now one.now two.now count) (beginning words.old)) }
 {
     clear_boards(boards);
     let nothing = Walk::fresh();
     walk_on(
-        kind,
-        one,
-        two,
-        count,
-        start,
-        options,
-        boards,
-        words,
-        past,
-        nothing,
+        kind, one, two, count, start, options, boards, words, past, nothing,
     )
 }
 
@@ -147,22 +141,14 @@ pub fn expand_list(
     boards: &mut [u8],
     words: &mut [u64],
 ) -> Counted
-    requires { ⌜ RowsRead (now kind) (now one) (now two) count (now start) ⌝ }
-    requires { ⌜ length (now boards) ≡ 2 * messagesMost ⌝ }
-    requires { ⌜ length (now words) ≡ 2 * messagesMost * width ⌝ }
-    ensures { λ r. ⌜ countedOf r (now (boards .exit)) (now (words .exit)) ≡ countedWith (optionsOf options) (rowsOf (now (kind .entry)) (now (one .entry)) (now (two .entry)) count) ⌝ }
+    requires rows_read { RowsRead kind.now one.now two.now count start.now }
+    requires boards_len { length boards.old ≡ 2 * messages_most }
+    requires words_len { length words.old ≡ 2 * messages_most * width }
+    ensures { counted_of result boards.new words.new ≡ counted_with (options_of options) (rows_of kind.now one.now two.now count) }
 {
     let mut past = [0u64; PAST];
     let ended = walk_once(
-        kind,
-        one,
-        two,
-        count,
-        start,
-        options,
-        boards,
-        words,
-        &mut past,
+        kind, one, two, count, start, options, boards, words, &mut past,
     );
     match ended {
         Ended::Refused(number, line) => Counted::Refused(number, line),
@@ -180,11 +166,11 @@ pub fn expand(
     boards: &mut [u8],
     words: &mut [u64],
 ) -> Expanded
-    requires { ⌜ RowsRead (now kind) (now one) (now two) count (now start) ⌝ }
-    requires { ⌜ Plain (rowsOf (now kind) (now one) (now two) count) ⌝ }
-    requires { ⌜ length (now boards) ≡ 2 * messagesMost ⌝ }
-    requires { ⌜ length (now words) ≡ 2 * messagesMost * width ⌝ }
-    ensures { λ r. ⌜ outcomeOf r (now (boards .exit)) (now (words .exit)) ≡ expandedOf (rowsOf (now (kind .entry)) (now (one .entry)) (now (two .entry)) count) ⌝ }
+    requires rows_read { RowsRead kind.now one.now two.now count start.now }
+    requires plain { Plain (rows_of kind.now one.now two.now count) }
+    requires boards_len { length boards.old ≡ 2 * messages_most }
+    requires words_len { length words.old ≡ 2 * messages_most * width }
+    ensures { outcome_of result boards.new words.new ≡ expanded_of (rows_of kind.now one.now two.now count) }
 {
     let counted = expand_list(kind, one, two, count, start, 0, boards, words);
     match counted {

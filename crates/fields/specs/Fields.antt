@@ -1,31 +1,28 @@
 -- The reader's spans, letters and numbers, as the model's. Assumes nothing.
-use Prim.Native.Nat.{ℕ, _+_}
-use mathlib.Core.Bool.{cond, _&&_}
-use mathlib.Core.List.{List, [], _∷_}
-use mathlib.Core.Option.{Option, none, some}
-use lib.Dec.{eqb, leb}
-use Rattle·model.specs.Text.{digitsOnly, decimal}
-use Rattle·line.specs.declared.Cuts.{Cuts}
-use Rattle·fields·specs.specs.declared.Span.{Span}
-use Rattle·fields·specs.specs.declared.Numeral.{Numeral}
-use Rattle·fields·specs.specs.declared.Numeral.the-variants.{Is, Bad}
+use Rattle.std.specs.Prelude.{ℕ, ◌+◌, cond, ◌&&◌, List, [], ◌∷◌, eqb, leb}
+use Rattle.std.proofs.Math.Option.{Option, none, some}
+use Rattle.model.specs.Text.{digits_only, decimal}
+use Rattle.line.specs.declared.Cuts.{Cuts}
+use Rattle.fields.specs.declared.Span.{Span}
+use Rattle.fields.specs.declared.Numeral.{Numeral}
+use Rattle.fields.specs.declared.Numeral.TheVariants.{Is, Bad}
 
 -- the span of the field with the given number
-unfoldable pub spanOf : Cuts → ℕ → Span
-spanOf c place =
-    cond (eqb place 0) (record { from = c .at; to = c .first })
-    (cond (eqb place 1) (record { from = c .first + 1; to = c .second }) (record { from = c .second + 1; to = c .end }))
+unfoldable pub span_of : Cuts → ℕ → Span
+span_of c place =
+    cond (eqb place 0) (record { from = c.at; to = c.first })
+    (cond (eqb place 1) (record { from = c.first + 1; to = c.second }) (record { from = c.second + 1; to = c.end }))
 
 -- the letter of a field of one byte; 0, which is no letter, of any other
-unfoldable pub letterOf : List ℕ → ℕ
-letterOf [] = 0
-letterOf (b ∷ []) = b
-letterOf (b ∷ c ∷ s) = 0
+unfoldable pub letter_of : List ℕ → ℕ
+letter_of [] = 0
+letter_of (b ∷ []) = b
+letter_of (b ∷ c ∷ s) = 0
 
 -- the number of the digits, up to the largest, behind digits of value n
 unfoldable pub numeral : ℕ → ℕ → List ℕ → Option ℕ
-numeral most n ds = cond (digitsOnly ds && leb (decimal n ds) most) (some (decimal n ds)) none
+numeral most n ds = cond (digits_only ds && leb (decimal n ds) most) (some (decimal n ds)) none
 
-abbrev pub numeralFrom : Numeral → Option ℕ
-numeralFrom (Is n) = some n
-numeralFrom Bad = none
+abbrev pub numeral_from : Numeral → Option ℕ
+numeral_from (Is n) = some n
+numeral_from Bad = none

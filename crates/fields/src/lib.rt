@@ -1,22 +1,24 @@
 // The letter, the number or the name that a field of a line holds.
+#![tactic(auto)]
+
+ghost use Rattle.std.specs.Prelude.{◌≡◌, [], ◌^◌, ◌≤◌, ◌<◌, length, get_or};
+ghost use Rattle.std.proofs.Math.Seq.{slice};
+ghost use Rattle.model.specs.Bounded.{same};
+ghost use Rattle.model.specs.Text.{number_of, number_up_to};
+ghost use Rattle.line.specs.Parts.{Cut, fields_in};
+ghost use Rattle.fields.specs.Fields.{span_of, letter_of, numeral, numeral_from};
+
 use line::Cuts;
-ghost use mathlib.Core.Path.{_≡_};
-ghost use mathlib.Core.List.{[]};
-ghost use Prim.Native.Nat.{_^_, _≤_, _<_};
-ghost use lib.ListN.{length, getD};
-ghost use lib.Seq.{slice};
-ghost use Rattle·model.specs.Bounded.{same};
-ghost use Rattle·model.specs.Text.{numberOf, numberUpTo};
-ghost use Rattle·line.specs.Parts.{Cut, fieldsIn};
-ghost use Rattle·fields·specs.specs.Fields.{spanOf, letterOf, numeral, numeralFrom};
 
 // A field: the bytes from `from` up to `to`.
+#[derive(Clone, Copy)]
 struct Span {
     pub from: usize,
     pub to: usize,
 }
 
 // A number up to a largest that is given.
+#[derive(Clone, Copy)]
 pub enum Numeral {
     Is(u16),
     Bad,
@@ -24,8 +26,8 @@ pub enum Numeral {
 
 // The field with the number `place`, from 0, of the three.
 fn field(cuts: Cuts, place: usize) -> Span
-    requires { ⌜ (cuts .first < cuts .second) × (cuts .second < cuts .end) ⌝ }
-    ensures { λ r. ⌜ r ≡ spanOf cuts place ⌝ }
+    requires { (cuts.first < cuts.second) × (cuts.second < cuts.end) }
+    ensures { result ≡ span_of cuts place }
 {
     if place == 0 {
         return Span {
@@ -47,8 +49,8 @@ fn field(cuts: Cuts, place: usize) -> Span
 
 // The letter that a field holds: its one byte; 0, which is no letter, where it has none or more.
 pub fn letter_in(text: &[u8], cuts: Cuts, place: usize) -> u8
-    requires { ⌜ Cut (now text) cuts × (place < 3) ⌝ }
-    ensures { λ r. ⌜ r ≡ letterOf (getD (fieldsIn (now (text .entry)) cuts) place []) ⌝ }
+    requires { Cut text.now cuts × (place < 3) }
+    ensures { result ≡ letter_of (get_or (fields_in text.now cuts) place []) }
 {
     let span = field(cuts, place);
     let from = span.from;
@@ -57,16 +59,16 @@ pub fn letter_in(text: &[u8], cuts: Cuts, place: usize) -> u8
 
 // The number that a field of a sheet file holds.
 pub fn number_in(text: &[u8], cuts: Cuts, place: usize) -> Numeral
-    requires { ⌜ Cut (now text) cuts × (place < 3) ⌝ }
-    ensures { λ r. ⌜ numeralFrom r ≡ numberOf (getD (fieldsIn (now (text .entry)) cuts) place []) ⌝ }
+    requires { Cut text.now cuts × (place < 3) }
+    ensures { numeral_from result ≡ number_of (get_or (fields_in text.now cuts) place []) }
 {
     number_up_to(text, cuts, place, model::NUMBER_MOST)
 }
 
 // The number that a field holds, at most `most`: decimal, without leading zeros.
 pub fn number_up_to(text: &[u8], cuts: Cuts, place: usize, most: usize) -> Numeral
-    requires { ⌜ Cut (now text) cuts × (place < 3) × (most < 2 ^ 16) ⌝ }
-    ensures { λ r. ⌜ numeralFrom r ≡ numberUpTo most (getD (fieldsIn (now (text .entry)) cuts) place []) ⌝ }
+    requires { Cut text.now cuts × (place < 3) × (most < 2 ^ 16) }
+    ensures { numeral_from result ≡ number_up_to most (get_or (fields_in text.now cuts) place []) }
 {
     let span = field(cuts, place);
     number_at(text, span.from, span.to, most)
@@ -74,8 +76,8 @@ pub fn number_up_to(text: &[u8], cuts: Cuts, place: usize, most: usize) -> Numer
 
 // The number of the bytes from `from` up to `to`.
 fn number_at(text: &[u8], from: usize, to: usize, most: usize) -> Numeral
-    requires { ⌜ (from ≤ to) × (to ≤ length (now text)) × (most < 2 ^ 16) ⌝ }
-    ensures { λ r. ⌜ numeralFrom r ≡ numberUpTo most (slice from to (now (text .entry))) ⌝ }
+    requires { (from ≤ to) × (to ≤ length text.now) × (most < 2 ^ 16) }
+    ensures { numeral_from result ≡ number_up_to most (slice from to text.now) }
 {
     if from == to {
         return Numeral::Bad;
@@ -90,8 +92,8 @@ fn number_at(text: &[u8], from: usize, to: usize, most: usize) -> Numeral
 
 // The value of the digits from `from` up to `to`.
 fn digits(text: &[u8], from: usize, to: usize, most: usize) -> Numeral
-    requires { ⌜ (from ≤ to) × (to ≤ length (now text)) × (most < 2 ^ 16) ⌝ }
-    ensures { λ r. ⌜ numeralFrom r ≡ numeral most 0 (slice from to (now (text .entry))) ⌝ }
+    requires { (from ≤ to) × (to ≤ length text.now) × (most < 2 ^ 16) }
+    ensures { numeral_from result ≡ numeral most 0 (slice from to text.now) }
 {
     let mut value = 0;
     let mut i = from;
@@ -114,8 +116,8 @@ fn digits(text: &[u8], from: usize, to: usize, most: usize) -> Numeral
 
 // A field is the given name.
 pub fn is_name(text: &[u8], cuts: Cuts, place: usize, name: &[u8]) -> bool
-    requires { ⌜ Cut (now text) cuts × (place < 3) ⌝ }
-    ensures { λ r. ⌜ r ≡ same (now (name .entry)) (getD (fieldsIn (now (text .entry)) cuts) place []) ⌝ }
+    requires { Cut text.now cuts × (place < 3) }
+    ensures { result ≡ same name.now (get_or (fields_in text.now cuts) place []) }
 {
     let span = field(cuts, place);
     are_bytes(text, span.from, span.to, name)
@@ -123,8 +125,8 @@ pub fn is_name(text: &[u8], cuts: Cuts, place: usize, name: &[u8]) -> bool
 
 // The bytes from `from` up to `to` are the name's.
 fn are_bytes(text: &[u8], from: usize, to: usize, name: &[u8]) -> bool
-    requires { ⌜ (from ≤ to) × (to ≤ length (now text)) ⌝ }
-    ensures { λ r. ⌜ r ≡ same (now (name .entry)) (slice from to (now (text .entry))) ⌝ }
+    requires { (from ≤ to) × (to ≤ length text.now) }
+    ensures { result ≡ same name.now (slice from to text.now) }
 {
     if to - from != name.len() {
         return false;

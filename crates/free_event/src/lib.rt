@@ -1,18 +1,18 @@
 // The lowest event that is left and has nothing left before it, word by word.
-ghost use mathlib.Core.Path.{_≡_};
-ghost use Prim.Native.Nat.{_+_, _*_, _<_, _≤_};
-ghost use lib.Count.{trailingZeros};
-ghost use lib.ListN.{length};
-ghost use Rattle·relation.specs.Width.{width, wordBits};
-ghost use Rattle·free_event·specs.specs.Free.{nothingLeft, FreeInWord, lowestFree};
-use relation::WIDTH;
-use relation::WORD_BITS;
+#![tactic(auto)]
+
+ghost use Rattle.std.specs.Prelude.{◌≡◌, ◌+◌, ◌*◌, ◌<◌, ◌≤◌, length};
+ghost use Rattle.std.specs.Int.Count.{count_trailing_zeros};
+ghost use Rattle.relation.specs.Width.{width, word_bits};
+ghost use Rattle.free_event.specs.Free.{nothing_left, FreeInWord, lowest_free};
+
+use relation::{WIDTH, WORD_BITS};
 
 // No event that is left is before event k.
 fn is_free(words: &[u64], left: &[u64], k: usize) -> bool
-    requires { ⌜ k * width + width ≤ length (now words) ⌝ }
-    requires { ⌜ width ≤ length (now left) ⌝ }
-    ensures { λ r. ⌜ r ≡ nothingLeft (now (words .entry)) (now (left .entry)) k ⌝ }
+    requires width_in_bounds { k * width + width ≤ length words.now }
+    requires width_in_bounds_2 { width ≤ length left.now }
+    ensures { result ≡ nothing_left words.now left.now k }
 {
     let row = k * WIDTH;
     for i in 0..WIDTH {
@@ -26,23 +26,23 @@ fn is_free(words: &[u64], left: &[u64], k: usize) -> bool
 
 // A count of bits, as an index.
 fn index_of(count: u32) -> usize
-    ensures { λ r. ⌜ r ≡ count ⌝ }
+    ensures { result ≡ count }
 {
     count as usize
 }
 
 // The lowest bit that is set.
 fn lowest_bit(bits: u64) -> usize
-    ensures { λ r. ⌜ r ≡ trailingZeros wordBits bits ⌝ }
+    ensures { result ≡ count_trailing_zeros word_bits bits }
 {
     index_of(u64::trailing_zeros(bits))
 }
 
 // The lowest event of word w that is left and has nothing left before it; where there is none, the bits of a row.
 fn free_in_word(words: &[u64], left: &[u64], w: usize) -> usize
-    requires { ⌜ wordBits * width * width ≤ length (now words) ⌝ }
-    requires { ⌜ (w < width) × (width ≤ length (now left)) ⌝ }
-    ensures { λ r. ⌜ FreeInWord (now (words .entry)) (now (left .entry)) w r ⌝ }
+    requires width_in_bounds { word_bits * width * width ≤ length words.now }
+    requires w_lt_width { (w < width) × (width ≤ length left.now) }
+    ensures { FreeInWord words.now left.now w result }
 {
     let mut bits = left[w];
     while bits != 0 {
@@ -58,9 +58,9 @@ fn free_in_word(words: &[u64], left: &[u64], w: usize) -> usize
 
 // The lowest event that is left and has nothing left before it; where there is none, the bits of a row.
 pub fn next_event(words: &[u64], left: &[u64]) -> usize
-    requires { ⌜ wordBits * width * width ≤ length (now words) ⌝ }
-    requires { ⌜ width ≤ length (now left) ⌝ }
-    ensures { λ r. ⌜ r ≡ lowestFree (now (words .entry)) (now (left .entry)) ⌝ }
+    requires width_in_bounds { word_bits * width * width ≤ length words.now }
+    requires width_in_bounds_2 { width ≤ length left.now }
+    ensures { result ≡ lowest_free words.now left.now }
 {
     for w in 0..WIDTH {
         let k = free_in_word(words, left, w);

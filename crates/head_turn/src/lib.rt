@@ -1,28 +1,23 @@
 // A turn of the head of the queue: a share of its race search, or, on its last turn, the check's answer.
-ghost use mathlib.Core.Path.{_≡_};
-ghost use mathlib.Core.Bool.{true, false};
-ghost use mathlib.Core.Option.{some};
-ghost use Prim.Native.Nat.{_%_, _≤_};
-ghost use lib.ListN.{length};
-ghost use Rattle·model.specs.Limits.{jobsMost, jobWordsLeast, traceLeast};
-ghost use Rattle·model.specs.Dispatcher.{isLast};
-ghost use Rattle·queue.specs.Bridge.{jobIn, queueIn, Counted, headOf, FirstPlace};
-ghost use Rattle·taken_places.specs.Places.{TakenIn};
-ghost use Rattle·last_turn.specs.Answer.{zeros};
-ghost use Rattle·head_turn·specs.specs.Serving.{TakesTurn, TurnIn};
-use answer_words::served::ANSWERED;
-use answer_words::served::IDLE;
-use answer_words::served::REFUSED;
-use answer_words::served::TAKEN;
+#![tactic(auto)]
+
+ghost use Rattle.std.specs.Prelude.{◌≡◌, true, false, ◌%◌, ◌≤◌, length};
+ghost use Rattle.std.proofs.Math.Option.{some};
+ghost use Rattle.model.specs.Limits.{jobs_most, job_words_least, trace_least};
+ghost use Rattle.model.specs.Dispatcher.{is_last};
+ghost use Rattle.queue.specs.Bridge.{job_in, queue_in, Counted, head_of, FirstPlace};
+ghost use Rattle.taken_places.specs.Places.{TakenIn};
+ghost use Rattle.last_turn.specs.Answer.{zeros};
+ghost use Rattle.head_turn.specs.Serving.{TakesTurn, TurnIn};
+
+use answer_words::served::{ANSWERED, IDLE, REFUSED, TAKEN};
 use last_turn::Numbers;
-use queue::Head;
-use queue::Job;
-use queue::Queue;
-use queue::Taken;
+use queue::{Head, Job, Queue, Taken};
 use share::Race;
 
 // What a turn leaves of what it may change: its word and the job that it names, the check's answer, what the search of the head has found, and
 // the queue.
+#[derive(Clone, Copy)]
 pub struct Turn {
     pub word: u32,
     pub one: u32,
@@ -33,7 +28,7 @@ pub struct Turn {
 
 // A turn that leaves the dispatcher as it was.
 fn unmoved(word: u32, one: u32, race: Race, queue: Queue) -> Turn
-    ensures { λ r. ⌜ r ≡ record { word = word; one = one; answer = zeros; race = race; queue = queue } ⌝ }
+    ensures { result ≡ record { word = word; one = one; answer = zeros; race = race; queue = queue } }
 {
     let answer = Numbers::zero();
     Turn {
@@ -54,10 +49,10 @@ fn take(
     boards: &[u8; model::EVENTS_MOST],
     words: &mut [u64],
 ) -> Turn
-    requires { ⌜ TakenIn queue taken ⌝ }
-    requires { ⌜ (headOf (queueIn queue) ≡ some (jobIn job)) × (isLast (jobIn job) ≡ false) ⌝ }
-    requires { ⌜ jobWordsLeast ≤ length (now words) ⌝ }
-    ensures { λ r. ⌜ TakesTurn queue (job .place % jobsMost) race (now (boards .entry)) (now (words .entry)) (now (words .exit)) r ⌝ }
+    requires taken_in { TakenIn queue taken }
+    requires queue_value { (head_of (queue_in queue) ≡ some (job_in job)) × (is_last (job_in job) ≡ false) }
+    requires job_words_least_in_bounds { job_words_least ≤ length words.old }
+    ensures { TakesTurn queue (job.place % jobs_most) race boards.now words.old words.new result }
 {
     let place = job.place as usize % model::JOBS_MOST;
     let from = place * model::SCRATCH_LEAST;
@@ -92,10 +87,10 @@ fn answer(
     words: &mut [u64],
     trace: &mut [u8],
 ) -> Turn
-    requires { ⌜ Counted queue count ⌝ }
-    requires { ⌜ (headOf (queueIn queue) ≡ some (jobIn job)) × (isLast (jobIn job) ≡ true) ⌝ }
-    requires { ⌜ (jobWordsLeast ≤ length (now words)) × (traceLeast ≤ length (now trace)) ⌝ }
-    ensures { λ r. ⌜ TurnIn queue (job .place % jobsMost) race (now (boards .entry)) (now (words .entry)) (now (trace .entry)) (now (words .exit)) (now (trace .exit)) r ⌝ }
+    requires counted { Counted queue count }
+    requires queue_value { (head_of (queue_in queue) ≡ some (job_in job)) × (is_last (job_in job) ≡ true) }
+    requires job_words_least_in_bounds { (job_words_least ≤ length words.old) × (trace_least ≤ length trace.old) }
+    ensures { TurnIn queue (job.place % jobs_most) race boards.now words.old trace.old words.new trace.new result }
 {
     let place = job.place as usize % model::JOBS_MOST;
     let from = place * model::SCRATCH_LEAST;
@@ -129,8 +124,8 @@ pub fn serve(
     words: &mut [u64],
     trace: &mut [u8],
 ) -> Turn
-    requires { ⌜ FirstPlace (queueIn queue) place ⌝ }
-    ensures { λ r. ⌜ TurnIn queue place race (now (boards .entry)) (now (words .entry)) (now (trace .entry)) (now (words .exit)) (now (trace .exit)) r ⌝ }
+    requires { FirstPlace (queue_in queue) place }
+    ensures { TurnIn queue place race boards.now words.old trace.old words.new trace.new result }
 {
     if words.len() < model::JOB_WORDS_LEAST {
         return unmoved(REFUSED, model::BENCH as u32, race, queue);

@@ -1,41 +1,38 @@
 -- The reader's columns and heading, as the model's. Assumes nothing.
-use Prim.Native.Nat.{ℕ, _+_, _<_}
-use mathlib.Core.Path.{_≡_}
-use mathlib.Core.Bool.{cond}
-use mathlib.Core.List.{List}
-use mathlib.Core.Option.{Option, none, some}
-use Rattle·model.specs.Text.{headingOf, columnsOf, areColumns}
-use Rattle·model.specs.Text as text
-use Rattle·line.specs.Scan.{firstLine}
-use Rattle·line.specs.Parts.{fieldsIn, Onward}
-use Rattle·line.specs.declared.Cuts.{Cuts}
-use Rattle·heading·specs.specs.declared.Columns.{Columns}
-use Rattle·heading·specs.specs.declared.Heading.{Heading}
-use Rattle·heading·specs.specs.declared.Heading.the-variants.{Named, Unnamed}
+use Rattle.std.specs.Prelude.{ℕ, ◌+◌, ◌<◌, ◌≡◌, cond, List}
+use Rattle.std.proofs.Math.Option.{Option, none, some}
+use Rattle.model.specs.Text.{heading_of, columns_of, are_columns}
+use Rattle.model.specs.Text as text
+use Rattle.line.specs.Scan.{first_line}
+use Rattle.line.specs.Parts.{fields_in, Onward}
+use Rattle.line.specs.declared.Cuts.{Cuts}
+use Rattle.heading.specs.declared.Columns.{Columns}
+use Rattle.heading.specs.declared.Heading.{Heading}
+use Rattle.heading.specs.declared.Heading.TheVariants.{Named, Unnamed}
 
 -- the columns are those of three fields
 pub record Below (c : Columns) : Type 0 where
-  pub kind : c .kind < 3
-  pub one : c .one < 3
-  pub two : c .two < 3
+  pub kind : c.kind < 3
+  pub one : c.one < 3
+  pub two : c.two < 3
 
-abbrev pub columnsFrom : Columns → text.Columns
-columnsFrom c = record { kind = c .kind; one = c .one; two = c .two }
+abbrev pub columns_from : Columns → text.Columns
+columns_from c = record { kind = c.kind; one = c.one; two = c.two }
 
-abbrev pub headingFrom : Heading → Option text.Columns
-headingFrom (Named c next) = some (columnsFrom c)
-headingFrom Unnamed = none
+abbrev pub heading_from : Heading → Option text.Columns
+heading_from (Named c next) = some (columns_from c)
+heading_from Unnamed = none
 
 -- the columns that the three fields between the cuts name; the next line begins behind the last cut
 abbrev pub NamedIn : Cuts → Heading → Type 0
-NamedIn cuts (Named c next) = (next ≡ cuts .end + 1) × Below c
+NamedIn cuts (Named c next) = (next ≡ cuts.end + 1) × Below c
 NamedIn cuts Unnamed = Unit {0}
 
-unfoldable pub columnsNamed : List (List ℕ) → Option text.Columns
-columnsNamed fs = cond (areColumns (columnsOf fs)) (some (columnsOf fs)) none
+unfoldable pub columns_named : List (List ℕ) → Option text.Columns
+columns_named fs = cond (are_columns (columns_of fs)) (some (columns_of fs)) none
 
 pub record HeadingIn (text : List ℕ) (cuts : Cuts) (r : Heading) : Type 0 where
-  pub heading : headingFrom r ≡ columnsNamed (fieldsIn text cuts)
+  pub heading : heading_from r ≡ columns_named (fields_in text cuts)
   pub named : NamedIn cuts r
 
 -- the heading of a text
@@ -44,5 +41,5 @@ NamedFrom text (Named c next) = Onward text 0 next × Below c
 NamedFrom text Unnamed = Unit {0}
 
 pub record HeadingAs (text : List ℕ) (r : Heading) : Type 0 where
-  pub heading : headingFrom r ≡ headingOf (firstLine text)
+  pub heading : heading_from r ≡ heading_of (first_line text)
   pub named : NamedFrom text r

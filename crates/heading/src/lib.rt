@@ -1,11 +1,14 @@
 // The heading (refusal 4): which field of each row is its kind, its one and its two.
-use line::Cuts;
-use line::Split;
-ghost use mathlib.Core.Path.{_≡_};
-ghost use Rattle·model.specs.Text.{placeOf};
-ghost use Rattle·line.specs.Parts.{Cut, fieldsIn};
-ghost use Rattle·heading·specs.specs.Names.{HeadingAs, HeadingIn};
+#![tactic(auto)]
 
+ghost use Rattle.std.specs.Prelude.{◌≡◌};
+ghost use Rattle.model.specs.Text.{place_of};
+ghost use Rattle.line.specs.Parts.{Cut, fields_in};
+ghost use Rattle.heading.specs.Names.{HeadingAs, HeadingIn};
+
+use line::{Cuts, Split};
+
+#[derive(Clone, Copy)]
 pub struct Columns {
     pub kind: usize,
     pub one: usize,
@@ -13,6 +16,7 @@ pub struct Columns {
 }
 
 // The columns, and where the first row begins.
+#[derive(Clone, Copy)]
 pub enum Heading {
     Named(Columns, usize),
     Unnamed,
@@ -20,7 +24,7 @@ pub enum Heading {
 
 // The heading, which is the text's first line.
 pub fn heading_of(text: &[u8]) -> Heading
-    ensures { λ r. ⌜ HeadingAs (now (text .entry)) r ⌝ }
+    ensures { HeadingAs text.now result }
 {
     let Split::Three(cuts) = line::cut(text, 0) else {
         return Heading::Unnamed;
@@ -30,8 +34,8 @@ pub fn heading_of(text: &[u8]) -> Heading
 
 // The columns that three fields name.
 fn columns_in(text: &[u8], cuts: Cuts) -> Heading
-    requires { ⌜ Cut (now text) cuts ⌝ }
-    ensures { λ r. ⌜ HeadingIn (now (text .entry)) cuts r ⌝ }
+    requires { Cut text.now cuts }
+    ensures { HeadingIn text.now cuts result }
 {
     let kind = place_of(text, cuts, b"kind");
     let one = place_of(text, cuts, b"one");
@@ -48,8 +52,8 @@ fn columns_in(text: &[u8], cuts: Cuts) -> Heading
 
 // The number of the field that is the name; 3 where none is.
 fn place_of(text: &[u8], cuts: Cuts, name: &[u8]) -> usize
-    requires { ⌜ Cut (now text) cuts ⌝ }
-    ensures { λ r. ⌜ r ≡ placeOf (now (name .entry)) (fieldsIn (now (text .entry)) cuts) ⌝ }
+    requires { Cut text.now cuts }
+    ensures { result ≡ place_of name.now (fields_in text.now cuts) }
 {
     if fields::is_name(text, cuts, 0, name) {
         return 0;

@@ -1,120 +1,120 @@
 -- What each call comes to, from the facts that lead there. Assumes nothing.
-use mathlib.Core.Path.{_≡_, sym, _∙_, ap}
+use mathlib.Core.Path.{◌≡◌, sym, ◌∙◌, ap}
 use mathlib.Core.Bool.{true, false, or-true}
-use mathlib.Core.List.{List, [], _∷_, _++_}
+use mathlib.Core.List.{List, [], ◌∷◌, ◌++◌}
 use mathlib.Core.Option.{none, some}
-use Prim.Native.Nat.{ℕ, _<_, _≤_}
+use Prim.Native.Nat.{ℕ, ◌<◌, ◌≤◌}
 use borrow.Author.Tests.{lt-ltb, le-ltb}
 use lib.ListN.{length}
-use Rattle·model.specs.Limits.{channels, textMost, traceLeast, jobNumbers, jobWordsLeast}
-use Rattle·model.specs.Bounded.{among}
-use Rattle·model.specs.Refusal.{ok, refusal, channelRefusal, benchRefusal, lengthRefusal, jobsRefusal, heldRefusal}
-use Rattle·model.specs.Order.{Scenario}
-use Rattle·model.specs.Answer.{sheetOf}
-use Rattle·model.specs.Dispatcher.{Lent, lengthAt, codeAt, sheetAt, Job, DispatcherState, numbersIn, freePlace, admissible, admitting, isLast, turned, without, Call, admit, turn, cancel, Outcome, admitted, idle, taken, answered, cancelled, refused, wordsShort, turnShort, headOutcome, admission, outcomeOf, admittedTo, behind}
-use Rattle·model.proofs.CallCases.{again}
+use Rattle.model.specs.Limits.{channels, text_most, trace_least, job_numbers, job_words_least}
+use Rattle.model.specs.Bounded.{among}
+use Rattle.model.specs.Refusal.{ok, refusal, channel_refusal, bench_refusal, length_refusal, jobs_refusal, held_refusal}
+use Rattle.model.specs.Order.{Scenario}
+use Rattle.model.specs.Answer.{sheet_of}
+use Rattle.model.specs.Dispatcher.{Lent, length_at, code_at, sheet_at, Job, DispatcherState, numbers_in, free_place, admissible, admitting, is_last, turned, without, Call, admit, turn, cancel, Outcome, admitted, idle, taken, answered, cancelled, refused, words_short, turn_short, head_outcome, admission, outcome_of, admitted_to, behind}
+use Rattle.model.proofs.CallCases.{again}
 
 -- the outcome of a call, and the dispatcher behind it
 pub record Case (d : DispatcherState) (c : Call) (o : Outcome) (next : DispatcherState) : Type 0 where
-  pub outcome : outcomeOf d c ≡ o
+  pub outcome : outcome_of d c ≡ o
   pub leaves : behind d c ≡ next
 
 -- ---- a turn
 module _ (d : DispatcherState) (l : Lent) (trace : List ℕ) where
-  short : turnShort l trace ≡ true → Case d (turn l trace) (refused benchRefusal 0) d
-  unfolding outcomeOf behind
+  short : turn_short l trace ≡ true → Case d (turn l trace) (refused bench_refusal 0) d
+  unfolding outcome_of behind
   short e = record { outcome = rw e; leaves = rw e }
 
-  pub turn-words : length (l .words) < jobWordsLeast → Case d (turn l trace) (refused benchRefusal 0) d
-  unfolding turnShort wordsShort
-  turn-words h = short (rw (lt-ltb (length (l .words)) jobWordsLeast h))
+  pub turn_words : length l.words < job_words_least → Case d (turn l trace) (refused bench_refusal 0) d
+  unfolding turn_short words_short
+  turn_words h = short (rw (lt-ltb (length l.words) job_words_least h))
 
-  pub turn-trace : length trace < traceLeast → Case d (turn l trace) (refused benchRefusal 0) d
-  unfolding turnShort
-  turn-trace h = short (rw (lt-ltb (length trace) traceLeast h) (or-true (wordsShort l)))
+  pub turn_trace : length trace < trace_least → Case d (turn l trace) (refused bench_refusal 0) d
+  unfolding turn_short
+  turn_trace h = short (rw (lt-ltb (length trace) trace_least h) (or-true (words_short l)))
 
-  module _ (w : jobWordsLeast ≤ length (l .words)) (t : traceLeast ≤ length trace) where
-    long : turnShort l trace ≡ false
-    unfolding turnShort wordsShort
-    long = rw (le-ltb (length (l .words)) jobWordsLeast w, le-ltb (length trace) traceLeast t)
+  module _ (w : job_words_least ≤ length l.words) (t : trace_least ≤ length trace) where
+    long : turn_short l trace ≡ false
+    unfolding turn_short words_short
+    long = rw (le-ltb (length l.words) job_words_least w, le-ltb (length trace) trace_least t)
 
-    pub turn-idle : d .queue ≡ [] → Case d (turn l trace) idle d
-    unfolding outcomeOf behind headOutcome turned
-    turn-idle e =
+    pub turn_idle : d.queue ≡ [] → Case d (turn l trace) idle d
+    unfolding outcome_of behind head_outcome turned
+    turn_idle e =
         record {
-          outcome = rw (long, outcomeOf, e);
-          leaves = rw (long, behind) (ap (λ q. record { queue = turned q; given = d .given }) e ∙ ap (λ (q : List Job). record { queue = q; given = d .given }) (sym e));
+          outcome = rw (long, outcome_of, e);
+          leaves = rw (long, behind) (ap (λ q. record { queue = turned q; given = d.given }) e ∙ ap (λ (q : List Job). record { queue = q; given = d.given }) (sym e));
         }
 
-    module _ (j : Job) (js : List Job) (e : d .queue ≡ j ∷ js) where
-      pub turn-taken : isLast j ≡ false → Case d (turn l trace) (taken (j .number)) (record { queue = js ++ (again j ∷ []); given = d .given })
-      unfolding outcomeOf behind headOutcome turned
-      turn-taken f = record { outcome = rw (long, outcomeOf, e, headOutcome, f); leaves = rw (long, behind, e, turned, f) }
+    module _ (j : Job) (js : List Job) (e : d.queue ≡ j ∷ js) where
+      pub turn_taken : is_last j ≡ false → Case d (turn l trace) (taken j.number) (record { queue = js ++ (again j ∷ []); given = d.given })
+      unfolding outcome_of behind head_outcome turned
+      turn_taken f = record { outcome = rw (long, outcome_of, e, head_outcome, f); leaves = rw (long, behind, e, turned, f) }
 
-      pub turn-answered : isLast j ≡ true → Case d (turn l trace) (answered (j .number)) (record { queue = js; given = d .given })
-      unfolding outcomeOf behind headOutcome turned
-      turn-answered f = record { outcome = rw (long, outcomeOf, e, headOutcome, f); leaves = rw (long, behind, e, turned, f) }
+      pub turn_answered : is_last j ≡ true → Case d (turn l trace) (answered j.number) (record { queue = js; given = d.given })
+      unfolding outcome_of behind head_outcome turned
+      turn_answered f = record { outcome = rw (long, outcome_of, e, head_outcome, f); leaves = rw (long, behind, e, turned, f) }
 
 -- ---- cancelling
 module _ (d : DispatcherState) (n : ℕ) (l : Lent) where
-  pub cancel-words : length (l .words) < jobWordsLeast → Case d (cancel n l) (refused benchRefusal 0) d
-  unfolding outcomeOf behind wordsShort
-  cancel-words h = record { outcome = rw (lt-ltb (length (l .words)) jobWordsLeast h); leaves = rw (lt-ltb (length (l .words)) jobWordsLeast h) }
+  pub cancel_words : length l.words < job_words_least → Case d (cancel n l) (refused bench_refusal 0) d
+  unfolding outcome_of behind words_short
+  cancel_words h = record { outcome = rw (lt-ltb (length l.words) job_words_least h); leaves = rw (lt-ltb (length l.words) job_words_least h) }
 
-  module _ (w : jobWordsLeast ≤ length (l .words)) where
-    pub cancel-unheld : among n (numbersIn (d .queue)) ≡ false → Case d (cancel n l) (refused heldRefusal 0) d
-    unfolding outcomeOf behind wordsShort
-    cancel-unheld f =
-        record { outcome = rw (le-ltb (length (l .words)) jobWordsLeast w, f); leaves = rw (le-ltb (length (l .words)) jobWordsLeast w, f) }
+  module _ (w : job_words_least ≤ length l.words) where
+    pub cancel_unheld : among n (numbers_in d.queue) ≡ false → Case d (cancel n l) (refused held_refusal 0) d
+    unfolding outcome_of behind words_short
+    cancel_unheld f =
+        record { outcome = rw (le-ltb (length l.words) job_words_least w, f); leaves = rw (le-ltb (length l.words) job_words_least w, f) }
 
-    pub cancel-held : among n (numbersIn (d .queue)) ≡ true
-        → Case d (cancel n l) (cancelled n) (record { queue = without n (d .queue); given = d .given })
-    unfolding outcomeOf behind wordsShort
-    cancel-held t =
-        record { outcome = rw (le-ltb (length (l .words)) jobWordsLeast w, t); leaves = rw (le-ltb (length (l .words)) jobWordsLeast w, t) }
+    pub cancel_held : among n (numbers_in d.queue) ≡ true
+        → Case d (cancel n l) (cancelled n) (record { queue = without n d.queue; given = d.given })
+    unfolding outcome_of behind words_short
+    cancel_held t =
+        record { outcome = rw (le-ltb (length l.words) job_words_least w, t); leaves = rw (le-ltb (length l.words) job_words_least w, t) }
 
 -- ---- an admission
 module _ (d : DispatcherState) (l : Lent) where
-  pub admit-refused : (number line : ℕ) → admissible d l ≡ refusal number line → Case d (admit l) (refused number line) d
-  unfolding outcomeOf behind admission admittedTo
-  admit-refused number line e = record { outcome = rw (e, admission); leaves = rw (e, admittedTo) }
+  pub admit_refused : (number line : ℕ) → admissible d l ≡ refusal number line → Case d (admit l) (refused number line) d
+  unfolding outcome_of behind admission admitted_to
+  admit_refused number line e = record { outcome = rw (e, admission); leaves = rw (e, admitted_to) }
 
-  pub admit-admitted : (p : ℕ) (S : Scenario) → freePlace d ≡ some p → admissible d l ≡ ok S
-      → Case d (admit l) (admitted (d .given) p) (admitting d p (codeAt l p) (S .count))
-  unfolding outcomeOf behind admission admittedTo
-  admit-admitted p S f e = record { outcome = rw (f, e, admission); leaves = rw (f, e, admittedTo) }
+  pub admit_admitted : (p : ℕ) (S : Scenario) → free_place d ≡ some p → admissible d l ≡ ok S
+      → Case d (admit l) (admitted d.given p) (admitting d p (code_at l p) S.count)
+  unfolding outcome_of behind admission admitted_to
+  admit_admitted p S f e = record { outcome = rw (e, f, admission); leaves = rw (e, f, admitted_to) }
 
   -- with no place free there is no new sheet and no code to judge
-  pub full-short : freePlace d ≡ none → length (l .words) < jobWordsLeast → admissible d l ≡ refusal benchRefusal 0
-  unfolding admissible wordsShort
-  full-short f h = rw (f, admissible, lt-ltb (length (l .words)) jobWordsLeast h)
+  pub full_short : free_place d ≡ none → length l.words < job_words_least → admissible d l ≡ refusal bench_refusal 0
+  unfolding admissible words_short
+  full_short f h = rw (f, admissible, lt-ltb (length l.words) job_words_least h)
 
-  pub full-held : freePlace d ≡ none → jobWordsLeast ≤ length (l .words) → admissible d l ≡ refusal jobsRefusal 0
-  unfolding admissible wordsShort
-  full-held f h = rw (f, admissible, le-ltb (length (l .words)) jobWordsLeast h)
+  pub full_held : free_place d ≡ none → job_words_least ≤ length l.words → admissible d l ≡ refusal jobs_refusal 0
+  unfolding admissible words_short
+  full_held f h = rw (f, admissible, le-ltb (length l.words) job_words_least h)
 
-  module _ (p : ℕ) (f : freePlace d ≡ some p) where
-    pub code-unknown : channels ≤ codeAt l p → admissible d l ≡ refusal channelRefusal 0
-    unfolding admissible wordsShort
-    code-unknown h = rw (f, admissible, le-ltb (codeAt l p) channels h)
+  module _ (p : ℕ) (f : free_place d ≡ some p) where
+    pub code_unknown : channels ≤ code_at l p → admissible d l ≡ refusal channel_refusal 0
+    unfolding admissible words_short
+    code_unknown h = rw (f, admissible, le-ltb (code_at l p) channels h)
 
-    module _ (k : codeAt l p < channels) where
-      pub words-short : length (l .words) < jobWordsLeast → admissible d l ≡ refusal benchRefusal 0
-      unfolding admissible wordsShort
-      words-short h = rw (f, admissible, lt-ltb (codeAt l p) channels k, lt-ltb (length (l .words)) jobWordsLeast h)
+    module _ (k : code_at l p < channels) where
+      pub words_short_holds : length l.words < job_words_least → admissible d l ≡ refusal bench_refusal 0
+      unfolding admissible words_short
+      words_short_holds h = rw (f, admissible, lt-ltb (code_at l p) channels k, lt-ltb (length l.words) job_words_least h)
 
-      module _ (w : jobWordsLeast ≤ length (l .words)) where
-        pub numbers-out : jobNumbers ≤ d .given → admissible d l ≡ refusal jobsRefusal 0
-        unfolding admissible wordsShort
-        numbers-out h = rw (f, admissible, lt-ltb (codeAt l p) channels k, le-ltb (length (l .words)) jobWordsLeast w, le-ltb (d .given) jobNumbers h)
+      module _ (w : job_words_least ≤ length l.words) where
+        pub numbers_out : job_numbers ≤ d.given → admissible d l ≡ refusal jobs_refusal 0
+        unfolding admissible words_short
+        numbers_out h = rw (f, admissible, lt-ltb (code_at l p) channels k, le-ltb (length l.words) job_words_least w, le-ltb d.given job_numbers h)
 
-        module _ (g : d .given < jobNumbers) where
-          pub sheet-long : textMost < lengthAt l p → admissible d l ≡ refusal lengthRefusal 0
-          unfolding admissible wordsShort
-          sheet-long h =
-              rw (f, admissible, lt-ltb (codeAt l p) channels k, le-ltb (length (l .words)) jobWordsLeast w, lt-ltb (d .given) jobNumbers g, lt-ltb textMost (lengthAt l p) h)
+        module _ (g : d.given < job_numbers) where
+          pub sheet_long : text_most < length_at l p → admissible d l ≡ refusal length_refusal 0
+          unfolding admissible words_short
+          sheet_long h =
+              rw (f, admissible, lt-ltb (code_at l p) channels k, le-ltb (length l.words) job_words_least w, lt-ltb d.given job_numbers g, lt-ltb text_most (length_at l p) h)
 
-          pub sheet-judged : lengthAt l p ≤ textMost → admissible d l ≡ sheetOf (sheetAt l p)
-          unfolding admissible wordsShort
-          sheet-judged h =
-              rw (f, admissible, lt-ltb (codeAt l p) channels k, le-ltb (length (l .words)) jobWordsLeast w, lt-ltb (d .given) jobNumbers g, le-ltb textMost (lengthAt l p) h)
+          pub sheet_judged : length_at l p ≤ text_most → admissible d l ≡ sheet_of (sheet_at l p)
+          unfolding admissible words_short
+          sheet_judged h =
+              rw (f, admissible, lt-ltb (code_at l p) channels k, le-ltb (length l.words) job_words_least w, lt-ltb d.given job_numbers g, le-ltb text_most (length_at l p) h)

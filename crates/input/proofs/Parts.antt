@@ -1,104 +1,48 @@
--- What a read came to, case by case; that bytes which came fit. Assumes nothing.
-use mathlib.Core.Path.{_≡_, refl, sym, ap, _∙_, subst, subst⁻¹}
-use mathlib.Core.Bool.{Bool, true, false, true≢false}
-use Prim.Native.Nat.{ℕ, zero, suc, _+_, _-_, _≤_}
-use native.Mathlib.Omega.{arith}
-use borrow.Author.Tests.{ltb-true}
-use mathlib.Core.List.{List}
-use lib.ListN.{length, take, drop, length-take, length-drop}
-use lib.Dec.{T}
-use lib.IntN.{ℤ, pos, negsuc, natAbs}
-use lib.Signed.{ltZ, nonNeg}
-use mir.Syntax.{w64}
-use mir.Val.{toZ, ofZ, Fits, SFits}
-use mir.ValLaws.{toZ-ofZ}
-use Rattle·io.specs.Counts.{Counts}
-use Rattle·libc.specs.Io.{Moved}
-use Rattle·input·specs.specs.Reading.{partOf, inputOf, Room, Handed}
-use Rattle·input·specs.specs.declared.Input.{Input}
-use Rattle·input·specs.specs.declared.Input.the-variants.{Read, Failed as Unread}
-use Rattle·input·specs.specs.declared.Part.{Part}
-use Rattle·input·specs.specs.declared.Part.the-variants.{Bytes, End, Failed}
+-- What a read came to, by what it answered, and that the bytes of one read after another are all that the reader had. Assumes nothing.
+use Rattle.std.proofs.Common.{◌≡◌, sym, ap, refl, ◌∙◌, subst, ℕ, zero, suc, ◌+◌, ◌-◌, ◌≤◌, ◌<◌, List, ◌++◌, length, take, drop, length-take, length-append, length-drop, append_assoc, arith, drop_at, Option, None, Some, Result, Ok, Err}
+use Rattle.std.proofs.Math.Seq.{take-add}
+use Rattle.std.proofs.lemmas.List.{take-append-le}
+use borrow.Rule.Slice.PartMut.{put_mid}
+use Rattle.std.specs.Io.{ReadsAtMost}
+use Rattle.std.specs.Io.KnownBytes.{Consumes, ReadConsumes}
+use Rattle.std.specs.declared.io.Error.{Error}
+use Rattle.input.specs.Reading.{part_of, Room, Taken}
 
-failed-below : (z : ℤ) → ltZ z (pos 0) ≡ true → Failed ≡ partOf z
-unfolding partOf
-failed-below (negsuc k) e = refl
-failed-below (pos k) e = absurd (omega (arith, ltb-true k 0 e))
+consumes_more : (a b c : Option (List ℕ)) (xs ys : List ℕ) → Consumes a b xs → Consumes b c ys → Consumes a c (xs ++ ys)
+consumes_more None b c xs ys h k = tt
+consumes_more (Some old) None c xs ys h k = absurd h
+consumes_more (Some old) (Some mid) None xs ys h k = absurd k
+consumes_more (Some old) (Some mid) (Some new) xs ys h k = h ∙ ap (λ l. xs ++ l) k ∙ sym (append_assoc xs ys new)
 
--- a number that is not below zero can be cast
-castable : (z : ℤ) → SFits w64 z → ltZ z (pos 0) ≡ false → T (nonNeg z) × Fits w64 (natAbs z)
-castable (pos k) f e = (tt, record { fits = let h = f .sfits in omega arith })
-castable (negsuc k) f e = absurd (true≢false e)
+-- bytes that came fit
+pub part_fits : (r : Result ℕ Error) (buf : List ℕ) (at many : ℕ) → ReadsAtMost r buf → at + length buf ≤ many → Room (part_of r) at many
+part_fits (Err e) buf at many h l = tt
+part_fits (Ok zero) buf at many h l = tt
+part_fits (Ok (suc k)) buf at many h l = (omega arith, omega arith)
 
-none-ended : (z : ℤ) → ltZ z (pos 0) ≡ false → natAbs z ≡ 0 → End ≡ partOf z
-unfolding partOf
-none-ended (pos zero) u e = refl
-none-ended (pos (suc k)) u e = absurd (omega arith)
-none-ended (negsuc k) u e = absurd (true≢false u)
+-- what was read into the room behind the first `at` stands there
+pub behind : (n at : ℕ) (bytes buf : List ℕ) → n ≤ length buf → at ≤ length bytes
+    → take n (drop at (put_mid at (length bytes - at) bytes buf)) ≡ take n buf
+behind n at bytes buf h l =
+    let e = drop_at (take at bytes) (buf ++ drop (length bytes - at) (drop at bytes)) at (simp length-take (omega arith)) in
+    ap (λ xs. take n xs) e ∙ take-append-le n buf (drop (length bytes - at) (drop at bytes)) h
 
-some-came : (z : ℤ) → ltZ z (pos 0) ≡ false → (natAbs z ≡ 0 → ⊥) → Bytes (natAbs z) ≡ partOf z
-unfolding partOf
-some-came (pos zero) u e = absurd (e refl)
-some-came (pos (suc k)) u e = refl
-some-came (negsuc k) u e = absurd (true≢false u)
+-- what was read stands in the room there was
+room_left : (at : ℕ) (bytes buf : List ℕ) → length buf ≡ length bytes - at → at ≤ length bytes → at < length (put_mid at (length bytes - at) bytes buf)
+    → 0 < length buf
+room_left at bytes buf e l lt =
+    omega (arith, length-append (take at bytes) (buf ++ drop (length bytes - at) (drop at bytes)), length-append buf (drop (length bytes - at) (drop at bytes)), length-take at bytes, length-drop (length bytes - at) (drop at bytes), length-drop at bytes)
 
--- of the number as the machine holds it
-module _ (got : ℤ) (fits : SFits w64 got) where
-  held : toZ w64 (ofZ w64 got) ≡ got
-  held = toZ-ofZ w64 got fits
+pub part_taken : (r : Result ℕ Error) (old new : Option (List ℕ)) (at : ℕ) (bytes buf : List ℕ) → ReadsAtMost r buf → ReadConsumes old new r buf
+    → length buf ≡ length bytes - at → at ≤ length bytes → Taken (part_of r) at old new (put_mid at (length bytes - at) bytes buf)
+part_taken (Err e) old new at bytes buf h c l m = tt
+part_taken (Ok zero) old new at bytes buf h c l m = (c.0, λ lt. c.1 refl (room_left at bytes buf l m lt))
+part_taken (Ok (suc k)) old new at bytes buf h c l m =
+    subst (λ (xs : List ℕ). Consumes old new xs) (sym (behind (suc k) at bytes buf h.0 m)) c.0
 
-  pub broken : ltZ (toZ w64 (ofZ w64 got)) (pos 0) ≡ true → Failed ≡ partOf got
-  broken e = failed-below got (rw held at e)
-
-  pub casts : ltZ (toZ w64 (ofZ w64 got)) (pos 0) ≡ false → T (nonNeg (toZ w64 (ofZ w64 got))) × Fits w64 (natAbs (toZ w64 (ofZ w64 got)))
-  casts e = rw held (castable got fits (rw held at e))
-
-  pub ended : ltZ (toZ w64 (ofZ w64 got)) (pos 0) ≡ false → natAbs (toZ w64 (ofZ w64 got)) ≡ 0 → End ≡ partOf got
-  ended u e = none-ended got (rw held at u) (rw held at e)
-
-  pub came : ltZ (toZ w64 (ofZ w64 got)) (pos 0) ≡ false → (natAbs (toZ w64 (ofZ w64 got)) ≡ 0 → ⊥) → Bytes (natAbs (toZ w64 (ofZ w64 got))) ≡ partOf got
-  came u e = subst⁻¹ (λ (z : ℤ). Bytes (natAbs z) ≡ partOf got) held (some-came got (rw held at u) (λ q. e (ap natAbs held ∙ q)))
-
--- what was moved into a room behind the first `at` of many fits there
-part-fit : (z : ℤ) (room at many : ℕ) → Moved room z → at + room ≤ many → Room (partOf z) at many
-unfolding partOf
-part-fit (negsuc k) room at many m l = tt
-part-fit (pos zero) room at many m l = tt
-part-fit (pos (suc k)) room at many m l = (omega arith, omega arith)
-
-pub part-fits : (r : Part) (z : ℤ) (room at many : ℕ) → SFits w64 z → r ≡ partOf (toZ w64 (ofZ w64 z)) → Moved room z → at + room ≤ many → Room r at many
-part-fits r z room at many f e m l = subst⁻¹ (λ (p : Part). Room p at many) (e ∙ ap partOf (held z f)) (part-fit z room at many m l)
-
--- the room behind the first `at` ends with the bytes
-pub behind-at : (bytes : List ℕ) (at : ℕ) → at ≤ length bytes → at + length (take (length bytes - at) (drop at bytes)) ≤ length bytes
-behind-at bytes at h = simp (length-take, length-drop) (omega arith)
-
--- bytes that came are at least one, and fit
-pub came-room : (r : Part) (n at many : ℕ) → r ≡ Bytes n → Room r at many → (1 ≤ n) × (at + n ≤ many)
-came-room r n at many e h = subst (λ (p : Part). Room p at many) e h
-
-pub counts : (n : ℕ) (bytes : List ℕ) → n ≤ length bytes → Counts n bytes
-counts n bytes h = (h, simp length-take (omega arith))
-
--- an input that ended behind so many bytes has these
-pub ending : (r : Input) (p : Part) (n : ℕ) (bytes : List ℕ) → r ≡ inputOf p n → n ≤ length bytes → Handed r bytes
-unfolding inputOf
-ending r (Bytes k) n bytes e h = subst⁻¹ (λ (i : Input). Handed i bytes) e (counts n bytes h)
-ending r End n bytes e h = subst⁻¹ (λ (i : Input). Handed i bytes) e (counts n bytes h)
-ending r Failed n bytes e h = subst⁻¹ (λ (i : Input). Handed i bytes) e tt
-
-pub of-bytes : (p : Part) (n at : ℕ) → p ≡ Bytes n → Read at ≡ inputOf p at
-unfolding inputOf
-of-bytes p n at e = rw e
-
-pub of-end : (p : Part) (at : ℕ) → p ≡ End → Read at ≡ inputOf p at
-unfolding inputOf
-of-end p at e = rw e
-
-pub of-failed : (p : Part) (at : ℕ) → p ≡ Failed → Unread ≡ inputOf p at
-unfolding inputOf
-of-failed p at e = rw e
-
--- for a caller that met bytes
-pub handed : (r : Input) (n : ℕ) (bytes : List ℕ) → r ≡ Read n → Handed r bytes → Counts n bytes
-handed r n bytes e h = subst (λ (i : Input). Handed i bytes) e h
+-- one more part behind those that were taken
+pub taken_more : (a b c : Option (List ℕ)) (at n : ℕ) (before after : List ℕ) → Consumes a b (take at before) → take at after ≡ take at before
+    → Consumes b c (take n (drop at after)) → Consumes a c (take (at + n) after)
+taken_more a b c at n before after h e k =
+    let h' = subst (λ (xs : List ℕ). Consumes a b xs) (sym e) h in
+    subst (λ (xs : List ℕ). Consumes a c xs) (sym (take-add at n after)) (consumes_more a b c (take at after) (take n (drop at after)) h' k)

@@ -1,11 +1,8 @@
 -- Where the job with a number stands. Assumes nothing.
-use mathlib.Core.Bool.{cond}
-use mathlib.Core.List.{List, [], _∷_}
-use Prim.Native.Nat.{ℕ, suc}
-use lib.Dec.{eqb}
-use Rattle·model.specs.Dispatcher as model
+use Rattle.std.specs.Prelude.{cond, List, [], ◌∷◌, ℕ, suc, eqb}
+use Rattle.model.specs.Dispatcher as model
 
 -- where the first job with the number stands; as many as there are, if none has it
-unfoldable pub positionOf : ℕ → List model.Job → ℕ
-positionOf n [] = 0
-positionOf n (j ∷ js) = cond (eqb (j .number) n) 0 (suc (positionOf n js))
+unfoldable pub position_of : ℕ → List model.Job → ℕ
+position_of n [] = 0
+position_of n (j ∷ js) = cond (eqb j.number n) 0 (suc (position_of n js))

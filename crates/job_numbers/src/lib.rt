@@ -1,14 +1,16 @@
 // The job with a number in a queue: whether it is held, and the queue without it.
-ghost use mathlib.Core.Path.{_≡_};
-ghost use mathlib.Core.Bool.{true};
-ghost use Rattle·model.specs.Bounded.{among};
-ghost use Rattle·model.specs.Dispatcher.{numbersIn, without};
-ghost use Rattle·queue.specs.Bridge.{queueIn, Counted};
-ghost use Rattle·job_numbers·specs.specs.Position.{positionOf};
+#![tactic(auto)]
+
+ghost use Rattle.std.specs.Prelude.{◌≡◌, true};
+ghost use Rattle.model.specs.Bounded.{among};
+ghost use Rattle.model.specs.Dispatcher.{numbers_in, without};
+ghost use Rattle.queue.specs.Bridge.{queue_in, Counted};
+ghost use Rattle.job_numbers.specs.Position.{position_of};
+
 use queue::Queue;
 
 fn count(queue: Queue) -> usize
-    ensures { λ r. ⌜ Counted queue r ⌝ }
+    ensures { Counted queue result }
 {
     let taken = taken_places::taken(queue);
     taken.count
@@ -16,7 +18,7 @@ fn count(queue: Queue) -> usize
 
 // Where the job with the number stands; as many as are held, if none has it.
 fn position(queue: Queue, number: u32) -> usize
-    ensures { λ r. ⌜ r ≡ positionOf number (queueIn queue) ⌝ }
+    ensures { result ≡ position_of number (queue_in queue) }
 {
     let count = count(queue);
     for i in 0..count {
@@ -30,15 +32,15 @@ fn position(queue: Queue, number: u32) -> usize
 
 // A job with the number is held.
 pub fn holds(queue: Queue, number: u32) -> bool
-    ensures { λ r. ⌜ r ≡ among number (numbersIn (queueIn queue)) ⌝ }
+    ensures { result ≡ among number (numbers_in (queue_in queue)) }
 {
     position(queue, number) < count(queue)
 }
 
 // The job with the number leaves.
 pub fn without(queue: Queue, number: u32) -> Queue
-    requires { ⌜ among number (numbersIn (queueIn queue)) ≡ true ⌝ }
-    ensures { λ r. ⌜ queueIn r ≡ without number (queueIn queue) ⌝ }
+    requires { among number (numbers_in (queue_in queue)) ≡ true }
+    ensures { queue_in result ≡ without number (queue_in queue) }
 {
     let at = position(queue, number);
     let count = count(queue);

@@ -1,111 +1,111 @@
--- What `joined`, `joinedFrom` and `copiedFrom` mean: row `to` has the other row's events, besides its own or alone, and no other row
+-- What `joined`, `joined_from` and `copied_from` mean: row `to` has the other row's events, besides its own or alone, and no other row
 -- is touched.
 -- Assumes nothing.
-use mathlib.Core.Path.{_≡_, refl, _∙_}
-use mathlib.Core.Bool.{Bool, _&&_, _||_, or-false}
+use mathlib.Core.Path.{◌≡◌, refl, ◌∙◌}
+use mathlib.Core.Bool.{Bool, ◌&&◌, ◌||◌, or-false}
 use mathlib.Core.List.{List}
-use Prim.Native.Nat.{ℕ, zero, suc, _+_, _*_, _/_, _<_, _≤_}
-use native.Mathlib.Decide.{ℕ-discrete}
+use Prim.Native.Nat.{ℕ, zero, suc, ◌+◌, ◌*◌, ◌/◌, ◌<◌, ◌≤◌}
+use native.Mathlib.Decide.{ℕ_discrete}
 use native.Mathlib.Numerals.{add-one}
 use native.Mathlib.Omega.{arith}
-use lib.Bits.{bitOr}
+use lib.Bits.{bit_or}
 use lib.Dec.{eqb}
-use lib.ListN.{length, getD, set, length-set}
-use lib.Seq.{getD-set-same, getD-set-other}
-use borrow.Author.Tests.{eq-eqb, ne-eqb}
-use Rattle·relation.specs.Width.{wordBits}
-use Rattle·relation.specs.Rows.{has, holds, wordOf}
-use Rattle·relation.proofs.Bits.{has-or}
-use Rattle·relation.proofs.Place.{column-lt, word-row}
-use Rattle·joined_rows·specs.specs.Joins.{merged, theirs, joined, joinedFrom, copiedFrom}
+use lib.ListN.{length, get_or, set, length-set}
+use lib.Seq.{get_or-set_same, get_or-set_other}
+use borrow.Author.Tests.{eq-eqb, ne_eqb}
+use Rattle.relation.specs.Width.{word_bits}
+use Rattle.relation.specs.Rows.{has, holds, word_of}
+use Rattle.relation.proofs.Bits.{has_or}
+use Rattle.relation.proofs.Place.{column_lt, word_row}
+use Rattle.joined_rows.specs.Joins.{merged, theirs, joined, joined_from, copied_from}
 
 module _ (op : ℕ → ℕ → ℕ) (l : List ℕ) (a : ℕ) (other : List ℕ) (b : ℕ) where
-  length-merged : (n : ℕ) → length (merged op n l a other b) ≡ length l
+  length_merged : (n : ℕ) → length (merged op n l a other b) ≡ length l
   unfolding merged
-  length-merged zero = refl
-  length-merged (suc n) = length-set (merged op n l a other b) _ _ ∙ length-merged n
+  length_merged zero = refl
+  length_merged (suc n) = length-set (merged op n l a other b) _ _ ∙ length_merged n
 
-  pub merged-outside : (n k : ℕ) → ((i : ℕ) → i < n → k ≡ a + i → ⊥) → getD (merged op n l a other b) k 0 ≡ getD l k 0
+  pub merged_outside : (n k : ℕ) → ((i : ℕ) → i < n → k ≡ a + i → ⊥) → get_or (merged op n l a other b) k 0 ≡ get_or l k 0
   unfolding merged
-  merged-outside zero k out = refl
-  merged-outside (suc n) k out =
-      getD-set-other (merged op n l a other b) (a + n) k _ 0 (out n (omega arith))
-      ∙ merged-outside n k (λ i h. out i (omega arith))
+  merged_outside zero k out = refl
+  merged_outside (suc n) k out =
+      get_or-set_other (merged op n l a other b) (a + n) k _ 0 (out n (omega arith))
+      ∙ merged_outside n k (λ i h. out i (omega arith))
 
   -- the word at a + i is made of what it was and of that at b + i
   abbrev Merged : ℕ → ℕ → Type 0
-  Merged n i = getD (merged op n l a other b) (a + i) 0 ≡ op (getD l (a + i) 0) (getD other (b + i) 0)
+  Merged n i = get_or (merged op n l a other b) (a + i) 0 ≡ op (get_or l (a + i) 0) (get_or other (b + i) 0)
 
-  merged-at : (n i : ℕ) → i < n → a + n ≤ length l → Merged n i
+  merged_at : (n i : ℕ) → i < n → a + n ≤ length l → Merged n i
   unfolding merged
-  merged-at zero i h room = absurd (omega arith)
-  merged-at (suc n) i h room = go (ℕ-discrete i n) (λ h. merged-at n i h (omega arith))
+  merged_at zero i h room = absurd (omega arith)
+  merged_at (suc n) i h room = go (ℕ_discrete i n) (λ h. merged_at n i h (omega arith))
     where
       go : Dec (i ≡ n) → (i < n → Merged n i) → Merged (suc n) i
-      go (yes e) earlier = rw e (getD-set-same (merged op n l a other b) (a + n) _ 0 (omega (arith, length-merged n)))
+      go (yes e) earlier = rw e (get_or-set_same (merged op n l a other b) (a + n) _ 0 (omega (arith, length_merged n)))
       go (no f) earlier =
-          getD-set-other (merged op n l a other b) (a + n) (a + i) _ 0 (λ e. f (omega arith)) ∙ earlier (omega arith)
+          get_or-set_other (merged op n l a other b) (a + n) (a + i) _ 0 (λ e. f (omega arith)) ∙ earlier (omega arith)
 
   -- a turn of the loop: the next word is still as it was
-  pub merged-more : (n : ℕ)
-      → set (merged op n l a other b) (a + n) (op (getD (merged op n l a other b) (a + n) 0) (getD other (b + n) 0)) ≡ merged op (n + 1) l a other b
+  pub merged_more : (n : ℕ)
+      → set (merged op n l a other b) (a + n) (op (get_or (merged op n l a other b) (a + n) 0) (get_or other (b + n) 0)) ≡ merged op (n + 1) l a other b
   unfolding merged
-  merged-more n = rw (merged-outside n (a + n) (λ i h e. omega arith), add-one)
+  merged_more n = rw (merged_outside n (a + n) (λ i h e. omega arith), add-one)
 
 -- a row that is merged with one of other words: its own events are those of the row made, and no other row is touched
 module _ (W : ℕ) (op : ℕ → ℕ → ℕ) (f : Bool → Bool → Bool) (bits : (u v k : ℕ) → has (op u v) k ≡ f (has u k) (has v k))
-    (l : List ℕ) (to : ℕ) (other : List ℕ) (from b a : ℕ) (room : to * W + W ≤ length l) (ha : a < wordBits * W) where
-  merged-row : b ≡ to → holds W (merged op W l (to * W) other (from * W)) b a ≡ f (holds W l b a) (holds W other from a)
+    (l : List ℕ) (to : ℕ) (other : List ℕ) (from b a : ℕ) (room : to * W + W ≤ length l) (ha : a < word_bits * W) where
+  merged_row : b ≡ to → holds W (merged op W l (to * W) other (from * W)) b a ≡ f (holds W l b a) (holds W other from a)
   unfolding holds
-  merged-row e = rw (e, merged-at op l (to * W) other (from * W) W (a / wordBits) (column-lt W a ha) room) (bits _ _ _)
+  merged_row e = rw (e, merged_at op l (to * W) other (from * W) W (a / word_bits) (column_lt W a ha) room) (bits _ _ _)
 
-  merged-other : (b ≡ to → ⊥) → holds W (merged op W l (to * W) other (from * W)) b a ≡ holds W l b a
+  merged_other : (b ≡ to → ⊥) → holds W (merged op W l (to * W) other (from * W)) b a ≡ holds W l b a
   unfolding holds
-  merged-other n =
-      rw (merged-outside op l (to * W) other (from * W) W (wordOf W b a) (λ i h e. n (word-row W b to (column-lt W a ha) h e)))
+  merged_other n =
+      rw (merged_outside op l (to * W) other (from * W) W (word_of W b a) (λ i h e. n (word_row W b to (column_lt W a ha) h e)))
 
-pub length-joined-from : (W : ℕ) (l : List ℕ) (to : ℕ) (other : List ℕ) (from : ℕ) → length (joinedFrom W l to other from) ≡ length l
-unfolding joinedFrom
-length-joined-from W l to other from = length-merged bitOr l (to * W) other (from * W) W
+pub length_joined_from : (W : ℕ) (l : List ℕ) (to : ℕ) (other : List ℕ) (from : ℕ) → length (joined_from W l to other from) ≡ length l
+unfolding joined_from
+length_joined_from W l to other from = length_merged bit_or l (to * W) other (from * W) W
 
-pub holds-joined-from : (W : ℕ) (l : List ℕ) (to : ℕ) (other : List ℕ) (from b a : ℕ) → to * W + W ≤ length l → a < wordBits * W
-    → holds W (joinedFrom W l to other from) b a ≡ (holds W l b a || eqb b to && holds W other from a)
-unfolding joinedFrom
-holds-joined-from W l to other from b a room ha = go (ℕ-discrete b to)
+pub holds_joined_from : (W : ℕ) (l : List ℕ) (to : ℕ) (other : List ℕ) (from b a : ℕ) → to * W + W ≤ length l → a < word_bits * W
+    → holds W (joined_from W l to other from) b a ≡ (holds W l b a || eqb b to && holds W other from a)
+unfolding joined_from
+holds_joined_from W l to other from b a room ha = go (ℕ_discrete b to)
   where
-    go : Dec (b ≡ to) → holds W (joinedFrom W l to other from) b a ≡ (holds W l b a || eqb b to && holds W other from a)
-    go (yes e) = rw (eq-eqb b to e) (merged-row W bitOr _||_ has-or l to other from b a room ha e)
-    go (no n) = rw (ne-eqb b to n, or-false) (merged-other W bitOr _||_ has-or l to other from b a room ha n)
+    go : Dec (b ≡ to) → holds W (joined_from W l to other from) b a ≡ (holds W l b a || eqb b to && holds W other from a)
+    go (yes e) = rw (eq-eqb b to e) (merged_row W bit_or ◌||◌ has_or l to other from b a room ha e)
+    go (no n) = rw (ne_eqb b to n, or-false) (merged_other W bit_or ◌||◌ has_or l to other from b a room ha n)
 
-pub length-copied-from : (W : ℕ) (l : List ℕ) (to : ℕ) (other : List ℕ) (from : ℕ) → length (copiedFrom W l to other from) ≡ length l
-unfolding copiedFrom
-length-copied-from W l to other from = length-merged theirs l (to * W) other (from * W) W
+pub length_copied_from : (W : ℕ) (l : List ℕ) (to : ℕ) (other : List ℕ) (from : ℕ) → length (copied_from W l to other from) ≡ length l
+unfolding copied_from
+length_copied_from W l to other from = length_merged theirs l (to * W) other (from * W) W
 
-module _ (W : ℕ) (l : List ℕ) (to : ℕ) (other : List ℕ) (from b a : ℕ) (room : to * W + W ≤ length l) (ha : a < wordBits * W) where
-  pub copied-row : b ≡ to → holds W (copiedFrom W l to other from) b a ≡ holds W other from a
-  unfolding copiedFrom
-  copied-row = merged-row W theirs (λ own other. other) (λ u v k. refl) l to other from b a room ha
+module _ (W : ℕ) (l : List ℕ) (to : ℕ) (other : List ℕ) (from b a : ℕ) (room : to * W + W ≤ length l) (ha : a < word_bits * W) where
+  pub copied_row : b ≡ to → holds W (copied_from W l to other from) b a ≡ holds W other from a
+  unfolding copied_from
+  copied_row = merged_row W theirs (λ own other. other) (λ u v k. refl) l to other from b a room ha
 
-  pub copied-other : (b ≡ to → ⊥) → holds W (copiedFrom W l to other from) b a ≡ holds W l b a
-  unfolding copiedFrom
-  copied-other = merged-other W theirs (λ own other. other) (λ u v k. refl) l to other from b a room ha
+  pub copied_other : (b ≡ to → ⊥) → holds W (copied_from W l to other from) b a ≡ holds W l b a
+  unfolding copied_from
+  copied_other = merged_other W theirs (λ own other. other) (λ u v k. refl) l to other from b a room ha
 
 -- the words of a row that is copied, and a word that is none of it
-pub copied-at : (W : ℕ) (l : List ℕ) (to : ℕ) (other : List ℕ) (from i : ℕ) → i < W → to * W + W ≤ length l
-    → getD (copiedFrom W l to other from) (to * W + i) 0 ≡ getD other (from * W + i) 0
-unfolding copiedFrom
-copied-at W l to other from i h room = merged-at theirs l (to * W) other (from * W) W i h room
+pub copied_at : (W : ℕ) (l : List ℕ) (to : ℕ) (other : List ℕ) (from i : ℕ) → i < W → to * W + W ≤ length l
+    → get_or (copied_from W l to other from) (to * W + i) 0 ≡ get_or other (from * W + i) 0
+unfolding copied_from
+copied_at W l to other from i h room = merged_at theirs l (to * W) other (from * W) W i h room
 
-pub copied-outside : (W : ℕ) (l : List ℕ) (to : ℕ) (other : List ℕ) (from k : ℕ) → ((i : ℕ) → i < W → k ≡ to * W + i → ⊥)
-    → getD (copiedFrom W l to other from) k 0 ≡ getD l k 0
-unfolding copiedFrom
-copied-outside W l to other from k out = merged-outside theirs l (to * W) other (from * W) W k out
+pub copied_outside : (W : ℕ) (l : List ℕ) (to : ℕ) (other : List ℕ) (from k : ℕ) → ((i : ℕ) → i < W → k ≡ to * W + i → ⊥)
+    → get_or (copied_from W l to other from) k 0 ≡ get_or l k 0
+unfolding copied_from
+copied_outside W l to other from k out = merged_outside theirs l (to * W) other (from * W) W k out
 
-pub length-joined : (W : ℕ) (l : List ℕ) (to from : ℕ) → length (joined W l to from) ≡ length l
+pub length_joined : (W : ℕ) (l : List ℕ) (to from : ℕ) → length (joined W l to from) ≡ length l
 unfolding joined
-length-joined W l to from = length-joined-from W l to l from
+length_joined W l to from = length_joined_from W l to l from
 
-pub holds-joined : (W : ℕ) (l : List ℕ) (to from b a : ℕ) → to * W + W ≤ length l → a < wordBits * W
+pub holds_joined : (W : ℕ) (l : List ℕ) (to from b a : ℕ) → to * W + W ≤ length l → a < word_bits * W
     → holds W (joined W l to from) b a ≡ (holds W l b a || eqb b to && holds W l from a)
 unfolding joined
-holds-joined W l to from = holds-joined-from W l to l from
+holds_joined W l to from = holds_joined_from W l to l from

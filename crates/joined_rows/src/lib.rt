@@ -1,16 +1,17 @@
 // Rows of the relation joined and copied: a row gains another one, or becomes one of other words.
-ghost use mathlib.Core.Path.{_≡_};
-ghost use Prim.Native.Nat.{_+_, _*_, _≤_};
-ghost use lib.ListN.{length};
-ghost use Rattle·relation.specs.Width.{width};
-ghost use Rattle·joined_rows·specs.specs.Joins.{joined, joinedFrom, copiedFrom};
+#![tactic(auto)]
+
+ghost use Rattle.std.specs.Prelude.{◌≡◌, ◌+◌, ◌*◌, ◌≤◌, length};
+ghost use Rattle.relation.specs.Width.{width};
+ghost use Rattle.joined_rows.specs.Joins.{joined, joined_from, copied_from};
+
 use relation::WIDTH;
 
 // Every predecessor of event `from` becomes one of event `to`.
 pub fn join(words: &mut [u64], to: usize, from: usize)
-    requires { ⌜ to * width + width ≤ length (now words) ⌝ }
-    requires { ⌜ from * width + width ≤ length (now words) ⌝ }
-    ensures { λ _. ⌜ now (words .exit) ≡ joined width (now (words .entry)) to from ⌝ }
+    requires width_in_bounds { to * width + width ≤ length words.old }
+    requires width_in_bounds_2 { from * width + width ≤ length words.old }
+    ensures { words.new ≡ joined width words.old to from }
 {
     let into = to * WIDTH;
     let out = from * WIDTH;
@@ -23,9 +24,9 @@ pub fn join(words: &mut [u64], to: usize, from: usize)
 
 // The same, where row `from` stands in other words.
 pub fn join_from(words: &mut [u64], to: usize, other: &[u64], from: usize)
-    requires { ⌜ to * width + width ≤ length (now words) ⌝ }
-    requires { ⌜ from * width + width ≤ length (now other) ⌝ }
-    ensures { λ _. ⌜ now (words .exit) ≡ joinedFrom width (now (words .entry)) to (now (other .entry)) from ⌝ }
+    requires width_in_bounds { to * width + width ≤ length words.old }
+    requires width_in_bounds_2 { from * width + width ≤ length other.now }
+    ensures { words.new ≡ joined_from width words.old to other.now from }
 {
     let into = to * WIDTH;
     let out = from * WIDTH;
@@ -38,9 +39,9 @@ pub fn join_from(words: &mut [u64], to: usize, other: &[u64], from: usize)
 
 // Row `to` becomes row `from` of other words.
 pub fn copy_from(words: &mut [u64], to: usize, other: &[u64], from: usize)
-    requires { ⌜ to * width + width ≤ length (now words) ⌝ }
-    requires { ⌜ from * width + width ≤ length (now other) ⌝ }
-    ensures { λ _. ⌜ now (words .exit) ≡ copiedFrom width (now (words .entry)) to (now (other .entry)) from ⌝ }
+    requires width_in_bounds { to * width + width ≤ length words.old }
+    requires width_in_bounds_2 { from * width + width ≤ length other.now }
+    ensures { words.new ≡ copied_from width words.old to other.now from }
 {
     let into = to * WIDTH;
     let out = from * WIDTH;

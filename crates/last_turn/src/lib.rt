@@ -1,16 +1,17 @@
 // The last turn of a job: the check's answer, from what the turns before it found.
-ghost use mathlib.Core.Path.{_≡_};
-ghost use Prim.Native.Nat.{_*_, _≤_};
-ghost use lib.ListN.{length};
-ghost use Rattle·model.specs.Limits.{messagesMost, traceLeast};
-ghost use Rattle·relation.specs.Width.{width};
-ghost use Rattle·last_turn·specs.specs.Answer.{allOnBoards, zeros, numbersIn, Concludes};
-use answer_words::checked::FREE;
-use answer_words::checked::LOCKED;
+#![tactic(auto)]
+
+ghost use Rattle.std.specs.Prelude.{◌≡◌, ◌*◌, ◌≤◌, length};
+ghost use Rattle.model.specs.Limits.{messages_most, trace_least};
+ghost use Rattle.relation.specs.Width.{width};
+ghost use Rattle.last_turn.specs.Answer.{all_on_boards, zeros, numbers_in, Concludes};
+
+use answer_words::checked::{FREE, LOCKED};
 use share::Race;
 
 // The check's answer as numbers: word 0 free; 1 locked, with the race's message and event and the number of steps.
 #[repr(C)]
+#[derive(Clone, Copy)]
 pub struct Numbers {
     pub word: u32,
     pub one: u32,
@@ -21,7 +22,7 @@ pub struct Numbers {
 impl Numbers {
     // No answer, and the answer "free".
     pub fn zero() -> Self
-        ensures { λ r. ⌜ r ≡ zeros ⌝ }
+        ensures { result ≡ zeros }
     {
         Numbers {
             word: FREE,
@@ -34,8 +35,8 @@ impl Numbers {
 
 // The events of the messages are on boards of the paper.
 fn are_boards(boards: &[u8], count: usize) -> bool
-    requires { ⌜ 2 * count ≤ length (now boards) ⌝ }
-    ensures { λ r. ⌜ r ≡ allOnBoards (now (boards .entry)) count ⌝ }
+    requires { 2 * count ≤ length boards.now }
+    ensures { result ≡ all_on_boards boards.now count }
 {
     for x in 0..2 * count {
         if model::BOARDS <= board::board_of(boards, x) {
@@ -54,9 +55,9 @@ pub fn conclude(
     code: usize,
     trace: &mut [u8],
 ) -> Numbers
-    requires { ⌜ length (now words) ≡ 2 * messagesMost * width ⌝ }
-    requires { ⌜ traceLeast ≤ length (now trace) ⌝ }
-    ensures { λ r. ⌜ Concludes count (now (boards .entry)) (now (words .entry)) code race (now (trace .entry)) (now (trace .exit)) (numbersIn r) ⌝ }
+    requires words_len { length words.now ≡ 2 * messages_most * width }
+    requires trace_least_in_bounds { trace_least ≤ length trace.old }
+    ensures { Concludes count boards.now words.now code race trace.old trace.new (numbers_in result) }
 {
     if race.found == 0 {
         return Numbers::zero();

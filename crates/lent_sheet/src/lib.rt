@@ -1,20 +1,21 @@
 // The sheet and the channel that an admission is lent in a place, and the scenario of the sheet in the place's words.
-ghost use mathlib.Core.Path.{_≡_};
-ghost use Prim.Native.Nat.{_<_, _≤_, min};
-ghost use lib.ListN.{length, getD};
-ghost use Rattle·model.specs.Limits.{channels, textMost, jobsMost, jobWordsLeast};
-ghost use Rattle·lent_sheet·specs.specs.Sheet.{ReadsSheet};
+#![tactic(auto)]
+
+ghost use Rattle.std.specs.Prelude.{◌≡◌, ◌<◌, ◌≤◌, min, length, get_or};
+ghost use Rattle.model.specs.Limits.{channels, text_most, jobs_most, job_words_least};
+ghost use Rattle.lent_sheet.specs.Sheet.{ReadsSheet};
+
 use expansion::Expanded;
 
 fn wide(number: u32) -> usize
-    ensures { λ r. ⌜ r ≡ number ⌝ }
+    ensures { result ≡ number }
 {
     number as usize
 }
 
 // The length lent in a place; one that the slice does not have counts as 0.
 pub fn length_at(lengths: &[u32], place: usize) -> usize
-    ensures { λ r. ⌜ r ≡ getD (now (lengths .entry)) place 0 ⌝ }
+    ensures { result ≡ get_or lengths.now place 0 }
 {
     if place < lengths.len() {
         return wide(lengths[place]);
@@ -24,7 +25,7 @@ pub fn length_at(lengths: &[u32], place: usize) -> usize
 
 // The code lent in a place; one that the slice does not have counts as 6, which is no channel's.
 pub fn code_at(codes: &[u32], place: usize) -> usize
-    ensures { λ r. ⌜ r ≡ getD (now (codes .entry)) place channels ⌝ }
+    ensures { result ≡ get_or codes.now place channels }
 {
     if place < codes.len() {
         return wide(codes[place]);
@@ -33,7 +34,7 @@ pub fn code_at(codes: &[u32], place: usize) -> usize
 }
 
 fn lower(a: usize, b: usize) -> usize
-    ensures { λ r. ⌜ r ≡ min a b ⌝ }
+    ensures { result ≡ min a b }
 {
     if a < b {
         return a;
@@ -49,9 +50,9 @@ pub fn read_sheet(
     boards: &mut [u8; model::EVENTS_MOST],
     words: &mut [u64],
 ) -> Expanded
-    requires { ⌜ (place < jobsMost) × (size ≤ textMost) ⌝ }
-    requires { ⌜ jobWordsLeast ≤ length (now words) ⌝ }
-    ensures { λ r. ⌜ ReadsSheet (now (sheets .entry)) size place (now (words .entry)) (now (boards .exit)) (now (words .exit)) r ⌝ }
+    requires place_lt_jobs_most { (place < jobs_most) × (size ≤ text_most) }
+    requires job_words_least_in_bounds { job_words_least ≤ length words.old }
+    ensures { ReadsSheet sheets.now size place words.old boards.new words.new result }
 {
     let from = lower(place * model::TEXT_MOST, sheets.len());
     let to = lower(from + size, sheets.len());

@@ -1,32 +1,29 @@
 -- A list of eight options as a number: the option of A row 0 is the highest bit, set where it is n. So the numbers come in the lists'
 -- order. Assumes nothing.
-use Prim.Native.Nat.{ℕ, zero, suc, _/_, _%_, _^_}
+use Rattle.std.specs.Prelude.{ℕ, zero, suc, ◌/◌, ◌%◌, ◌^◌, Bool, cond, ◌&&◌, ◌||◌, List, [], ◌∷◌, eqb, leb}
 use Prim.Native.Char.{code}
-use mathlib.Core.Bool.{Bool, cond, _&&_, _||_}
-use mathlib.Core.List.{List, [], _∷_}
-use lib.Dec.{eqb, leb}
-use Rattle·model.specs.Limits.{choicesMost}
-use Rattle·model.specs.Expansion.{taken, chosenMore}
+use Rattle.model.specs.Limits.{choices_most}
+use Rattle.model.specs.Expansion.{taken, chosen_more}
 
-unfoldable pub optionsIn : ℕ → ℕ → List Bool
-optionsIn zero number = []
-optionsIn (suc n) number = eqb (number / 2 ^ n % 2) 1 ∷ optionsIn n number
+unfoldable pub options_in : ℕ → ℕ → List Bool
+options_in zero number = []
+options_in (suc n) number = eqb (number / 2 ^ n % 2) 1 ∷ options_in n number
 
-abbrev pub optionsOf : ℕ → List Bool
-optionsOf number = optionsIn choicesMost number
+abbrev pub options_of : ℕ → List Bool
+options_of number = options_in choices_most number
 
 -- a row that calls, by its letter
-unfoldable pub isCall : ℕ → Bool
-isCall letter = eqb letter (code "C") || eqb letter (code "A")
+unfoldable pub is_call : ℕ → Bool
+is_call letter = eqb letter (code "C") || eqb letter (code "A")
 
 -- an A row behind the eighth
-unfoldable pub isNinth : ℕ → ℕ → Bool
-isNinth letter choices = eqb letter (code "A") && leb choicesMost choices
+unfoldable pub is_ninth : ℕ → ℕ → Bool
+is_ninth letter choices = eqb letter (code "A") && leb choices_most choices
 
 -- the sheet that such a row calls, with so many A rows met: an A row's is the one that its option names
-unfoldable pub sheetCalled : ℕ → ℕ → ℕ → ℕ → ℕ → ℕ
-sheetCalled letter m n options choices = cond (eqb letter (code "A")) (taken (optionsOf options) choices m n) m
+unfoldable pub sheet_called : ℕ → ℕ → ℕ → ℕ → ℕ → ℕ
+sheet_called letter m n options choices = cond (eqb letter (code "A")) (taken (options_of options) choices m n) m
 
 -- the A rows met behind such a row
-unfoldable pub choicesBehind : ℕ → ℕ → ℕ
-choicesBehind letter choices = chosenMore (eqb letter (code "A")) choices
+unfoldable pub choices_behind : ℕ → ℕ → ℕ
+choices_behind letter choices = chosen_more (eqb letter (code "A")) choices

@@ -1,25 +1,25 @@
 // What a walk over the levels of calls reads at a row: its letter, the option of an A row, and where a called sheet starts.
+#![tactic(auto)]
+
+ghost use Rattle.std.specs.Prelude.{◌≡◌, false, ◌<◌, ◌≤◌, length, get_or};
+ghost use Rattle.model.specs.Limits.{choices_most};
+ghost use Rattle.levels.specs.Options.{options_of};
+ghost use Rattle.levels.specs.Letters.{letter_at};
+
 use walk::Walk;
-ghost use mathlib.Core.Path.{_≡_};
-ghost use mathlib.Core.Bool.{false};
-ghost use Prim.Native.Nat.{_<_, _≤_};
-ghost use lib.ListN.{length, getD};
-ghost use Rattle·model.specs.Limits.{choicesMost};
-ghost use Rattle·levels·specs.specs.Options.{optionsOf};
-ghost use Rattle·levels·specs.specs.Letters.{letterAt};
 
 // The letter of a row. Behind the last it is an S: the file's end ends its last sheet.
 pub fn letter_at(kind: &[u8], rows: usize, row: usize) -> u8
-    requires { ⌜ rows ≤ length (now kind) ⌝ }
-    ensures { λ r. ⌜ r ≡ letterAt (now (kind .entry)) rows row ⌝ }
+    requires { rows ≤ length kind.now }
+    ensures { result ≡ letter_at kind.now rows row }
 {
     if row < rows { kind[row] } else { b'S' }
 }
 
 // The option of A row k, from 0: it takes n.
 pub fn takes_second(options: usize, k: usize) -> bool
-    requires { ⌜ k < choicesMost ⌝ }
-    ensures { λ r. ⌜ r ≡ getD (optionsOf options) k false ⌝ }
+    requires { k < choices_most }
+    ensures { result ≡ get_or (options_of options) k false }
 {
     let behind = Walk::CHOICES_MOST - 1 - k;
     (options >> behind) & 1 == 1
@@ -27,8 +27,8 @@ pub fn takes_second(options: usize, k: usize) -> bool
 
 // The row behind the S row of a sheet that is there.
 pub fn start_of(start: &[u16], sheet: u16) -> usize
-    requires { ⌜ sheet < length (now start) ⌝ }
-    ensures { λ r. ⌜ r ≡ getD (now (start .entry)) sheet 0 ⌝ }
+    requires { sheet < length start.now }
+    ensures { result ≡ get_or start.now sheet 0 }
 {
     let n = sheet as usize;
     start[n] as usize

@@ -1,159 +1,159 @@
 -- The lines and fields of specs/Scan are the model's. Assumes nothing.
-use Prim.Native.Nat.{ℕ, suc, _+_, _≤_, _<_}
+use Prim.Native.Nat.{ℕ, suc, ◌+◌, ◌≤◌, ◌<◌}
 use native.Mathlib.Omega.{arith}
-use mathlib.Core.Path.{_≡_, refl, sym, _∙_, ap, subst}
-use mathlib.Core.Bool.{Bool, true, false, cond, _&&_}
-use mathlib.Core.List.{List, [], _∷_}
-use borrow.Author.Tests.{eqb-true, ne-eqb}
+use mathlib.Core.Path.{◌≡◌, refl, sym, ◌∙◌, ap, subst}
+use mathlib.Core.Bool.{Bool, true, false, cond, ◌&&◌}
+use mathlib.Core.List.{List, [], ◌∷◌}
+use borrow.Author.Tests.{eqb-true, ne_eqb}
 use lib.Dec.{eqb}
-use lib.ListN.{length, getD, drop}
+use lib.ListN.{length, get_or, drop}
 use lib.Seq.{drop-cons}
-use Rattle·model.specs.Text.{lineEnd, space, linesOf, aheadOfLine, fieldsOf, aheadOfField}
-use Rattle·line·specs.specs.Scan.{firstLine, behindLine, firstField, behindField, behindByte, Parts, three, other, partsOf}
-use Rattle·line·specs.specs.Parts.{Cut, fieldsIn, partsIn, SplitAs, Onward}
-use Rattle·line·specs.specs.declared.Cuts.{Cuts}
-use Rattle·line·specs.specs.declared.Split.{Split}
-use Rattle·line·specs.specs.declared.Split.the-variants.{Three, Other}
+use Rattle.model.specs.Text.{line_end, space, lines_of, ahead_of_line, fields_of, ahead_of_field}
+use Rattle.line.specs.Scan.{first_line, behind_line, first_field, behind_field, behind_byte, Parts, three, other, parts_of}
+use Rattle.line.specs.Parts.{Cut, fields_in, parts_in, SplitAs, Onward}
+use Rattle.line.specs.declared.Cuts.{Cuts}
+use Rattle.line.specs.declared.Split.{Split}
+use Rattle.line.specs.declared.Split.TheVariants.{Three, Other}
 
 -- a text that is not empty is its first line and the lines behind it
-lines-cons : (b : ℕ) (s : List ℕ) → linesOf (b ∷ s) ≡ firstLine (b ∷ s) ∷ linesOf (behindLine (b ∷ s))
-unfolding linesOf aheadOfLine firstLine behindLine
-lines-cons b [] = go (eqb b lineEnd)
+lines_cons : (b : ℕ) (s : List ℕ) → lines_of (b ∷ s) ≡ first_line (b ∷ s) ∷ lines_of (behind_line (b ∷ s))
+unfolding lines_of ahead_of_line first_line behind_line
+lines_cons b [] = go (eqb b line_end)
   where
     go : (t : Bool) → cond t (record { bytes = []; ended = true } ∷ []) (record { bytes = b ∷ []; ended = false } ∷ [])
-        ≡ cond t (record { bytes = []; ended = true }) (record { bytes = b ∷ []; ended = false }) ∷ linesOf (cond t [] [])
+        ≡ cond t (record { bytes = []; ended = true }) (record { bytes = b ∷ []; ended = false }) ∷ lines_of (cond t [] [])
     go true = refl
     go false = refl
-lines-cons b (c ∷ s) = go (eqb b lineEnd) (lines-cons c s)
+lines_cons b (c ∷ s) = go (eqb b line_end) (lines_cons c s)
   where
-    go : (t : Bool) → linesOf (c ∷ s) ≡ firstLine (c ∷ s) ∷ linesOf (behindLine (c ∷ s))
-        → cond t (record { bytes = []; ended = true } ∷ linesOf (c ∷ s)) (aheadOfLine b (linesOf (c ∷ s)))
-        ≡ cond t (record { bytes = []; ended = true }) (record { bytes = b ∷ (firstLine (c ∷ s)) .bytes; ended = (firstLine (c ∷ s)) .ended })
-        ∷ linesOf (cond t (c ∷ s) (behindLine (c ∷ s)))
+    go : (t : Bool) → lines_of (c ∷ s) ≡ first_line (c ∷ s) ∷ lines_of (behind_line (c ∷ s))
+        → cond t (record { bytes = []; ended = true } ∷ lines_of (c ∷ s)) (ahead_of_line b (lines_of (c ∷ s)))
+        ≡ cond t (record { bytes = []; ended = true }) (record { bytes = b ∷ (first_line (c ∷ s)).bytes; ended = (first_line (c ∷ s)).ended })
+        ∷ lines_of (cond t (c ∷ s) (behind_line (c ∷ s)))
     go true e = refl
-    go false e = ap (aheadOfLine b) e
+    go false e = ap (ahead_of_line b) e
 
 -- what stands behind the first field: the end of the text, of the line, or a space and further fields
 data Rest (s : List ℕ) : Type 0 where
-  atEnd : behindField s ≡ [] → (firstLine s) .ended ≡ false → fieldsOf ((firstLine s) .bytes) ≡ firstField s ∷ [] → Rest s
-  atLine : (t : List ℕ) → behindField s ≡ lineEnd ∷ t → (firstLine s) .ended ≡ true → fieldsOf ((firstLine s) .bytes) ≡ firstField s ∷ []
-      → behindLine s ≡ t → Rest s
-  atSpace : (t : List ℕ) → behindField s ≡ space ∷ t → (firstLine s) .ended ≡ (firstLine t) .ended
-      → fieldsOf ((firstLine s) .bytes) ≡ firstField s ∷ fieldsOf ((firstLine t) .bytes) → behindLine s ≡ behindLine t → Rest s
+  at_end : behind_field s ≡ [] → (first_line s).ended ≡ false → fields_of (first_line s).bytes ≡ first_field s ∷ [] → Rest s
+  at_line : (t : List ℕ) → behind_field s ≡ line_end ∷ t → (first_line s).ended ≡ true → fields_of (first_line s).bytes ≡ first_field s ∷ []
+      → behind_line s ≡ t → Rest s
+  at_space : (t : List ℕ) → behind_field s ≡ space ∷ t → (first_line s).ended ≡ (first_line t).ended
+      → fields_of (first_line s).bytes ≡ first_field s ∷ fields_of (first_line t).bytes → behind_line s ≡ behind_line t → Rest s
 
-module _ (b : ℕ) (s : List ℕ) (e : eqb b space ≡ false) (f : eqb b lineEnd ≡ false) where
-  bf : behindField (b ∷ s) ≡ behindField s
-  unfolding behindField
+module _ (b : ℕ) (s : List ℕ) (e : eqb b space ≡ false) (f : eqb b line_end ≡ false) where
+  bf : behind_field (b ∷ s) ≡ behind_field s
+  unfolding behind_field
   bf = rw (e, f)
 
-  ff : firstField (b ∷ s) ≡ b ∷ firstField s
-  unfolding firstField
+  ff : first_field (b ∷ s) ≡ b ∷ first_field s
+  unfolding first_field
   ff = rw (e, f)
 
-  en : (firstLine (b ∷ s)) .ended ≡ (firstLine s) .ended
-  unfolding firstLine
+  en : (first_line (b ∷ s)).ended ≡ (first_line s).ended
+  unfolding first_line
   en = rw f
 
-  fs : (x : List (List ℕ)) → fieldsOf ((firstLine s) .bytes) ≡ firstField s ∷ x → fieldsOf ((firstLine (b ∷ s)) .bytes) ≡ firstField (b ∷ s) ∷ x
-  unfolding firstLine fieldsOf aheadOfField
+  fs : (x : List (List ℕ)) → fields_of (first_line s).bytes ≡ first_field s ∷ x → fields_of (first_line (b ∷ s)).bytes ≡ first_field (b ∷ s) ∷ x
+  unfolding first_line fields_of ahead_of_field
   fs x h =
-      let l : fieldsOf ((firstLine (b ∷ s)) .bytes) ≡ aheadOfField b (fieldsOf ((firstLine s) .bytes)) = rw (f, e) in
-      l ∙ ap (aheadOfField b) h ∙ ap (λ (y : List ℕ). y ∷ x) (sym ff)
+      let l : fields_of (first_line (b ∷ s)).bytes ≡ ahead_of_field b (fields_of (first_line s).bytes) = rw (f, e) in
+      l ∙ ap (ahead_of_field b) h ∙ ap (λ (y : List ℕ). y ∷ x) (sym ff)
 
-  bl : behindLine (b ∷ s) ≡ behindLine s
-  unfolding behindLine
+  bl : behind_line (b ∷ s) ≡ behind_line s
+  unfolding behind_line
   bl = rw f
 
   further : Rest s → Rest (b ∷ s)
-  further (atEnd p q r) = atEnd (bf ∙ p) (en ∙ q) (fs [] r)
-  further (atLine t p q r l) = atLine t (bf ∙ p) (en ∙ q) (fs [] r) (bl ∙ l)
-  further (atSpace t p q r l) = atSpace t (bf ∙ p) (en ∙ q) (fs (fieldsOf ((firstLine t) .bytes)) r) (bl ∙ l)
+  further (at_end p q r) = at_end (bf ∙ p) (en ∙ q) (fs [] r)
+  further (at_line t p q r l) = at_line t (bf ∙ p) (en ∙ q) (fs [] r) (bl ∙ l)
+  further (at_space t p q r l) = at_space t (bf ∙ p) (en ∙ q) (fs (fields_of (first_line t).bytes) r) (bl ∙ l)
 
-rest-line : (s : List ℕ) → Rest (lineEnd ∷ s)
-unfolding behindField firstField firstLine behindLine fieldsOf
-rest-line s = atLine s refl refl refl refl
+rest_line : (s : List ℕ) → Rest (line_end ∷ s)
+unfolding behind_field first_field first_line behind_line fields_of
+rest_line s = at_line s refl refl refl refl
 
-rest-space : (s : List ℕ) → Rest (space ∷ s)
-unfolding behindField firstField firstLine behindLine fieldsOf
-rest-space s = atSpace s refl refl refl refl
+rest_space : (s : List ℕ) → Rest (space ∷ s)
+unfolding behind_field first_field first_line behind_line fields_of
+rest_space s = at_space s refl refl refl refl
 
-rest-of : (s : List ℕ) → Rest s
-unfolding behindField firstField firstLine behindLine fieldsOf
-rest-of [] = atEnd refl refl refl
-rest-of (b ∷ s) = go (eqb b space) (eqb b lineEnd) refl refl (rest-of s)
+rest_of : (s : List ℕ) → Rest s
+unfolding behind_field first_field first_line behind_line fields_of
+rest_of [] = at_end refl refl refl
+rest_of (b ∷ s) = go (eqb b space) (eqb b line_end) refl refl (rest_of s)
   where
-    go : (k l : Bool) → eqb b space ≡ k → eqb b lineEnd ≡ l → Rest s → Rest (b ∷ s)
-    go true l e f r = subst (λ (x : ℕ). Rest (x ∷ s)) (sym (eqb-true b space e)) (rest-space s)
-    go false true e f r = subst (λ (x : ℕ). Rest (x ∷ s)) (sym (eqb-true b lineEnd f)) (rest-line s)
+    go : (k l : Bool) → eqb b space ≡ k → eqb b line_end ≡ l → Rest s → Rest (b ∷ s)
+    go true l e f r = subst (λ (x : ℕ). Rest (x ∷ s)) (sym (eqb-true b space e)) (rest_space s)
+    go false true e f r = subst (λ (x : ℕ). Rest (x ∷ s)) (sym (eqb-true b line_end f)) (rest_line s)
     go false false e f r = further b s e f r
 
 -- the parts of a text, as the model has them of its first line
 abbrev Parted : List ℕ → Parts → Type 0
 Parted s (three f g h rest) =
-    ((firstLine s) .ended ≡ true) × (fieldsOf ((firstLine s) .bytes) ≡ f ∷ g ∷ h ∷ []) × (behindLine s ≡ rest)
-Parted s other = ((firstLine s) .ended && eqb (length (fieldsOf ((firstLine s) .bytes))) 3) ≡ false
+    ((first_line s).ended ≡ true) × (fields_of (first_line s).bytes ≡ f ∷ g ∷ h ∷ []) × (behind_line s ≡ rest)
+Parted s other = ((first_line s).ended && eqb (length (fields_of (first_line s).bytes)) 3) ≡ false
 
-some-field : (l : List ℕ) → 1 ≤ length (fieldsOf l)
-unfolding fieldsOf aheadOfField
-some-field [] = omega arith
-some-field (b ∷ l) = go (eqb b space) (fieldsOf l)
+some_field : (l : List ℕ) → 1 ≤ length (fields_of l)
+unfolding fields_of ahead_of_field
+some_field [] = omega arith
+some_field (b ∷ l) = go (eqb b space) (fields_of l)
   where
-    ahead : (fs : List (List ℕ)) → 1 ≤ length (aheadOfField b fs)
+    ahead : (fs : List (List ℕ)) → 1 ≤ length (ahead_of_field b fs)
     ahead [] = omega arith
     ahead (f ∷ fs) = omega arith
 
-    go : (k : Bool) (fs : List (List ℕ)) → 1 ≤ length (cond k ([] ∷ fs) (aheadOfField b fs))
+    go : (k : Bool) (fs : List (List ℕ)) → 1 ≤ length (cond k ([] ∷ fs) (ahead_of_field b fs))
     go true fs = omega arith
     go false fs = ahead fs
 
-parted-of : (s : List ℕ) (p : Parts) → partsOf s ≡ p → Parted s p → Parted s (partsOf s)
-parted-of s p e h = subst (λ (q : Parts). Parted s q) (sym e) h
+parted_of : (s : List ℕ) (p : Parts) → parts_of s ≡ p → Parted s p → Parted s (parts_of s)
+parted_of s p e h = subst (λ (q : Parts). Parted s q) (sym e) h
 
 -- no line end, or fields of another number
-unended : (s : List ℕ) → (firstLine s) .ended ≡ false → Parted s other
+unended : (s : List ℕ) → (first_line s).ended ≡ false → Parted s other
 unended s h = rw h
 
-numbered : (s : List ℕ) (fs : List (List ℕ)) → fieldsOf ((firstLine s) .bytes) ≡ fs → (length fs ≡ 3 → ⊥) → Parted s other
-numbered s fs e h = go ((firstLine s) .ended)
+numbered : (s : List ℕ) (fs : List (List ℕ)) → fields_of (first_line s).bytes ≡ fs → (length fs ≡ 3 → ⊥) → Parted s other
+numbered s fs e h = go (first_line s).ended
   where
-    go : (t : Bool) → (t && eqb (length (fieldsOf ((firstLine s) .bytes))) 3) ≡ false
-    go true = rw e (ne-eqb (length fs) 3 h)
+    go : (t : Bool) → (t && eqb (length (fields_of (first_line s).bytes)) 3) ≡ false
+    go true = rw e (ne_eqb (length fs) 3 h)
     go false = refl
 
-parts-line : (s : List ℕ) → Parted s (partsOf s)
-unfolding partsOf behindByte
-parts-line s = one (rest-of s)
+parts_line : (s : List ℕ) → Parted s (parts_of s)
+unfolding parts_of behind_byte
+parts_line s = one (rest_of s)
   where
-    three-of : (t u : List ℕ) → behindField s ≡ space ∷ t → behindField t ≡ space ∷ u
-        → (firstLine s) .ended ≡ (firstLine u) .ended
-        → fieldsOf ((firstLine s) .bytes) ≡ firstField s ∷ firstField t ∷ fieldsOf ((firstLine u) .bytes) → behindLine s ≡ behindLine u
-        → Rest u → Parted s (partsOf s)
-    three-of t u p p′ q r l (atEnd a b c) = parted-of s other (rw (p, p′, a)) (unended s (q ∙ b))
-    three-of t u p p′ q r l (atLine w a b c d) =
-        parted-of s (three (firstField s) (firstField t) (firstField u) w) (rw (p, p′, a))
-        (q ∙ b, r ∙ ap (λ (x : List (List ℕ)). firstField s ∷ firstField t ∷ x) c, l ∙ d)
-    three-of t u p p′ q r l (atSpace w a b c d) =
-        parted-of s other (rw (p, p′, a))
-        (numbered s _ (r ∙ ap (λ (x : List (List ℕ)). firstField s ∷ firstField t ∷ x) c) (λ e. omega (arith, some-field ((firstLine w) .bytes))))
+    three_of : (t u : List ℕ) → behind_field s ≡ space ∷ t → behind_field t ≡ space ∷ u
+        → (first_line s).ended ≡ (first_line u).ended
+        → fields_of (first_line s).bytes ≡ first_field s ∷ first_field t ∷ fields_of (first_line u).bytes → behind_line s ≡ behind_line u
+        → Rest u → Parted s (parts_of s)
+    three_of t u p p' q r l (at_end a b c) = parted_of s other (rw (p, p', a)) (unended s (q ∙ b))
+    three_of t u p p' q r l (at_line w a b c d) =
+        parted_of s (three (first_field s) (first_field t) (first_field u) w) (rw (p, p', a))
+        (q ∙ b, r ∙ ap (λ (x : List (List ℕ)). first_field s ∷ first_field t ∷ x) c, l ∙ d)
+    three_of t u p p' q r l (at_space w a b c d) =
+        parted_of s other (rw (p, p', a))
+        (numbered s _ (r ∙ ap (λ (x : List (List ℕ)). first_field s ∷ first_field t ∷ x) c) (λ e. omega (arith, some_field (first_line w).bytes)))
 
-    two : (t : List ℕ) → behindField s ≡ space ∷ t → (firstLine s) .ended ≡ (firstLine t) .ended
-        → fieldsOf ((firstLine s) .bytes) ≡ firstField s ∷ fieldsOf ((firstLine t) .bytes) → behindLine s ≡ behindLine t
-        → Rest t → Parted s (partsOf s)
-    two t p q r l (atEnd a b c) = parted-of s other (rw (p, a)) (unended s (q ∙ b))
-    two t p q r l (atLine u a b c d) =
-        parted-of s other (rw (p, a)) (numbered s _ (r ∙ ap (λ (x : List (List ℕ)). firstField s ∷ x) c) (λ e. omega arith))
-    two t p q r l (atSpace u a b c d) =
-        three-of t u p a (q ∙ b) (r ∙ ap (λ (x : List (List ℕ)). firstField s ∷ x) c) (l ∙ d) (rest-of u)
+    two : (t : List ℕ) → behind_field s ≡ space ∷ t → (first_line s).ended ≡ (first_line t).ended
+        → fields_of (first_line s).bytes ≡ first_field s ∷ fields_of (first_line t).bytes → behind_line s ≡ behind_line t
+        → Rest t → Parted s (parts_of s)
+    two t p q r l (at_end a b c) = parted_of s other (rw (p, a)) (unended s (q ∙ b))
+    two t p q r l (at_line u a b c d) =
+        parted_of s other (rw (p, a)) (numbered s _ (r ∙ ap (λ (x : List (List ℕ)). first_field s ∷ x) c) (λ e. omega arith))
+    two t p q r l (at_space u a b c d) =
+        three_of t u p a (q ∙ b) (r ∙ ap (λ (x : List (List ℕ)). first_field s ∷ x) c) (l ∙ d) (rest_of u)
 
-    one : Rest s → Parted s (partsOf s)
-    one (atEnd a b c) = parted-of s other (rw a) (unended s b)
-    one (atLine t a b c d) = parted-of s other (rw a) (numbered s _ c (λ e. omega arith))
-    one (atSpace t a b c d) = two t a b c d (rest-of t)
+    one : Rest s → Parted s (parts_of s)
+    one (at_end a b c) = parted_of s other (rw a) (unended s b)
+    one (at_line t a b c d) = parted_of s other (rw a) (numbered s _ c (λ e. omega arith))
+    one (at_space t a b c d) = two t a b c d (rest_of t)
 
 -- the lines from a position on
-pub lines-at : (text : List ℕ) (at : ℕ) → at < length text → linesOf (drop at text) ≡ firstLine (drop at text) ∷ linesOf (behindLine (drop at text))
-lines-at text at h =
-    subst (λ (l : List ℕ). linesOf l ≡ firstLine l ∷ linesOf (behindLine l)) (sym (drop-cons text at 0 h)) (lines-cons (getD text at 0) (drop (suc at) text))
+pub lines_at : (text : List ℕ) (at : ℕ) → at < length text → lines_of (drop at text) ≡ first_line (drop at text) ∷ lines_of (behind_line (drop at text))
+lines_at text at h =
+    subst (λ (l : List ℕ). lines_of l ≡ first_line l ∷ lines_of (behind_line l)) (sym (drop-cons text at 0 h)) (lines_cons (get_or text at 0) (drop (suc at) text))
 
 -- What a split says of the line: it has its end and the three fields between the cuts, and the next line begins behind it; or it has not.
 module _ (text : List ℕ) (at : ℕ) (s : Split) (p : SplitAs text at s) where
@@ -161,28 +161,28 @@ module _ (text : List ℕ) (at : ℕ) (s : Split) (p : SplitAs text at s) where
     split : SplitAs text at (Three c)
     split = subst (λ (x : Split). SplitAs text at x) e p
 
-    parted : Parted (drop at text) (partsIn text (Three c))
-    parted = subst (λ (q : Parts). Parted (drop at text) q) (sym (split .parts)) (parts-line (drop at text))
+    parted : Parted (drop at text) (parts_in text (Three c))
+    parted = subst (λ (q : Parts). Parted (drop at text) q) (sym split.parts) (parts_line (drop at text))
 
-    pub line-ended : (firstLine (drop at text)) .ended ≡ true
-    line-ended = parted .0
+    pub line_ended : (first_line (drop at text)).ended ≡ true
+    line_ended = parted.0
 
-    pub line-fields : fieldsOf ((firstLine (drop at text)) .bytes) ≡ fieldsIn text c
-    line-fields = parted .1
+    pub line_fields : fields_of (first_line (drop at text)).bytes ≡ fields_in text c
+    line_fields = parted.1
 
-    pub cut-known : Cut text c
-    cut-known = split .cut .1
+    pub cut_known : Cut text c
+    cut_known = split.cut.1
 
-    pub onward : Onward text at (c .end + 1)
+    pub onward : Onward text at (c.end + 1)
     onward =
         record {
-          further = omega (arith, split .cut .0, cut-known .one, cut-known .two, cut-known .three);
-          inside = omega (arith, cut-known .inside);
-          behind = sym (parted .2);
+          further = omega (arith, split.cut.0, cut_known.one, cut_known.two, cut_known.three);
+          inside = omega (arith, cut_known.inside);
+          behind = sym parted.2;
         }
 
-  pub line-other : s ≡ Other → ((firstLine (drop at text)) .ended && eqb (length (fieldsOf ((firstLine (drop at text)) .bytes))) 3) ≡ false
-  line-other e =
+  pub line_other : s ≡ Other → ((first_line (drop at text)).ended && eqb (length (fields_of (first_line (drop at text)).bytes)) 3) ≡ false
+  line_other e =
       let split : SplitAs text at Other = subst (λ (x : Split). SplitAs text at x) e p in
-      let parted : Parted (drop at text) other = subst (λ (q : Parts). Parted (drop at text) q) (sym (split .parts)) (parts-line (drop at text)) in
+      let parted : Parted (drop at text) other = subst (λ (q : Parts). Parted (drop at text) q) (sym split.parts) (parts_line (drop at text)) in
       parted

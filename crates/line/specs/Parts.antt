@@ -1,49 +1,46 @@
 -- The reader's cuts of a line, as the model's fields. Assumes nothing.
-use Prim.Native.Nat.{ℕ, _+_, _≤_, _<_}
-use mathlib.Core.Path.{_≡_}
-use mathlib.Core.List.{List, [], _∷_}
-use lib.ListN.{length, drop}
-use lib.Seq.{slice}
-use Rattle·line·specs.specs.Scan.{behindLine, firstField, behindField, Parts, three, other, partsOf}
-use Rattle·line·specs.specs.declared.Cuts.{Cuts}
-use Rattle·line·specs.specs.declared.Split.{Split}
-use Rattle·line·specs.specs.declared.Split.the-variants.{Three, Other}
+use Rattle.std.specs.Prelude.{ℕ, ◌+◌, ◌≤◌, ◌<◌, ◌≡◌, List, [], ◌∷◌, length, drop}
+use Rattle.std.proofs.Math.Seq.{slice}
+use Rattle.line.specs.Scan.{behind_line, first_field, behind_field, Parts, three, other, parts_of}
+use Rattle.line.specs.declared.Cuts.{Cuts}
+use Rattle.line.specs.declared.Split.{Split}
+use Rattle.line.specs.declared.Split.TheVariants.{Three, Other}
 
 -- a field ends at r
 pub record FieldEnd (text : List ℕ) (at r : ℕ) : Type 0 where
   pub from : at ≤ r
   pub to : r ≤ length text
-  pub field : slice at r text ≡ firstField (drop at text)
-  pub behind : drop r text ≡ behindField (drop at text)
+  pub field : slice at r text ≡ first_field (drop at text)
+  pub behind : drop r text ≡ behind_field (drop at text)
 
 -- the cuts lie in the text, one behind the other, and the three fields between them
 pub record Cut (text : List ℕ) (c : Cuts) : Type 0 where
-  pub one : c .at ≤ c .first
-  pub two : c .first < c .second
-  pub three : c .second < c .end
-  pub inside : c .end < length text
+  pub one : c.at ≤ c.first
+  pub two : c.first < c.second
+  pub three : c.second < c.end
+  pub inside : c.end < length text
 
-abbrev pub fieldsIn : List ℕ → Cuts → List (List ℕ)
-fieldsIn text c =
-    slice (c .at) (c .first) text ∷ slice (c .first + 1) (c .second) text ∷ slice (c .second + 1) (c .end) text ∷ []
+abbrev pub fields_in : List ℕ → Cuts → List (List ℕ)
+fields_in text c =
+    slice c.at c.first text ∷ slice (c.first + 1) c.second text ∷ slice (c.second + 1) c.end text ∷ []
 
 -- a split of the text from a position on, as parts
-abbrev pub partsIn : List ℕ → Split → Parts
-partsIn text (Three c) =
-    three (slice (c .at) (c .first) text) (slice (c .first + 1) (c .second) text) (slice (c .second + 1) (c .end) text) (drop (c .end + 1) text)
-partsIn text Other = other
+abbrev pub parts_in : List ℕ → Split → Parts
+parts_in text (Three c) =
+    three (slice c.at c.first text) (slice (c.first + 1) c.second text) (slice (c.second + 1) c.end text) (drop (c.end + 1) text)
+parts_in text Other = other
 
 -- the cuts of a split begin at the position given, and lie in the text
 abbrev pub CutFrom : List ℕ → ℕ → Split → Type 0
-CutFrom text at (Three c) = (c .at ≡ at) × Cut text c
+CutFrom text at (Three c) = (c.at ≡ at) × Cut text c
 CutFrom text at Other = Unit {0}
 
 pub record SplitAs (text : List ℕ) (at : ℕ) (r : Split) : Type 0 where
-  pub parts : partsIn text r ≡ partsOf (drop at text)
+  pub parts : parts_in text r ≡ parts_of (drop at text)
   pub cut : CutFrom text at r
 
 -- the next line begins behind the one that begins at a position
 pub record Onward (text : List ℕ) (at next : ℕ) : Type 0 where
   pub further : at < next
   pub inside : next ≤ length text
-  pub behind : drop next text ≡ behindLine (drop at text)
+  pub behind : drop next text ≡ behind_line (drop at text)

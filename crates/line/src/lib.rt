@@ -1,9 +1,9 @@
 // A line of a text, cut into its three fields.
-ghost use mathlib.Core.Path.{_≡_};
-ghost use Prim.Native.Nat.{_≤_};
-ghost use lib.ListN.{length, drop};
-ghost use Rattle·line·specs.specs.Scan.{beginsWith};
-ghost use Rattle·line·specs.specs.Parts.{FieldEnd, SplitAs};
+#![tactic(auto)]
+
+ghost use Rattle.std.specs.Prelude.{◌≡◌, ◌≤◌, length, drop};
+ghost use Rattle.line.specs.Scan.{begins_with};
+ghost use Rattle.line.specs.Parts.{FieldEnd, SplitAs};
 
 // Byte 10 ends a line, and byte 32 stands between two fields.
 const LINE_END: u8 = 10;
@@ -11,6 +11,7 @@ const LINE_END: u8 = 10;
 const SPACE: u8 = 32;
 
 // A line of three fields, from `at`: the places of its two spaces and of its end.
+#[derive(Clone, Copy)]
 pub struct Cuts {
     pub at: usize,
     pub first: usize,
@@ -18,6 +19,7 @@ pub struct Cuts {
     pub end: usize,
 }
 
+#[derive(Clone, Copy)]
 pub enum Split {
     Three(Cuts),
     Other,
@@ -25,8 +27,8 @@ pub enum Split {
 
 // Where the field that begins at `at` ends: at a space, a line end, or the end of the text.
 fn field_end(text: &[u8], at: usize) -> usize
-    requires { ⌜ at ≤ length (now text) ⌝ }
-    ensures { λ r. ⌜ FieldEnd (now (text .entry)) at r ⌝ }
+    requires { at ≤ length text.now }
+    ensures { FieldEnd text.now at result }
 {
     let mut i = at;
     while i < text.len() {
@@ -44,8 +46,8 @@ fn field_end(text: &[u8], at: usize) -> usize
 
 // The line that begins at `at`, if it has its end and three fields.
 pub fn cut(text: &[u8], at: usize) -> Split
-    requires { ⌜ at ≤ length (now text) ⌝ }
-    ensures { λ r. ⌜ SplitAs (now (text .entry)) at r ⌝ }
+    requires { at ≤ length text.now }
+    ensures { SplitAs text.now at result }
 {
     let first = field_end(text, at);
     if !is_byte(text, first, SPACE) {
@@ -69,7 +71,7 @@ pub fn cut(text: &[u8], at: usize) -> Split
 
 // The byte at `at` is there, and is `b`.
 fn is_byte(text: &[u8], at: usize, b: u8) -> bool
-    ensures { λ r. ⌜ r ≡ beginsWith b (drop at (now (text .entry))) ⌝ }
+    ensures { result ≡ begins_with b (drop at text.now) }
 {
     if at < text.len() {
         text[at] == b

@@ -1,9 +1,9 @@
 -- From what the search found to the model. Assumes nothing.
-use Prim.Native.Nat.{ℕ}
-use mathlib.Core.Option.{Option, none, some}
-use Rattle·lowest_race·specs.specs.declared.Lowest.{Lowest}
-use Rattle·lowest_race·specs.specs.declared.Lowest.the-variants as lowest
+use Rattle.std.specs.Prelude.{ℕ}
+use Rattle.std.proofs.Math.Option.{Option, none, some}
+use Rattle.lowest_race.specs.declared.Lowest.{Lowest}
+use Rattle.lowest_race.specs.declared.Lowest.TheVariants as lowest
 
-abbrev pub raceIn : Lowest → Option (ℕ × ℕ)
-raceIn (lowest.Race e x) = some (e, x)
-raceIn lowest.Nothing = none
+abbrev pub race_in : Lowest → Option (ℕ × ℕ)
+race_in (lowest.Race e x) = some (e, x)
+race_in lowest.Nothing = none

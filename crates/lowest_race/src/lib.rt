@@ -1,18 +1,17 @@
 // The race named: the lowest message that races, and the lowest event that it races with.
-ghost use mathlib.Core.Path.{_≡_};
-ghost use Prim.Native.Nat.{_<_};
-ghost use Rattle·model.specs.Race.{lowestEvent, lowestRace};
-ghost use Rattle·relation.specs.Scenario.{scenarioIn};
-ghost use Rattle·board.specs.Masks.{Standing};
-ghost use Rattle·at_or_before.specs.Lent.{Lent};
-ghost use Rattle·race.specs.Bridge.{ruleIn};
-ghost use Rattle·relation.specs.Own.{foundIn};
-ghost use Rattle·lowest_race·specs.specs.Named.{raceIn};
-use race::Rule;
-use race::race_word;
-use relation::Found;
-use relation::WIDTH;
-use relation::WORD_BITS;
+#![tactic(auto)]
+
+ghost use Rattle.std.specs.Prelude.{◌≡◌, ◌<◌};
+ghost use Rattle.model.specs.Race.{lowest_event, lowest_race};
+ghost use Rattle.relation.specs.Scenario.{scenario_in};
+ghost use Rattle.board.specs.Masks.{Standing};
+ghost use Rattle.at_or_before.specs.Lent.{Lent};
+ghost use Rattle.race.specs.Bridge.{rule_in};
+ghost use Rattle.relation.specs.Own.{found_in};
+ghost use Rattle.lowest_race.specs.Named.{race_in};
+
+use race::{Rule, race_word};
+use relation::{Found, WIDTH, WORD_BITS};
 
 // The lowest event that races with a message, if one does.
 fn lowest_event(
@@ -23,9 +22,9 @@ fn lowest_event(
     rule: Rule,
     e: usize,
 ) -> Found
-    requires { ⌜ Standing count (now boards) (now words) (now masks) ⌝ }
-    requires { ⌜ e < count ⌝ }
-    ensures { λ r. ⌜ foundIn r ≡ lowestEvent (scenarioIn count (now (boards .entry)) (now (words .entry))) (ruleIn rule) e ⌝ }
+    requires standing { Standing count boards.now words.now masks.now }
+    requires e_lt_count { e < count }
+    ensures { found_in result ≡ lowest_event (scenario_in count boards.now words.now) (rule_in rule) e }
 {
     for w in 0..WIDTH {
         let word = race_word(words, masks, boards, count, rule, e, w);
@@ -37,14 +36,15 @@ fn lowest_event(
 }
 
 // A message and the event that it races with, or no race.
+#[derive(Clone, Copy)]
 pub enum Lowest {
     Race(usize, usize),
     Nothing,
 }
 
 fn lowest_message(words: &[u64], masks: &[u64], boards: &[u8], count: usize, rule: Rule) -> Lowest
-    requires { ⌜ Standing count (now boards) (now words) (now masks) ⌝ }
-    ensures { λ r. ⌜ raceIn r ≡ lowestRace (scenarioIn count (now (boards .entry)) (now (words .entry))) (ruleIn rule) ⌝ }
+    requires { Standing count boards.now words.now masks.now }
+    ensures { race_in result ≡ lowest_race (scenario_in count boards.now words.now) (rule_in rule) }
 {
     for e in 0..count {
         let found = lowest_event(words, masks, boards, count, rule, e);
@@ -58,8 +58,8 @@ fn lowest_message(words: &[u64], masks: &[u64], boards: &[u8], count: usize, rul
 
 // On a channel without races no masks are made.
 pub fn lowest_race(words: &[u64], boards: &[u8], count: usize, rule: Rule) -> Lowest
-    requires { ⌜ Lent count (now boards) (now words) ⌝ }
-    ensures { λ r. ⌜ raceIn r ≡ lowestRace (scenarioIn count (now (boards .entry)) (now (words .entry))) (ruleIn rule) ⌝ }
+    requires { Lent count boards.now words.now }
+    ensures { race_in result ≡ lowest_race (scenario_in count boards.now words.now) (rule_in rule) }
 {
     if let Rule::Never = rule {
         return Lowest::Nothing;

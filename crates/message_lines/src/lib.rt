@@ -1,14 +1,14 @@
 // The lines of the messages' M rows: the walk of an accepted sheet again, counting messages alone, up to as many as are asked for.
-ghost use mathlib.Core.Path.{_≡_};
-ghost use mathlib.Core.List.{_++_};
-ghost use Prim.Native.Nat.{_*_, _<_, _≤_};
-ghost use lib.ListN.{length, getD, take, drop};
-ghost use Rattle·model.specs.Limits.{messagesMost};
-ghost use Rattle·model.specs.Senders.{linesMet};
-ghost use Rattle·relation.specs.Width.{width};
-ghost use Rattle·sheet.specs.Bridge.{rowsOf};
-ghost use Rattle·expansion.specs.Lent.{RowsRead};
-ghost use Rattle·message_lines·specs.specs.Lines.{linesIn};
+#![tactic(auto)]
+
+ghost use Rattle.std.specs.Prelude.{◌≡◌, ◌++◌, ◌*◌, ◌<◌, ◌≤◌, length, get_or, take, drop};
+ghost use Rattle.model.specs.Limits.{messages_most};
+ghost use Rattle.model.specs.Senders.{lines_met};
+ghost use Rattle.relation.specs.Width.{width};
+ghost use Rattle.sheet.specs.Bridge.{rows_of};
+ghost use Rattle.expansion.specs.Lent.{RowsRead};
+ghost use Rattle.message_lines.specs.Lines.{lines_in};
+
 use sheet::Verdict;
 
 // The walk of the rows: the line of each M row that it meets, up to so many. No limit of a walk is met on the way, since the rows are
@@ -22,10 +22,10 @@ fn walk_rows(
     asked: usize,
     lines: &mut [u16],
 )
-    requires { ⌜ RowsRead (now kind) (now one) (now two) rows (now start) ⌝ }
-    requires { ⌜ asked ≤ length (linesIn (rowsOf (now kind) (now one) (now two) rows)) ⌝ }
-    requires { ⌜ asked ≤ length (now lines) ⌝ }
-    ensures { λ _. ⌜ now (lines .exit) ≡ take asked (linesIn (rowsOf (now (kind .entry)) (now (one .entry)) (now (two .entry)) rows)) ++ drop asked (now (lines .entry)) ⌝ }
+    requires rows_read { RowsRead kind.now one.now two.now rows start.now }
+    requires asked_in_bounds { asked ≤ length (lines_in (rows_of kind.now one.now two.now rows)) }
+    requires asked_in_bounds_2 { asked ≤ length lines.old }
+    ensures { lines.new ≡ take asked (lines_in (rows_of kind.now one.now two.now rows)) ++ drop asked lines.old }
 {
     let mut from = [0usize; model::LEVELS];
     let mut level = 0;
@@ -59,23 +59,17 @@ fn walk_rows(
 // The lines of the first messages that the walk of the text meets, at the start of `lines`. The text is read again; what is left in the
 // words does not matter.
 pub fn lines_of(text: &[u8], asked: usize, words: &mut [u64], lines: &mut [u16])
-    requires { ⌜ length (now words) ≡ 2 * messagesMost * width ⌝ }
-    requires { ⌜ asked ≤ length (linesMet (now text)) ⌝ }
-    requires { ⌜ asked ≤ length (now lines) ⌝ }
-    ensures { λ _. ⌜ now (lines .exit) ≡ take asked (linesMet (now (text .entry))) ++ drop asked (now (lines .entry)) ⌝ }
+    requires words_len { length words.old ≡ 2 * messages_most * width }
+    requires asked_in_bounds { asked ≤ length (lines_met text.now) }
+    requires asked_in_bounds_2 { asked ≤ length lines.old }
+    ensures { lines.new ≡ take asked (lines_met text.now) ++ drop asked lines.old }
 {
     let mut kind = [0u8; model::ROWS_MOST];
     let mut one = [0u16; model::ROWS_MOST];
     let mut two = [0u16; model::ROWS_MOST];
     let mut start = [0u16; model::SHEETS];
     let verdict = sheet::read(
-        text,
-        false,
-        &mut kind,
-        &mut one,
-        &mut two,
-        &mut start,
-        words,
+        text, false, &mut kind, &mut one, &mut two, &mut start, words,
     );
     match verdict {
         Verdict::Refused(_, _) => {}
@@ -85,17 +79,17 @@ pub fn lines_of(text: &[u8], asked: usize, words: &mut [u64], lines: &mut [u16])
 
 // A line, as the answers hold it.
 fn wide(line: u16) -> usize
-    ensures { λ r. ⌜ r ≡ line ⌝ }
+    ensures { result ≡ line }
 {
     line as usize
 }
 
 // The line of the M row of one message.
 pub fn line_of(text: &[u8], message: usize, words: &mut [u64]) -> usize
-    requires { ⌜ length (now words) ≡ 2 * messagesMost * width ⌝ }
-    requires { ⌜ message < length (linesMet (now text)) ⌝ }
-    requires { ⌜ message < messagesMost ⌝ }
-    ensures { λ r. ⌜ r ≡ getD (linesMet (now (text .entry))) message 0 ⌝ }
+    requires words_len { length words.old ≡ 2 * messages_most * width }
+    requires message_in_bounds { message < length (lines_met text.now) }
+    requires message_lt_messages_most { message < messages_most }
+    ensures { result ≡ get_or (lines_met text.now) message 0 }
 {
     let mut lines = [0u16; model::MESSAGES_MOST];
     lines_of(text, message + 1, words, &mut lines);

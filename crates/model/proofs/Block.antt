@@ -1,61 +1,61 @@
 -- The order of a block: the computed table is exactly the least transitive relation, and what one P row and one message more add to
 -- it. Assumes nothing.
-use Prim.Native.Nat.{ℕ, _+_, _*_, _%_, _<_}
+use Prim.Native.Nat.{ℕ, ◌+◌, ◌*◌, ◌%◌, ◌<◌}
 use native.Mathlib.Omega.{arith}
-use native.Mathlib.Decide.{ℕ-discrete}
-use mathlib.Core.Path.{_≡_, refl, sym, _∙_, subst}
-use mathlib.Core.Logic.{_⊎_, inl, inr, ⊎-elim, _↔_}
-use mathlib.Core.Bool.{Bool, true, false, _&&_}
-use mathlib.Core.List.{List, _∷_}
+use native.Mathlib.Decide.{ℕ_discrete}
+use mathlib.Core.Path.{◌≡◌, refl, sym, ◌∙◌, subst}
+use mathlib.Core.Logic.{◌⊎◌, inl, inr, ⊎_elim, ◌↔◌}
+use mathlib.Core.Bool.{Bool, true, false, ◌&&◌}
+use mathlib.Core.List.{List, ◌∷◌}
 use lib.Dec.{eqb, ltb}
 use borrow.Author.Tests.{eqb-true, eq-eqb, ltb-true, lt-ltb}
-use Rattle·model·specs.specs.Closure.{listed, reads}
-use Rattle·model·specs.specs.Place.{isOwnPair, BlockBefore, given, paired, through, blockDirect, blockTable, blockCircle}
-use Rattle·model·proofs.proofs.Bounded.{and-left, and-right, or-cases, or-left, or-right, both-ways, not-both, any-from, any-none, any-some}
-use Rattle·model·proofs.proofs.Closure.{linked-below, closure-holds, closure-transitive, closure-least}
+use Rattle.model.specs.Closure.{listed, reads}
+use Rattle.model.specs.Place.{is_own_pair, BlockBefore, given, paired, through, block_direct, block_table, block_circle}
+use Rattle.model.proofs.Bounded.{and_left, and_right, or_cases, or_left, or_right, both_ways, not_both, any_from, any_none, any_some}
+use Rattle.model.proofs.Closure.{linked_below, closure_holds, closure_transitive, closure_least}
 
 -- a message's own pair: its parts, and from them
-pub own-pair-parts : (n x y : ℕ) → isOwnPair n x y ≡ true → (x % 2 ≡ 0) × (y ≡ x + 1) × (y < n)
-unfolding isOwnPair
-own-pair-parts n x y h =
-    let ab = and-left (eqb (x % 2) 0 && eqb y (x + 1)) (ltb y n) h in (
-      eqb-true (x % 2) 0 (and-left (eqb (x % 2) 0) (eqb y (x + 1)) ab),
-      eqb-true y (x + 1) (and-right (eqb (x % 2) 0) (eqb y (x + 1)) ab),
-      ltb-true y n (and-right (eqb (x % 2) 0 && eqb y (x + 1)) (ltb y n) h),
+pub own_pair_parts : (n x y : ℕ) → is_own_pair n x y ≡ true → (x % 2 ≡ 0) × (y ≡ x + 1) × (y < n)
+unfolding is_own_pair
+own_pair_parts n x y h =
+    let ab = and_left (eqb (x % 2) 0 && eqb y (x + 1)) (ltb y n) h in (
+      eqb-true (x % 2) 0 (and_left (eqb (x % 2) 0) (eqb y (x + 1)) ab),
+      eqb-true y (x + 1) (and_right (eqb (x % 2) 0) (eqb y (x + 1)) ab),
+      ltb-true y n (and_right (eqb (x % 2) 0 && eqb y (x + 1)) (ltb y n) h),
     )
 
-pub own-pair-from : (n x y : ℕ) → x % 2 ≡ 0 → y ≡ x + 1 → y < n → isOwnPair n x y ≡ true
-unfolding isOwnPair
-own-pair-from n x y a b c = rw (a, eq-eqb y (x + 1) b, lt-ltb y n c)
+pub own_pair_from : (n x y : ℕ) → x % 2 ≡ 0 → y ≡ x + 1 → y < n → is_own_pair n x y ≡ true
+unfolding is_own_pair
+own_pair_from n x y a b c = rw (a, eq-eqb y (x + 1) b, lt-ltb y n c)
 
 -- one pair more on a list
-pub listed-more : (x y a b : ℕ) (orders : List (ℕ × ℕ)) → listed a b ((x, y) ∷ orders) ≡ true
+pub listed_more : (x y a b : ℕ) (orders : List (ℕ × ℕ)) → listed a b ((x, y) ∷ orders) ≡ true
     → ((a ≡ x) × (b ≡ y)) ⊎ (listed a b orders ≡ true)
 unfolding listed
-listed-more x y a b orders h =
-    ⊎-elim
-    (λ e. inl (eqb-true a x (and-left (eqb a x) (eqb b y) e), eqb-true b y (and-right (eqb a x) (eqb b y) e)))
+listed_more x y a b orders h =
+    ⊎_elim
+    (λ e. inl (eqb-true a x (and_left (eqb a x) (eqb b y) e), eqb-true b y (and_right (eqb a x) (eqb b y) e)))
     inr
-    (or-cases (eqb a x && eqb b y) (listed a b orders) h)
+    (or_cases (eqb a x && eqb b y) (listed a b orders) h)
 
-pub listed-first : (x y : ℕ) (orders : List (ℕ × ℕ)) → listed x y ((x, y) ∷ orders) ≡ true
+pub listed_first : (x y : ℕ) (orders : List (ℕ × ℕ)) → listed x y ((x, y) ∷ orders) ≡ true
 unfolding listed
-listed-first x y orders = rw (eq-eqb x x refl, eq-eqb y y refl)
+listed_first x y orders = rw (eq-eqb x x refl, eq-eqb y y refl)
 
-pub listed-later : (x y a b : ℕ) (orders : List (ℕ × ℕ)) → listed a b orders ≡ true → listed a b ((x, y) ∷ orders) ≡ true
+pub listed_later : (x y a b : ℕ) (orders : List (ℕ × ℕ)) → listed a b orders ≡ true → listed a b ((x, y) ∷ orders) ≡ true
 unfolding listed
-listed-later x y a b orders h = or-right (eqb a x && eqb b y) (listed a b orders) h
+listed_later x y a b orders h = or_right (eqb a x && eqb b y) (listed a b orders) h
 
 -- both numbers of every pair are below n
 abbrev pub Inside : ℕ → List (ℕ × ℕ) → Type 0
 Inside n orders = (x y : ℕ) → listed x y orders ≡ true → (x < n) × (y < n)
 
-pub inside-more : (n x y : ℕ) (orders : List (ℕ × ℕ)) → Inside n orders → x < n → y < n → Inside n ((x, y) ∷ orders)
-inside-more n x y orders h p q a b l = ⊎-elim (λ e. (omega (arith, e .0), omega (arith, e .1))) (h a b) (listed-more x y a b orders l)
+pub inside_more : (n x y : ℕ) (orders : List (ℕ × ℕ)) → Inside n orders → x < n → y < n → Inside n ((x, y) ∷ orders)
+inside_more n x y orders h p q a b l = ⊎_elim (λ e. (omega (arith, e.0), omega (arith, e.1))) (h a b) (listed_more x y a b orders l)
 
 -- the table's test
-abbrev pub blockBefore : ℕ → List (ℕ × ℕ) → ℕ → ℕ → Bool
-blockBefore n orders x y = reads (blockTable n orders) x y
+abbrev pub block_before : ℕ → List (ℕ × ℕ) → ℕ → ℕ → Bool
+block_before n orders x y = reads (block_table n orders) x y
 
 -- an event of the block is another, or before it
 abbrev pub AtOrBefore : ℕ → List (ℕ × ℕ) → ℕ → ℕ → Type 0
@@ -66,61 +66,61 @@ abbrev pub NoCircle : ℕ → List (ℕ × ℕ) → Type 0
 NoCircle n orders = (e : ℕ) → BlockBefore n orders e e → ⊥
 
 module _ (n : ℕ) (orders : List (ℕ × ℕ)) where
-  pub before-below : (x y : ℕ) → blockBefore n orders x y ≡ true → (x < n) × (y < n)
-  unfolding blockTable
-  before-below x y h = linked-below n (blockDirect n orders) n x y h
+  pub before_below : (x y : ℕ) → block_before n orders x y ≡ true → (x < n) × (y < n)
+  unfolding block_table
+  before_below x y h = linked_below n (block_direct n orders) n x y h
 
-  pub before-transitive : (x y z : ℕ) → blockBefore n orders x y ≡ true → blockBefore n orders y z ≡ true → blockBefore n orders x z ≡ true
-  unfolding blockTable
-  before-transitive x y z p q = closure-transitive n (blockDirect n orders) x y z p q
+  pub before_transitive : (x y z : ℕ) → block_before n orders x y ≡ true → block_before n orders y z ≡ true → block_before n orders x z ≡ true
+  unfolding block_table
+  before_transitive x y z p q = closure_transitive n (block_direct n orders) x y z p q
 
   -- each source, and what a source is
-  direct-given : (x y : ℕ) → listed x y orders ≡ true → blockDirect n orders x y ≡ true
-  unfolding blockDirect
-  direct-given x y h = or-left (listed x y orders) _ h
+  direct_given : (x y : ℕ) → listed x y orders ≡ true → block_direct n orders x y ≡ true
+  unfolding block_direct
+  direct_given x y h = or_left (listed x y orders) _ h
 
-  direct-paired : (x y : ℕ) → isOwnPair n x y ≡ true → blockDirect n orders x y ≡ true
-  unfolding blockDirect
-  direct-paired x y h = or-right (listed x y orders) (isOwnPair n x y) h
+  direct_paired : (x y : ℕ) → is_own_pair n x y ≡ true → block_direct n orders x y ≡ true
+  unfolding block_direct
+  direct_paired x y h = or_right (listed x y orders) (is_own_pair n x y) h
 
-  direct-relation : (x y : ℕ) → blockDirect n orders x y ≡ true → BlockBefore n orders x y
-  unfolding blockDirect
-  direct-relation x y d = ⊎-elim (λ l. given l) (λ o. paired o) (or-cases (listed x y orders) (isOwnPair n x y) d)
+  direct_relation : (x y : ℕ) → block_direct n orders x y ≡ true → BlockBefore n orders x y
+  unfolding block_direct
+  direct_relation x y d = ⊎_elim (λ l. given l) (λ o. paired o) (or_cases (listed x y orders) (is_own_pair n x y) d)
 
-  table-relation : (x y : ℕ) → blockBefore n orders x y ≡ true → BlockBefore n orders x y
-  unfolding blockTable
-  table-relation x y h =
-      closure-least n (blockDirect n orders) (BlockBefore n orders) (λ a b p q d. direct-relation a b d) (λ a b c p q. through p q) x y h
+  table_relation : (x y : ℕ) → block_before n orders x y ≡ true → BlockBefore n orders x y
+  unfolding block_table
+  table_relation x y h =
+      closure_least n (block_direct n orders) (BlockBefore n orders) (λ a b p q d. direct_relation a b d) (λ a b c p q. through p q) x y h
 
-  relation-table : Inside n orders → {x y : ℕ} → BlockBefore n orders x y → blockBefore n orders x y ≡ true
-  unfolding blockTable
-  relation-table inside (given {x = x} {y = y} h) =
-      let p = inside x y h in closure-holds n (blockDirect n orders) x y (p .0) (p .1) (direct-given x y h)
-  relation-table inside (paired {x = x} {y = y} h) =
-      let p = own-pair-parts n x y h in
-      closure-holds n (blockDirect n orders) x y (omega (arith, p .1, p .2)) (p .2) (direct-paired x y h)
-  relation-table inside (through {x = x} {y = y} {z = z} p q) =
-      before-transitive x y z (relation-table inside p) (relation-table inside q)
+  relation_table : Inside n orders → {x y : ℕ} → BlockBefore n orders x y → block_before n orders x y ≡ true
+  unfolding block_table
+  relation_table inside (given {x = x} {y = y} h) =
+      let p = inside x y h in closure_holds n (block_direct n orders) x y p.0 p.1 (direct_given x y h)
+  relation_table inside (paired {x = x} {y = y} h) =
+      let p = own_pair_parts n x y h in
+      closure_holds n (block_direct n orders) x y (omega (arith, p.1, p.2)) p.2 (direct_paired x y h)
+  relation_table inside (through {x = x} {y = y} {z = z} p q) =
+      before_transitive x y z (relation_table inside p) (relation_table inside q)
 
   -- So the test is exactly the relation.
-  pub block-exact : Inside n orders → (x y : ℕ) → blockBefore n orders x y ≡ true ↔ BlockBefore n orders x y
-  block-exact inside x y = (table-relation x y, λ p. relation-table inside p)
+  pub block_exact : Inside n orders → (x y : ℕ) → block_before n orders x y ≡ true ↔ BlockBefore n orders x y
+  block_exact inside x y = (table_relation x y, λ p. relation_table inside p)
 
   -- and so is the test for a circle
-  pub circle-none : Inside n orders → blockCircle n orders ≡ false → NoCircle n orders
-  unfolding blockCircle
-  circle-none inside h e p =
-      let t = relation-table inside p in
-      not-both (blockBefore n orders e e) t (any-none n (λ k. blockBefore n orders k k) h e (before-below e e t .0))
+  pub circle_none : Inside n orders → block_circle n orders ≡ false → NoCircle n orders
+  unfolding block_circle
+  circle_none inside h e p =
+      let t = relation_table inside p in
+      not_both (block_before n orders e e) t (any_none n (λ k. block_before n orders k k) h e (before_below e e t).0)
 
-  pub circle-some : blockCircle n orders ≡ true → (e : ℕ) × BlockBefore n orders e e
-  unfolding blockCircle
-  circle-some h = let s = any-some n (λ k. blockBefore n orders k k) h in (s .0, table-relation (s .0) (s .0) (s .2))
+  pub circle_some : block_circle n orders ≡ true → (e : ℕ) × BlockBefore n orders e e
+  unfolding block_circle
+  circle_some h = let s = any_some n (λ k. block_before n orders k k) h in (s.0, table_relation s.0 s.0 s.2)
 
-  pub circle-from : Inside n orders → (e : ℕ) → BlockBefore n orders e e → blockCircle n orders ≡ true
-  unfolding blockCircle
-  circle-from inside e p =
-      let t = relation-table inside p in any-from n (λ k. blockBefore n orders k k) e (before-below e e t .0) t
+  pub circle_from : Inside n orders → (e : ℕ) → BlockBefore n orders e e → block_circle n orders ≡ true
+  unfolding block_circle
+  circle_from inside e p =
+      let t = relation_table inside p in any_from n (λ k. block_before n orders k k) e (before_below e e t).0 t
 
 -- One P row more: a is before b, or it is x or before it and b is y or behind it.
 module _ (n x y : ℕ) (orders : List (ℕ × ℕ)) where
@@ -128,10 +128,10 @@ module _ (n x y : ℕ) (orders : List (ℕ × ℕ)) where
   abbrev pub ByRow : ℕ → ℕ → Type 0
   ByRow a b = BlockBefore n orders a b ⊎ (AtOrBefore n orders a x × AtOrBefore n orders y b)
 
-  pub before-more : {a b : ℕ} → BlockBefore n orders a b → BlockBefore n ((x, y) ∷ orders) a b
-  before-more (given {x = a} {y = b} h) = given (listed-later x y a b orders h)
-  before-more (paired h) = paired h
-  before-more (through p q) = through (before-more p) (before-more q)
+  pub before_more : {a b : ℕ} → BlockBefore n orders a b → BlockBefore n ((x, y) ∷ orders) a b
+  before_more (given {x = a} {y = b} h) = given (listed_later x y a b orders h)
+  before_more (paired h) = paired h
+  before_more (through p q) = through (before_more p) (before_more q)
 
   onward : {a b c : ℕ} → BlockBefore n orders a b → AtOrBefore n orders b c → BlockBefore n orders a c
   onward {a} p (inl e) = subst (λ (z : ℕ). BlockBefore n orders a z) e p
@@ -141,72 +141,72 @@ module _ (n x y : ℕ) (orders : List (ℕ × ℕ)) where
   ahead {a} {b} {c} (inl e) q = subst (λ (z : ℕ). BlockBefore n orders z c) (sym e) q
   ahead (inr p) q = through p q
 
-  pub more-split : {a b : ℕ} → BlockBefore n ((x, y) ∷ orders) a b → ByRow a b
-  more-split (given {x = a} {y = b} h) = ⊎-elim (λ e. inr (inl (e .0), inl (sym (e .1)))) (λ l. inl (given l)) (listed-more x y a b orders h)
-  more-split (paired h) = inl (paired h)
-  more-split (through p q) = joined (more-split p) (more-split q)
+  pub more_split : {a b : ℕ} → BlockBefore n ((x, y) ∷ orders) a b → ByRow a b
+  more_split (given {x = a} {y = b} h) = ⊎_elim (λ e. inr (inl e.0, inl (sym e.1))) (λ l. inl (given l)) (listed_more x y a b orders h)
+  more_split (paired h) = inl (paired h)
+  more_split (through p q) = joined (more_split p) (more_split q)
     where
       joined : {a b c : ℕ} → ByRow a b → ByRow b c → ByRow a c
       joined (inl p) (inl q) = inl (through p q)
-      joined (inl p) (inr q) = inr (inr (onward p (q .0)), q .1)
-      joined (inr p) (inl q) = inr (p .0, inr (ahead (p .1) q))
-      joined (inr p) (inr q) = inr (p .0, q .1)
+      joined (inl p) (inr q) = inr (inr (onward p q.0), q.1)
+      joined (inr p) (inl q) = inr (p.0, inr (ahead p.1 q))
+      joined (inr p) (inr q) = inr (p.0, q.1)
 
   -- In a block without a circle, `P x y` makes one exactly if y is before x.
   module _ (inside : Inside n orders) (hx : x < n) (hy : y < n) (two : (x ≡ y → ⊥)) (none : NoCircle n orders) where
-    makes-before : blockCircle n ((x, y) ∷ orders) ≡ true → blockBefore n orders y x ≡ true
-    makes-before h =
-        let c = circle-some n ((x, y) ∷ orders) h in
-        block-exact n orders inside y x .1
-        (⊎-elim (λ p. absurd (none (c .0) p)) (λ w. meet (w .0) (w .1)) (more-split (c .1)))
+    makes_before : block_circle n ((x, y) ∷ orders) ≡ true → block_before n orders y x ≡ true
+    makes_before h =
+        let c = circle_some n ((x, y) ∷ orders) h in
+        (block_exact n orders inside y x).1
+        (⊎_elim (λ p. absurd (none c.0 p)) (λ w. meet w.0 w.1) (more_split c.1))
       where
         meet : {e : ℕ} → AtOrBefore n orders e x → AtOrBefore n orders y e → BlockBefore n orders y x
         meet (inl p) (inl q) = absurd (two (sym (q ∙ p)))
         meet (inl p) (inr q) = subst (λ (z : ℕ). BlockBefore n orders y z) p q
         meet (inr p) q = ahead q p
 
-    before-makes : blockBefore n orders y x ≡ true → blockCircle n ((x, y) ∷ orders) ≡ true
-    before-makes h =
-        circle-from n ((x, y) ∷ orders) (inside-more n x y orders inside hx hy) x
-        (through (given (listed-first x y orders)) (before-more (block-exact n orders inside y x .0 h)))
+    before_makes : block_before n orders y x ≡ true → block_circle n ((x, y) ∷ orders) ≡ true
+    before_makes h =
+        circle_from n ((x, y) ∷ orders) (inside_more n x y orders inside hx hy) x
+        (through (given (listed_first x y orders)) (before_more ((block_exact n orders inside y x).0 h)))
 
-    pub circle-exactly : blockCircle n ((x, y) ∷ orders) ≡ blockBefore n orders y x
-    circle-exactly = both-ways (blockCircle n ((x, y) ∷ orders)) (blockBefore n orders y x) makes-before before-makes
+    pub circle_exactly : block_circle n ((x, y) ∷ orders) ≡ block_before n orders y x
+    circle_exactly = both_ways (block_circle n ((x, y) ∷ orders)) (block_before n orders y x) makes_before before_makes
 
 -- One message more: its send is before its receive, and nothing else is new.
 module _ (m : ℕ) (orders : List (ℕ × ℕ)) (inside : Inside (2 * m) orders) where
-  pub message-old : {a b : ℕ} → BlockBefore (2 * m) orders a b → BlockBefore (2 * m + 2) orders a b
-  message-old (given h) = given h
-  message-old (paired {x = a} {y = b} h) =
-      let p = own-pair-parts (2 * m) a b h in paired (own-pair-from (2 * m + 2) a b (p .0) (p .1) (omega (arith, p .2)))
-  message-old (through p q) = through (message-old p) (message-old q)
+  pub message_old : {a b : ℕ} → BlockBefore (2 * m) orders a b → BlockBefore (2 * m + 2) orders a b
+  message_old (given h) = given h
+  message_old (paired {x = a} {y = b} h) =
+      let p = own_pair_parts (2 * m) a b h in paired (own_pair_from (2 * m + 2) a b p.0 p.1 (omega (arith, p.2)))
+  message_old (through p q) = through (message_old p) (message_old q)
 
-  pub message-new : BlockBefore (2 * m + 2) orders (2 * m) (2 * m + 1)
-  message-new = paired (own-pair-from (2 * m + 2) (2 * m) (2 * m + 1) (omega arith) refl (omega arith))
+  pub message_new : BlockBefore (2 * m + 2) orders (2 * m) (2 * m + 1)
+  message_new = paired (own_pair_from (2 * m + 2) (2 * m) (2 * m + 1) (omega arith) refl (omega arith))
 
   -- a is before b without the message, or the two are its own
   abbrev pub ByMessage : ℕ → ℕ → Type 0
   ByMessage a b = BlockBefore (2 * m) orders a b ⊎ ((a ≡ 2 * m) × (b ≡ 2 * m + 1))
 
-  pub message-split : {a b : ℕ} → BlockBefore (2 * m + 2) orders a b → ByMessage a b
-  message-split (given h) = inl (given h)
-  message-split (paired {x = a} {y = b} h) = go (ℕ-discrete a (2 * m))
+  pub message_split : {a b : ℕ} → BlockBefore (2 * m + 2) orders a b → ByMessage a b
+  message_split (given h) = inl (given h)
+  message_split (paired {x = a} {y = b} h) = go (ℕ_discrete a (2 * m))
     where
       go : Dec (a ≡ 2 * m) → ByMessage a b
-      go (yes e) = inr (e, let p = own-pair-parts (2 * m + 2) a b h in omega (arith, p .1))
+      go (yes e) = inr (e, let p = own_pair_parts (2 * m + 2) a b h in omega (arith, p.1))
       go (no f) =
-          let p = own-pair-parts (2 * m + 2) a b h in
-          inl (paired (own-pair-from (2 * m) a b (p .0) (p .1) (omega (arith, p .0, p .1, p .2))))
-  message-split (through p q) = joined (message-split p) (message-split q)
+          let p = own_pair_parts (2 * m + 2) a b h in
+          inl (paired (own_pair_from (2 * m) a b p.0 p.1 (omega (arith, p.0, p.1, p.2))))
+  message_split (through p q) = joined (message_split p) (message_split q)
     where
       below : {a b : ℕ} → BlockBefore (2 * m) orders a b → (a < 2 * m) × (b < 2 * m)
-      below {a} {b} p = before-below (2 * m) orders a b (block-exact (2 * m) orders inside a b .1 p)
+      below {a} {b} p = before_below (2 * m) orders a b ((block_exact (2 * m) orders inside a b).1 p)
 
       joined : {a b c : ℕ} → ByMessage a b → ByMessage b c → ByMessage a c
       joined (inl p) (inl q) = inl (through p q)
-      joined (inl p) (inr q) = absurd (omega (arith, below p .1, q .0))
-      joined (inr p) (inl q) = absurd (omega (arith, p .1, below q .0))
-      joined (inr p) (inr q) = absurd (omega (arith, p .1, q .0))
+      joined (inl p) (inr q) = absurd (omega (arith, (below p).1, q.0))
+      joined (inr p) (inl q) = absurd (omega (arith, p.1, (below q).0))
+      joined (inr p) (inr q) = absurd (omega (arith, p.1, q.0))
 
-  pub message-no-circle : NoCircle (2 * m) orders → NoCircle (2 * m + 2) orders
-  message-no-circle none e p = ⊎-elim (λ q. none e q) (λ q. omega (arith, q .0, q .1)) (message-split p)
+  pub message_no_circle : NoCircle (2 * m) orders → NoCircle (2 * m + 2) orders
+  message_no_circle none e p = ⊎_elim (λ q. none e q) (λ q. omega (arith, q.0, q.1)) (message_split p)

@@ -1,143 +1,143 @@
 -- Request (k): what the dispatcher's calls promise one by one, over whole lists of calls. Assumes nothing.
-use Prim.Native.Nat.{ℕ, _+_, _*_, _<_, _≤_}
+use Prim.Native.Nat.{ℕ, ◌+◌, ◌*◌, ◌<◌, ◌≤◌}
 use native.Mathlib.Omega.{arith}
-use mathlib.Core.Path.{_≡_, refl, sym, _∙_, ap, subst, subst⁻¹}
-use mathlib.Core.List.{List, [], _∷_, _++_}
+use mathlib.Core.Path.{◌≡◌, refl, sym, ◌∙◌, ap, subst, subst⁻¹}
+use mathlib.Core.List.{List, [], ◌∷◌, ◌++◌}
 use lib.ListN.{length}
-use Rattle·model·specs.specs.Limits.{messagesMost, channels, scratchLeast, traceLeast, jobsMost, turnsMost}
-use Rattle·model·specs.specs.Refusal.{ok}
-use Rattle·model·specs.specs.Order.{Scenario}
-use Rattle·model·specs.specs.Answer.{sheetOf, Numbers, answerFor, answerOf, numbersOf, traceAfter}
-use Rattle·model·specs.specs.Verdict.{Verdict}
-use Rattle·model·specs.specs.Dispatcher.{codeAt, sheetAt, placeWords, Job, DispatcherState, emptyDispatcher, admitting, lentTo, traceTo, admitted, outcomeOf, noAnswer, toldAs, Entry, callsOf, dispatcherFrom, ToldFrom, givenOut, AsTheCheck, JobServed, WholeLists}
-use Rattle·model·proofs.proofs.Closure.{cells-same}
-use Rattle·model·proofs.proofs.Accepted.{accepted-from, sheet-count, sheet-meets}
-use Rattle·model·proofs.proofs.PointThree.{point-three}
-use Rattle·model·proofs.proofs.Queue.{OneEach, orderly-of, one-each-empty, jobs-most, full-when}
-use Rattle·model·proofs.proofs.Jobs.{jobAt, Stands}
-use Rattle·model·proofs.proofs.Turns.{position-below, answered-within, Reached, reached, last-turn, leaves, answered-as}
-use Rattle·model·proofs.proofs.Calls.{Admission, admission-of, told-admitted, numbered, Called, Ran, ran-split, session-ran, told-as, ran-state, ran-told, called-one-each, ran-one-each}
+use Rattle.model.specs.Limits.{messages_most, channels, scratch_least, trace_least, jobs_most, turns_most}
+use Rattle.model.specs.Refusal.{ok}
+use Rattle.model.specs.Order.{Scenario}
+use Rattle.model.specs.Answer.{sheet_of, Numbers, answer_for, answer_of, numbers_of, trace_after}
+use Rattle.model.specs.Verdict.{Verdict}
+use Rattle.model.specs.Dispatcher.{code_at, sheet_at, place_words, Job, DispatcherState, empty_dispatcher, admitting, lent_to, trace_to, admitted, outcome_of, no_answer, told_as, Entry, calls_of, dispatcher_from, ToldFrom, given_out, AsTheCheck, JobServed, WholeLists}
+use Rattle.model.proofs.Closure.{cells_same}
+use Rattle.model.proofs.Accepted.{accepted_from, sheet_count, sheet_meets}
+use Rattle.model.proofs.PointThree.{point_three_holds}
+use Rattle.model.proofs.Queue.{OneEach, orderly_of, one_each_empty, jobs_most_holds, full_when}
+use Rattle.model.proofs.Jobs.{job_at, Stands}
+use Rattle.model.proofs.Turns.{position_below, answered_within, Reached, reached, last_turn_holds, leaves, answered_as}
+use Rattle.model.proofs.Calls.{Admission, admission_of, told_admitted, numbered, Called, Ran, ran_split, session_ran, told_as_holds, ran_state, ran_told, called_one_each, ran_one_each}
 
 -- the answer for a scenario is that of the check for the sheet's text, with buffers long enough; and point 3 holds of it
-check-answer : (text : List ℕ) (code scratchLength : ℕ) (trace traceExit : List ℕ) (answer : Numbers) (S : Scenario)
-    → sheetOf text ≡ ok S → code < channels → scratchLeast ≤ scratchLength → traceLeast ≤ length trace → AsTheCheck S code trace traceExit answer
-    → (answer ≡ numbersOf (answerOf text code scratchLength (length trace)))
-    × (traceExit ≡ traceAfter (answerOf text code scratchLength (length trace)) trace)
-    × Verdict S code answer traceExit
-unfolding answerOf
-check-answer text code scratchLength trace traceExit answer S sheet known scratchEnough traceEnough c =
-    let accepted = accepted-from text code scratchLength (length trace) S
-    (record { codeKnown = known; scratchEnough = scratchEnough; traceEnough = traceEnough; sheet = sheet }) in
-    let numbers : answer ≡ numbersOf (answerOf text code scratchLength (length trace)) =
-    c .numbers ∙ ap (λ o. numbersOf (answerFor o code)) (sym accepted) in
-    let written : traceExit ≡ traceAfter (answerOf text code scratchLength (length trace)) trace =
-    c .traceLeft ∙ ap (λ o. traceAfter (answerFor o code) trace) (sym accepted) in (
+check_answer : (text : List ℕ) (code scratch_length : ℕ) (trace trace_exit : List ℕ) (answer : Numbers) (S : Scenario)
+    → sheet_of text ≡ ok S → code < channels → scratch_least ≤ scratch_length → trace_least ≤ length trace → AsTheCheck S code trace trace_exit answer
+    → (answer ≡ numbers_of (answer_of text code scratch_length (length trace)))
+    × (trace_exit ≡ trace_after (answer_of text code scratch_length (length trace)) trace)
+    × Verdict S code answer trace_exit
+unfolding answer_of
+check_answer text code scratch_length trace trace_exit answer S sheet known scratch_enough trace_enough c =
+    let accepted = accepted_from text code scratch_length (length trace) S
+    (record { code_known = known; scratch_enough = scratch_enough; trace_enough = trace_enough; sheet = sheet }) in
+    let numbers : answer ≡ numbers_of (answer_of text code scratch_length (length trace)) =
+    c.numbers ∙ ap (λ o. numbers_of (answer_for o code)) (sym accepted) in
+    let written : trace_exit ≡ trace_after (answer_of text code scratch_length (length trace)) trace =
+    c.trace_left ∙ ap (λ o. trace_after (answer_for o code) trace) (sym accepted) in (
       numbers,
       written,
-      subst⁻¹ (λ (r : Numbers). Verdict S code r traceExit) numbers
-          (subst⁻¹ (λ (t : List ℕ). Verdict S code (numbersOf (answerOf text code scratchLength (length trace))) t) written
-          (point-three text code scratchLength trace S accepted)),
+      subst⁻¹ (λ (r : Numbers). Verdict S code r trace_exit) numbers
+          (subst⁻¹ (λ (t : List ℕ). Verdict S code (numbers_of (answer_of text code scratch_length (length trace))) t) written
+          (point_three_holds text code scratch_length trace S accepted)),
     )
 
-module _ {M : Type 0} (stateIn : M → DispatcherState) (Holds : M → List ℕ → Job → Scenario → Type 0) where
+module _ {M : Type 0} (state_in : M → DispatcherState) (Holds : M → List ℕ → Job → Scenario → Type 0) where
   -- the job that a call admits stands behind all others, with no turn yet
-  admitted-stands : (d : M) (a : Entry) (c : Called stateIn Holds d a) (p : ℕ) (m : Admission (stateIn d) (a .call) (stateIn d .given) p)
-      → Stands (stateIn d .given) p (codeAt (lentTo (a .call)) p) (m .scenario .count) (stateIn (c .result .next)) 0 (length (stateIn d .queue))
+  admitted_stands : (d : M) (a : Entry) (c : Called state_in Holds d a) (p : ℕ) (m : Admission (state_in d) a.call (state_in d).given p)
+      → Stands (state_in d).given p (code_at (lent_to a.call) p) m.scenario.count (state_in c.result.next) 0 (length (state_in d).queue)
   unfolding admitting
-  admitted-stands d a c p m =
+  admitted_stands d a c p m =
       record {
-        ahead = stateIn d .queue;
+        ahead = (state_in d).queue;
         rest = [];
-        queue = ap (λ (k : DispatcherState). k .queue) (c .serves .next ∙ m .next);
+        queue = ap (λ (k : DispatcherState). k.queue) (c.serves.next ∙ m.next);
         position = refl;
       }
 
-  job-served : (d : M) (a : Entry) (c : Called stateIn Holds d a) (after : List Entry) (last : M) (p : ℕ) → OneEach (stateIn d)
-      → Ran stateIn Holds (c .result .next) after last → Admission (stateIn d) (a .call) (stateIn d .given) p → JobServed a (stateIn d .given) p after
-  job-served d a c after last p o r m =
+  job_served : (d : M) (a : Entry) (c : Called state_in Holds d a) (after : List Entry) (last : M) (p : ℕ) → OneEach (state_in d)
+      → Ran state_in Holds c.result.next after last → Admission (state_in d) a.call (state_in d).given p → JobServed a (state_in d).given p after
+  job_served d a c after last p o r m =
       record {
         scenario = S;
-        isSheet = m .parts .sheet;
-        causalOrder = sheet-meets (sheetAt (lentTo (a .call)) p) S (m .parts .sheet);
-        isChannel = m .parts .codeKnown;
-        lastTurn = λ mid e rest i. last-turn stateIn Holds n p code (S .count) next (a .words) mid e rest last (at mid e rest i);
-        leaves = λ mid e rest i. leaves stateIn Holds n p code (S .count) next (a .words) mid e rest last (at mid e rest i);
+        is_sheet = m.parts.sheet;
+        causal_order = sheet_meets (sheet_at (lent_to a.call) p) S m.parts.sheet;
+        is_channel = m.parts.code_known;
+        last_turn = λ mid e rest i. last_turn_holds state_in Holds n p code S.count next a.words mid e rest last (at mid e rest i);
+        leaves = λ mid e rest i. leaves state_in Holds n p code S.count next a.words mid e rest last (at mid e rest i);
         within = λ part rest i quiet enough.
-            let parts = ran-split stateIn Holds part rest next last (subst (λ (es : List Entry). Ran stateIn Holds next es last) i r) in
-            answered-within stateIn Holds n p code (S .count) part next (parts .0) 0 (length (stateIn d .queue)) (2 * S .count) (parts .1) o′ stands
+            let parts = ran_split state_in Holds part rest next last (subst (λ (es : List Entry). Ran state_in Holds next es last) i r) in
+            answered_within state_in Holds n p code S.count part next parts.0 0 (length (state_in d).queue) (2 * S.count) parts.1 o' stands
             (omega arith) quiet (omega (arith, most, enough));
         answer = λ mid e rest i answers kept scratch enough.
-            let t = answered-as stateIn Holds n p code (S .count) next (a .words) mid e rest last (at mid e rest i) answers kept S admits in
-            check-answer (sheetAt (lentTo (a .call)) p) code (length scratch) (traceTo (e .call)) (e .trace) (e .told .answer) S
-            (m .parts .sheet) (m .parts .codeKnown) enough (t .1) (t .0);
+            let t = answered_as state_in Holds n p code S.count next a.words mid e rest last (at mid e rest i) answers kept S admits in
+            check_answer (sheet_at (lent_to a.call) p) code (length scratch) (trace_to e.call) e.trace e.told.answer S
+            m.parts.sheet m.parts.code_known enough t.1 t.0;
       }
     where
       S : Scenario
-      S = m .scenario
+      S = m.scenario
 
       n : ℕ
-      n = stateIn d .given
+      n = (state_in d).given
 
       code : ℕ
-      code = codeAt (lentTo (a .call)) p
+      code = code_at (lent_to a.call) p
 
       next : M
-      next = c .result .next
+      next = c.result.next
 
-      o′ : OneEach (stateIn next)
-      o′ = called-one-each stateIn Holds d a c o
+      o' : OneEach (state_in next)
+      o' = called_one_each state_in Holds d a c o
 
-      stands : Stands n p code (S .count) (stateIn next) 0 (length (stateIn d .queue))
-      stands = admitted-stands d a c p m
+      stands : Stands n p code S.count (state_in next) 0 (length (state_in d).queue)
+      stands = admitted_stands d a c p m
 
-      admits : Holds next (placeWords p (a .words)) (jobAt n p code (S .count) 0) S
-      admits = c .serves .admits (lentTo (a .call)) p S (m .isAdmit) (m .parts .place) (m .parts .isOk)
+      admits : Holds next (place_words p a.words) (job_at n p code S.count 0) S
+      admits = c.serves.admits (lent_to a.call) p S m.is_admit m.parts.place m.parts.is_ok
 
       at : (mid : List Entry) (e : Entry) (rest : List Entry) → after ≡ mid ++ (e ∷ rest)
-          → Reached stateIn Holds n p code (S .count) next (a .words) mid e rest last
+          → Reached state_in Holds n p code S.count next a.words mid e rest last
       at mid e rest i =
-          reached stateIn Holds n p code (S .count) next (a .words) (length (stateIn d .queue)) mid e rest last
-          (subst (λ (es : List Entry). Ran stateIn Holds next es last) i r) o′ stands
+          reached state_in Holds n p code S.count next a.words (length (state_in d).queue) mid e rest last
+          (subst (λ (es : List Entry). Ran state_in Holds next es last) i r) o' stands
 
       -- its own turns, each a round of as many jobs as may be held
-      most : jobsMost * (2 * S .count) + length (stateIn d .queue) < turnsMost
+      most : jobs_most * (2 * S.count) + length (state_in d).queue < turns_most
       most =
-          let ahead = position-below stateIn Holds n p code (S .count) next 0 (length (stateIn d .queue)) o′ stands in
-          let count : S .count ≤ messagesMost = sheet-count (sheetAt (lentTo (a .call)) p) S (m .parts .sheet) in
+          let ahead = position_below state_in Holds n p code S.count next 0 (length (state_in d).queue) o' stands in
+          let count : S.count ≤ messages_most = sheet_count (sheet_at (lent_to a.call) p) S m.parts.sheet in
           omega (arith, ahead, count)
 
   -- every job that a list of calls admits
-  jobs-served : (empty : M) → OneEach (stateIn empty) → (es : List Entry) (last : M) → Ran stateIn Holds empty es last
+  jobs_served : (empty : M) → OneEach (state_in empty) → (es : List Entry) (last : M) → Ran state_in Holds empty es last
       → (before : List Entry) (a : Entry) (after : List Entry) (n p : ℕ) → es ≡ before ++ (a ∷ after)
-      → a .told ≡ toldAs (admitted n p) noAnswer → JobServed a n p after
-  jobs-served empty o es last r before a after n p i t =
-      let parts = ran-split stateIn Holds before (a ∷ after) empty last (subst (λ (fs : List Entry). Ran stateIn Holds empty fs last) i r) in
-      let d = parts .0 in
-      let c = parts .2 .0 in
-      let is = told-admitted (outcomeOf (stateIn d) (a .call)) (a .told .answer) n p (sym (told-as stateIn Holds d a c) ∙ t) in
-      let number : n ≡ stateIn d .given = admission-of (stateIn d) (a .call) n p is .isNext in
+      → a.told ≡ told_as (admitted n p) no_answer → JobServed a n p after
+  jobs_served empty o es last r before a after n p i t =
+      let parts = ran_split state_in Holds before (a ∷ after) empty last (subst (λ (fs : List Entry). Ran state_in Holds empty fs last) i r) in
+      let d = parts.0 in
+      let c = parts.2.0 in
+      let is = told_admitted (outcome_of (state_in d) a.call) a.told.answer n p (sym (told_as_holds state_in Holds d a c) ∙ t) in
+      let number : n ≡ (state_in d).given = (admission_of (state_in d) a.call n p is).is_next in
       subst⁻¹ (λ (k : ℕ). JobServed a k p after) number
-      (job-served d a c after last p (ran-one-each stateIn Holds before empty d (parts .1) o) (parts .2 .1)
-      (admission-of (stateIn d) (a .call) (stateIn d .given) p (is ∙ ap (λ k. admitted k p) number)))
+      (job_served d a c after last p (ran_one_each state_in Holds before empty d parts.1 o) parts.2.1
+      (admission_of (state_in d) a.call (state_in d).given p (is ∙ ap (λ k. admitted k p) number)))
 
 -- One theorem, of every list of calls from the empty dispatcher.
-pub whole-lists : {M : Type 0} (stateIn : M → DispatcherState) (Holds : M → List ℕ → Job → Scenario → Type 0) (empty : M)
-    → stateIn empty ≡ emptyDispatcher → WholeLists stateIn Holds empty
-whole-lists {M} stateIn Holds empty isEmpty es d s =
-    let r = session-ran stateIn Holds empty s in
-    let o : OneEach (stateIn empty) = subst⁻¹ OneEach isEmpty one-each-empty in
-    let told : ToldFrom emptyDispatcher es = subst (λ (k : DispatcherState). ToldFrom k es) isEmpty (ran-told stateIn Holds es empty d r) in
-    let numbers = numbered emptyDispatcher es (omega arith) told in
-    let each = ran-one-each stateIn Holds es empty d r o in
-    let state = ran-state stateIn Holds es empty d r ∙ ap (λ k. dispatcherFrom k (callsOf es)) isEmpty in
+pub whole_lists : {M : Type 0} (state_in : M → DispatcherState) (Holds : M → List ℕ → Job → Scenario → Type 0) (empty : M)
+    → state_in empty ≡ empty_dispatcher → WholeLists state_in Holds empty
+whole_lists {M} state_in Holds empty is_empty es d s =
+    let r = session_ran state_in Holds empty s in
+    let o : OneEach (state_in empty) = subst⁻¹ OneEach is_empty one_each_empty in
+    let told : ToldFrom empty_dispatcher es = subst (λ (k : DispatcherState). ToldFrom k es) is_empty (ran_told state_in Holds es empty d r) in
+    let numbers = numbered empty_dispatcher es (omega arith) told in
+    let each = ran_one_each state_in Holds es empty d r o in
+    let state = ran_state state_in Holds es empty d r ∙ ap (λ k. dispatcher_from k (calls_of es)) is_empty in
     record {
       state = state;
       answers = told;
-      orderly = orderly-of (stateIn d) each;
-      heldMost = jobs-most (stateIn d) each;
-      allHeld = full-when (stateIn d) each;
-      numbers = numbers .inOrder ∙ cells-same (length (givenOut es)) (λ k. 0 + k) (λ k. k) (λ k. omega arith);
-      numbersMost = omega (arith, numbers .total, numbers .most);
-      numbersGiven = ap (λ (k : DispatcherState). k .given) state ∙ omega (arith, numbers .total);
-      jobs = jobs-served stateIn Holds empty o es d r;
+      orderly = orderly_of (state_in d) each;
+      held_most = jobs_most_holds (state_in d) each;
+      all_held = full_when (state_in d) each;
+      numbers = numbers.in_order ∙ cells_same (length (given_out es)) (λ k. 0 + k) (λ k. k) (λ k. omega arith);
+      numbers_most = omega (arith, numbers.total, numbers.most);
+      numbers_given = ap (λ (k : DispatcherState). k.given) state ∙ omega (arith, numbers.total);
+      jobs = jobs_served state_in Holds empty o es d r;
     }

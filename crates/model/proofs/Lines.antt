@@ -1,28 +1,28 @@
 -- Refusals 3 to 11, and 13, come behind 1 and 2, and report a line of the file, at most that of row 513. Assumes nothing.
-use Prim.Native.Nat.{ℕ, zero, suc, _+_, _<_, _≤_}
+use Prim.Native.Nat.{ℕ, zero, suc, ◌+◌, ◌<◌, ◌≤◌}
 use native.Mathlib.Omega.{arith}
-use mathlib.Core.Path.{_≡_, refl, subst}
-use mathlib.Core.Bool.{Bool, true, false, cond, _&&_}
-use mathlib.Core.List.{List, [], _∷_}
+use mathlib.Core.Path.{◌≡◌, refl, subst}
+use mathlib.Core.Bool.{Bool, true, false, cond, ◌&&◌}
+use mathlib.Core.List.{List, [], ◌∷◌}
 use mathlib.Core.Option.{Option, none, some}
 use borrow.Author.Tests.{ltb-true}
 use lib.Dec.{eqb, leb, ltb}
 use lib.ListN.{length, drop, length-drop}
-use Rattle·model·specs.specs.Limits.{textMost, rowsMost, messagesMost, levels, callsMost}
-use Rattle·model·specs.specs.Bounded.{among}
-use Rattle·model·specs.specs.Refusal.{Out, ok, refusal, andThen, benchRefusal, circleRefusal, rowRefusal, placeRefusal, absentRefusal, lengthRefusal, headingRefusal, callsRefusal, messagesRefusal, choicesRefusal}
-use Rattle·model·specs.specs.Text.{Line, Columns, linesOf, headingOf}
-use Rattle·model·specs.specs.Rows.{Row, sheet, message, order, block, call, choice, rowOf}
-use Rattle·model·specs.specs.Place.{Place, outside, placed, circleAt, lineOf, judged, rowsFrom, opens, absentCall, complete, bodyOf, readWith, readOf}
-use Rattle·model·specs.specs.Expansion.{Ops, Progress, startOf, blockOpened, taken, callMade, messageMet, orderMet, walkRows, callAt, expand}
-use Rattle·model·specs.specs.Order.{metOps, nothingMet, exchangeOf, scenarioOf}
-use Rattle·model·specs.specs.Answer.{expandedWith, expandedOf, sheetOf}
-use Rattle·model·proofs.proofs.Refusal.{not-refused}
+use Rattle.model.specs.Limits.{text_most, rows_most, messages_most, levels, calls_most}
+use Rattle.model.specs.Bounded.{among}
+use Rattle.model.specs.Refusal.{Out, ok, refusal, and_then, bench_refusal, circle_refusal, row_refusal, place_refusal, absent_refusal, length_refusal, heading_refusal, calls_refusal, messages_refusal, choices_refusal}
+use Rattle.model.specs.Text.{Line, Columns, lines_of, heading_of}
+use Rattle.model.specs.Rows.{Row, sheet, message, order, block, call, choice, row_of}
+use Rattle.model.specs.Place.{Place, outside, placed, circle_at, line_of, judged, rows_from, opens, absent_call, complete, body_of, read_with, read_of}
+use Rattle.model.specs.Expansion.{Ops, Progress, start_of, block_opened, taken, call_made, message_met, order_met, walk_rows, call_at, expand}
+use Rattle.model.specs.Order.{met_ops, nothing_met, exchange_of, scenario_of}
+use Rattle.model.specs.Answer.{expanded_with, expanded_of, sheet_of}
+use Rattle.model.proofs.Refusal.{not_refused}
 
 -- a refusal's number is over 2 and at most 13, and its line at most the one given
 pub record Named (most number line : ℕ) : Type 0 where
-  pub behind : benchRefusal < number
-  pub known : number ≤ choicesRefusal
+  pub behind : bench_refusal < number
+  pub known : number ≤ choices_refusal
   pub within : line ≤ most
 
 -- what is handed on, if it is a refusal, is named well
@@ -30,226 +30,226 @@ abbrev pub Well : {A : Type 0} → ℕ → Out A → Type 0
 Well most (ok a) = Unit {0}
 Well most (refusal number line) = Named most number line
 
-well-then : {A B : Type 0} (most : ℕ) (o : Out A) (f : A → Out B) → Well most o → ((a : A) → o ≡ ok a → Well most (f a)) → Well most (andThen o f)
-unfolding andThen
-well-then most (ok a) f w g = g a refl
-well-then most (refusal number line) f w g = w
+well_then : {A B : Type 0} (most : ℕ) (o : Out A) (f : A → Out B) → Well most o → ((a : A) → o ≡ ok a → Well most (f a)) → Well most (and_then o f)
+unfolding and_then
+well_then most (ok a) f w g = g a refl
+well_then most (refusal number line) f w g = w
 
-well-cond : {A : Type 0} (most : ℕ) (t : Bool) (o p : Out A) → (t ≡ true → Well most o) → (t ≡ false → Well most p) → Well most (cond t o p)
-well-cond most true o p f g = f refl
-well-cond most false o p f g = g refl
+well_cond : {A : Type 0} (most : ℕ) (t : Bool) (o p : Out A) → (t ≡ true → Well most o) → (t ≡ false → Well most p) → Well most (cond t o p)
+well_cond most true o p f g = f refl
+well_cond most false o p f g = g refl
 
 -- The reading: every line judged is at most that of row 513, and there are at most 512 rows.
 Read : Columns → ℕ → Out (List Row) → Type 0
-Read c i (ok rs) = i + length rs ≤ rowsMost
-Read c i (refusal number line) = Named (lineOf rowsMost) number line
+Read c i (ok rs) = i + length rs ≤ rows_most
+Read c i (refusal number line) = Named (line_of rows_most) number line
 
 module _ (choices : Bool) (c : Columns) where
   Judged : ℕ → Out (Row × Place) → Type 0
-  Judged i (ok rp) = i < rowsMost
-  Judged i (refusal number line) = Named (lineOf rowsMost) number line
+  Judged i (ok rp) = i < rows_most
+  Judged i (refusal number line) = Named (line_of rows_most) number line
 
-  judged-well : (i : ℕ) (p : Place) (l : Line) → i ≤ rowsMost → Judged i (judged choices c i p l)
+  judged_well : (i : ℕ) (p : Place) (l : Line) → i ≤ rows_most → Judged i (judged choices c i p l)
   unfolding judged Judged
-  judged-well i p l h = form (ltb i rowsMost) refl
+  judged_well i p l h = form (ltb i rows_most) refl
     where
-      circle : (r : Row) (q : Place) → i < rowsMost → (b : Bool) → Judged i (cond b (refusal circleRefusal (lineOf i)) (ok (r, q)))
+      circle : (r : Row) (q : Place) → i < rows_most → (b : Bool) → Judged i (cond b (refusal circle_refusal (line_of i)) (ok (r, q)))
       circle r q u true = record { behind = omega arith; known = omega arith; within = omega arith }
       circle r q u false = u
 
-      place : (r : Row) → i < rowsMost → (o : Option Place)
-          → Judged i (elim o [ none ↦ refusal placeRefusal (lineOf i) | some q ↦ cond (circleAt r q) (refusal circleRefusal (lineOf i)) (ok (r, q)) ])
+      place : (r : Row) → i < rows_most → (o : Option Place)
+          → Judged i (elim o [ none ↦ refusal place_refusal (line_of i) | some q ↦ cond (circle_at r q) (refusal circle_refusal (line_of i)) (ok (r, q)) ])
       place r u none = record { behind = omega arith; known = omega arith; within = omega arith }
-      place r u (some q) = circle r q u (circleAt r q)
+      place r u (some q) = circle r q u (circle_at r q)
 
-      row : i < rowsMost → (o : Option Row)
+      row : i < rows_most → (o : Option Row)
           → Judged i (elim o [
-            | none ↦ refusal rowRefusal (lineOf i)
+            | none ↦ refusal row_refusal (line_of i)
             | some r ↦ elim (placed p r) [
-              | none ↦ refusal placeRefusal (lineOf i)
-              | some q ↦ cond (circleAt r q) (refusal circleRefusal (lineOf i)) (ok (r, q))
+              | none ↦ refusal place_refusal (line_of i)
+              | some q ↦ cond (circle_at r q) (refusal circle_refusal (line_of i)) (ok (r, q))
             ]
           ])
       row u none = record { behind = omega arith; known = omega arith; within = omega arith }
       row u (some r) = place r u (placed p r)
 
-      form : (b : Bool) → ltb i rowsMost ≡ b
-          → Judged i (elim (cond b (rowOf choices c l) none) [
-            | none ↦ refusal rowRefusal (lineOf i)
+      form : (b : Bool) → ltb i rows_most ≡ b
+          → Judged i (elim (cond b (row_of choices c l) none) [
+            | none ↦ refusal row_refusal (line_of i)
             | some r ↦ elim (placed p r) [
-              | none ↦ refusal placeRefusal (lineOf i)
-              | some q ↦ cond (circleAt r q) (refusal circleRefusal (lineOf i)) (ok (r, q))
+              | none ↦ refusal place_refusal (line_of i)
+              | some q ↦ cond (circle_at r q) (refusal circle_refusal (line_of i)) (ok (r, q))
             ]
           ])
-      form true e = row (ltb-true i rowsMost e) (rowOf choices c l)
+      form true e = row (ltb-true i rows_most e) (row_of choices c l)
       form false e = record { behind = omega arith; known = omega arith; within = omega arith }
 
-  rows-well : (i : ℕ) (p : Place) (ls : List Line) → i ≤ rowsMost → Read c i (rowsFrom choices c i p ls)
-  unfolding rowsFrom Read Judged
-  rows-well i p [] h = omega arith
-  rows-well i p (l ∷ ls) h = first (judged choices c i p l) (judged-well i p l h) (λ q u. rows-well (suc i) q ls u)
+  rows_well : (i : ℕ) (p : Place) (ls : List Line) → i ≤ rows_most → Read c i (rows_from choices c i p ls)
+  unfolding rows_from Read Judged
+  rows_well i p [] h = omega arith
+  rows_well i p (l ∷ ls) h = first (judged choices c i p l) (judged_well i p l h) (λ q u. rows_well (suc i) q ls u)
     where
       rest : (r : Row) → (o : Out (List Row)) → Read c (suc i) o → Read c i (elim o [ refusal number line ↦ refusal number line | ok rs ↦ ok (r ∷ rs) ])
       rest r (ok rs) w = omega arith
       rest r (refusal number line) w = w
 
-      first : (o : Out (Row × Place)) → Judged i o → ((q : Place) → suc i ≤ rowsMost → Read c (suc i) (rowsFrom choices c (suc i) q ls))
-          → Read c i (elim o [ refusal number line ↦ refusal number line | ok rp ↦ elim (rowsFrom choices c (suc i) (rp .1) ls) [ refusal number line ↦ refusal number line | ok rs ↦ ok ((rp .0) ∷ rs) ] ])
+      first : (o : Out (Row × Place)) → Judged i o → ((q : Place) → suc i ≤ rows_most → Read c (suc i) (rows_from choices c (suc i) q ls))
+          → Read c i (elim o [ refusal number line ↦ refusal number line | ok rp ↦ elim (rows_from choices c (suc i) rp.1 ls) [ refusal number line ↦ refusal number line | ok rs ↦ ok (rp.0 ∷ rs) ] ])
       first (refusal number line) w later = w
-      first (ok rp) w later = rest (rp .0) (rowsFrom choices c (suc i) (rp .1) ls) (later (rp .1) w)
+      first (ok rp) w later = rest rp.0 (rows_from choices c (suc i) rp.1 ls) (later rp.1 w)
 
 -- a call to an absent sheet is a row of the file
 AbsentLine : ℕ → Option ℕ → Type 0
 AbsentLine most none = Unit {0}
 AbsentLine most (some line) = line ≤ most
 
-absent-well : (present : List ℕ) (i : ℕ) (rs : List Row) (most : ℕ) → lineOf (i + length rs) ≤ most → AbsentLine most (absentCall present i rs)
-unfolding absentCall AbsentLine
-absent-well present i [] most h = tt
-absent-well present i (sheet n ∷ rs) most h = absent-well present (suc i) rs most (omega arith)
-absent-well present i (message a b ∷ rs) most h = absent-well present (suc i) rs most (omega arith)
-absent-well present i (order x y ∷ rs) most h = absent-well present (suc i) rs most (omega arith)
-absent-well present i (block ∷ rs) most h = absent-well present (suc i) rs most (omega arith)
-absent-well present i (call n ∷ rs) most h = go (among n present) (absent-well present (suc i) rs most (omega arith))
+absent_well : (present : List ℕ) (i : ℕ) (rs : List Row) (most : ℕ) → line_of (i + length rs) ≤ most → AbsentLine most (absent_call present i rs)
+unfolding absent_call AbsentLine
+absent_well present i [] most h = tt
+absent_well present i (sheet n ∷ rs) most h = absent_well present (suc i) rs most (omega arith)
+absent_well present i (message a b ∷ rs) most h = absent_well present (suc i) rs most (omega arith)
+absent_well present i (order x y ∷ rs) most h = absent_well present (suc i) rs most (omega arith)
+absent_well present i (block ∷ rs) most h = absent_well present (suc i) rs most (omega arith)
+absent_well present i (call n ∷ rs) most h = go (among n present) (absent_well present (suc i) rs most (omega arith))
   where
-    go : (b : Bool) → AbsentLine most (absentCall present (suc i) rs) → AbsentLine most (cond b (absentCall present (suc i) rs) (some (lineOf i)))
+    go : (b : Bool) → AbsentLine most (absent_call present (suc i) rs) → AbsentLine most (cond b (absent_call present (suc i) rs) (some (line_of i)))
     go true w = w
     go false w = omega arith
-absent-well present i (choice m n ∷ rs) most h = go (among m present && among n present) (absent-well present (suc i) rs most (omega arith))
+absent_well present i (choice m n ∷ rs) most h = go (among m present && among n present) (absent_well present (suc i) rs most (omega arith))
   where
-    go : (b : Bool) → AbsentLine most (absentCall present (suc i) rs) → AbsentLine most (cond b (absentCall present (suc i) rs) (some (lineOf i)))
+    go : (b : Bool) → AbsentLine most (absent_call present (suc i) rs) → AbsentLine most (cond b (absent_call present (suc i) rs) (some (line_of i)))
     go true w = w
     go false w = omega arith
 
-complete-well : (rs : List Row) → length rs ≤ rowsMost → Well (lineOf rowsMost) (complete rs)
+complete_well : (rs : List Row) → length rs ≤ rows_most → Well (line_of rows_most) (complete rs)
 unfolding complete AbsentLine
-complete-well rs h =
-    well-cond (lineOf rowsMost) (among 0 (opens rs)) (elim (absentCall (opens rs) 0 rs) [ none ↦ ok rs | some line ↦ refusal absentRefusal line ])
-    (refusal absentRefusal 0) (λ t. go (absentCall (opens rs) 0 rs) (absent-well (opens rs) 0 rs (lineOf rowsMost) (omega arith)))
+complete_well rs h =
+    well_cond (line_of rows_most) (among 0 (opens rs)) (elim (absent_call (opens rs) 0 rs) [ none ↦ ok rs | some line ↦ refusal absent_refusal line ])
+    (refusal absent_refusal 0) (λ t. go (absent_call (opens rs) 0 rs) (absent_well (opens rs) 0 rs (line_of rows_most) (omega arith)))
     (λ f. record { behind = omega arith; known = omega arith; within = omega arith })
   where
-    go : (o : Option ℕ) → AbsentLine (lineOf rowsMost) o → Well {A = List Row} (lineOf rowsMost) (elim o [ none ↦ ok rs | some line ↦ refusal absentRefusal line ])
+    go : (o : Option ℕ) → AbsentLine (line_of rows_most) o → Well {A = List Row} (line_of rows_most) (elim o [ none ↦ ok rs | some line ↦ refusal absent_refusal line ])
     go none w = tt
     go (some line) w = record { behind = omega arith; known = omega arith; within = w }
 
-complete-same : (rs ks : List Row) → complete rs ≡ ok ks → rs ≡ ks
+complete_same : (rs ks : List Row) → complete rs ≡ ok ks → rs ≡ ks
 unfolding complete
-complete-same rs ks e = go (among 0 (opens rs)) (absentCall (opens rs) 0 rs) e
+complete_same rs ks e = go (among 0 (opens rs)) (absent_call (opens rs) 0 rs) e
   where
-    go : (b : Bool) (o : Option ℕ) → cond b (elim o [ none ↦ ok rs | some line ↦ refusal absentRefusal line ]) (refusal absentRefusal 0) ≡ ok ks → rs ≡ ks
+    go : (b : Bool) (o : Option ℕ) → cond b (elim o [ none ↦ ok rs | some line ↦ refusal absent_refusal line ]) (refusal absent_refusal 0) ≡ ok ks → rs ≡ ks
     go true none h = cc
-    go true (some line) h = not-refused h
-    go false o h = not-refused h
+    go true (some line) h = not_refused h
+    go false o h = not_refused h
 
 -- what reading hands on: at most 512 rows, or a refusal named well
 unfoldable pub Reads : Out (List Row) → Type 0
-Reads (ok rs) = length rs ≤ rowsMost
-Reads (refusal number line) = Named (lineOf rowsMost) number line
+Reads (ok rs) = length rs ≤ rows_most
+Reads (refusal number line) = Named (line_of rows_most) number line
 
-reads-cond : (t : Bool) (o p : Out (List Row)) → Reads o → Reads p → Reads (cond t o p)
-reads-cond true o p f g = f
-reads-cond false o p f g = g
+reads_cond : (t : Bool) (o p : Out (List Row)) → Reads o → Reads p → Reads (cond t o p)
+reads_cond true o p f g = f
+reads_cond false o p f g = g
 
-reads-complete : (c : Columns) (o : Out (List Row)) → Read c 0 o → Reads (andThen o complete)
-unfolding andThen Read Reads
-reads-complete c (refusal number line) w = w
-reads-complete c (ok rs) w = go (complete rs) refl (complete-well rs (omega arith))
+reads_complete : (c : Columns) (o : Out (List Row)) → Read c 0 o → Reads (and_then o complete)
+unfolding and_then Read Reads
+reads_complete c (refusal number line) w = w
+reads_complete c (ok rs) w = go (complete rs) refl (complete_well rs (omega arith))
   where
-    go : (o : Out (List Row)) → complete rs ≡ o → Well (lineOf rowsMost) o → Reads o
+    go : (o : Out (List Row)) → complete rs ≡ o → Well (line_of rows_most) o → Reads o
     go (refusal number line) e v = v
-    go (ok ks) e v = subst (λ (l : List Row). length l ≤ rowsMost) (complete-same rs ks e) (omega arith)
+    go (ok ks) e v = subst (λ (l : List Row). length l ≤ rows_most) (complete_same rs ks e) (omega arith)
 
-reads-body : (choices : Bool) (ls : List Line) → Reads (bodyOf choices ls)
-unfolding bodyOf Reads
-reads-body choices [] = record { behind = omega arith; known = omega arith; within = omega arith }
-reads-body choices (h ∷ ls) = go (headingOf h)
+reads_body : (choices : Bool) (ls : List Line) → Reads (body_of choices ls)
+unfolding body_of Reads
+reads_body choices [] = record { behind = omega arith; known = omega arith; within = omega arith }
+reads_body choices (h ∷ ls) = go (heading_of h)
   where
-    go : (o : Option Columns) → Reads (elim o [ none ↦ refusal headingRefusal 1 | some c ↦ andThen (rowsFrom choices c 0 outside ls) complete ])
+    go : (o : Option Columns) → Reads (elim o [ none ↦ refusal heading_refusal 1 | some c ↦ and_then (rows_from choices c 0 outside ls) complete ])
     go none = record { behind = omega arith; known = omega arith; within = omega arith }
-    go (some c) = reads-complete c (rowsFrom choices c 0 outside ls) (rows-well choices c 0 outside ls (omega arith))
+    go (some c) = reads_complete c (rows_from choices c 0 outside ls) (rows_well choices c 0 outside ls (omega arith))
 
-pub read-well : (choices : Bool) (text : List ℕ) → Reads (readWith choices text)
-unfolding readWith Reads
-read-well choices text =
-    reads-cond (ltb 0 (length text) && leb (length text) textMost) (bodyOf choices (linesOf text)) (refusal lengthRefusal 0)
-    (reads-body choices (linesOf text))
+pub read_well : (choices : Bool) (text : List ℕ) → Reads (read_with choices text)
+unfolding read_with Reads
+read_well choices text =
+    reads_cond (ltb 0 (length text) && leb (length text) text_most) (body_of choices (lines_of text)) (refusal length_refusal 0)
+    (reads_body choices (lines_of text))
     (record { behind = omega arith; known = omega arith; within = omega arith })
 
 -- The walk: every line met is one of the file.
-start-within : (n : ℕ) (file : List Row) → startOf n file ≤ length file
-unfolding startOf
-start-within n [] = omega arith
-start-within n (sheet m ∷ rs) = go (eqb m n) (start-within n rs)
+start_within : (n : ℕ) (file : List Row) → start_of n file ≤ length file
+unfolding start_of
+start_within n [] = omega arith
+start_within n (sheet m ∷ rs) = go (eqb m n) (start_within n rs)
   where
-    go : (b : Bool) → startOf n rs ≤ length rs → elim b [ true ↦ 1 | false ↦ suc (startOf n rs) ] ≤ suc (length rs)
+    go : (b : Bool) → start_of n rs ≤ length rs → elim b [ true ↦ 1 | false ↦ suc (start_of n rs) ] ≤ suc (length rs)
     go true h = omega arith
     go false h = omega arith
-start-within n (message a b ∷ rs) = omega (arith, start-within n rs)
-start-within n (order x y ∷ rs) = omega (arith, start-within n rs)
-start-within n (block ∷ rs) = omega (arith, start-within n rs)
-start-within n (call m ∷ rs) = omega (arith, start-within n rs)
-start-within n (choice k m ∷ rs) = omega (arith, start-within n rs)
+start_within n (message a b ∷ rs) = omega (arith, start_within n rs)
+start_within n (order x y ∷ rs) = omega (arith, start_within n rs)
+start_within n (block ∷ rs) = omega (arith, start_within n rs)
+start_within n (call m ∷ rs) = omega (arith, start_within n rs)
+start_within n (choice k m ∷ rs) = omega (arith, start_within n rs)
 
-module _ {T : Type 0} (ops : Ops T) (options : List Bool) (file : List Row) (few : length file ≤ rowsMost) where
+module _ {T : Type 0} (ops : Ops T) (options : List Bool) (file : List Row) (few : length file ≤ rows_most) where
   abbrev Calls : (Bool → ℕ → ℕ → Progress T → Out (Progress T)) → Type 0
-  Calls callOf = (byChoice : Bool) (n line : ℕ) (s : Progress T) → line ≤ lineOf rowsMost → Well (lineOf rowsMost) (callOf byChoice n line s)
+  Calls call_of = (by_choice : Bool) (n line : ℕ) (s : Progress T) → line ≤ line_of rows_most → Well (line_of rows_most) (call_of by_choice n line s)
 
-  walk-well : (callOf : Bool → ℕ → ℕ → Progress T → Out (Progress T)) → Calls callOf → (rs : List Row) (line : ℕ) (s : Progress T)
-      → line + length rs ≤ lineOf rowsMost → Well (lineOf rowsMost) (walkRows ops options callOf rs line s)
-  unfolding walkRows
-  walk-well callOf C [] line s h = tt
-  walk-well callOf C (sheet n ∷ rs) line s h = tt
-  walk-well callOf C (message a b ∷ rs) line s h = go (ltb (s .walk .count) messagesMost) (walk-well callOf C rs (suc line) (messageMet ops a b s) (omega arith))
+  walk_well : (call_of : Bool → ℕ → ℕ → Progress T → Out (Progress T)) → Calls call_of → (rs : List Row) (line : ℕ) (s : Progress T)
+      → line + length rs ≤ line_of rows_most → Well (line_of rows_most) (walk_rows ops options call_of rs line s)
+  unfolding walk_rows
+  walk_well call_of C [] line s h = tt
+  walk_well call_of C (sheet n ∷ rs) line s h = tt
+  walk_well call_of C (message a b ∷ rs) line s h = go (ltb s.walk.count messages_most) (walk_well call_of C rs (suc line) (message_met ops a b s) (omega arith))
     where
-      go : (b′ : Bool) → Well (lineOf rowsMost) (walkRows ops options callOf rs (suc line) (messageMet ops a b s))
-          → Well {A = Progress T} (lineOf rowsMost) (elim b′ [ true ↦ walkRows ops options callOf rs (suc line) (messageMet ops a b s) | false ↦ refusal messagesRefusal line ])
+      go : (b' : Bool) → Well (line_of rows_most) (walk_rows ops options call_of rs (suc line) (message_met ops a b s))
+          → Well {A = Progress T} (line_of rows_most) (elim b' [ true ↦ walk_rows ops options call_of rs (suc line) (message_met ops a b s) | false ↦ refusal messages_refusal line ])
       go true w = w
       go false w = record { behind = omega arith; known = omega arith; within = omega arith }
-  walk-well callOf C (order x y ∷ rs) line s h = walk-well callOf C rs (suc line) (orderMet ops x y s) (omega arith)
-  walk-well callOf C (block ∷ rs) line s h = walk-well callOf C rs (suc line) (blockOpened ops s) (omega arith)
-  walk-well callOf C (call n ∷ rs) line s h =
-      well-then (lineOf rowsMost) (callOf false n line s) (λ t. walkRows ops options callOf rs (suc line) (blockOpened ops t)) (C false n line s (omega arith))
-      (λ t e. walk-well callOf C rs (suc line) (blockOpened ops t) (omega arith))
-  walk-well callOf C (choice m n ∷ rs) line s h =
-      let k = taken options (s .walk .choices) m n in
-      well-then (lineOf rowsMost) (callOf true k line s) (λ t. walkRows ops options callOf rs (suc line) (blockOpened ops t)) (C true k line s (omega arith))
-      (λ t e. walk-well callOf C rs (suc line) (blockOpened ops t) (omega arith))
+  walk_well call_of C (order x y ∷ rs) line s h = walk_well call_of C rs (suc line) (order_met ops x y s) (omega arith)
+  walk_well call_of C (block ∷ rs) line s h = walk_well call_of C rs (suc line) (block_opened ops s) (omega arith)
+  walk_well call_of C (call n ∷ rs) line s h =
+      well_then (line_of rows_most) (call_of false n line s) (λ t. walk_rows ops options call_of rs (suc line) (block_opened ops t)) (C false n line s (omega arith))
+      (λ t e. walk_well call_of C rs (suc line) (block_opened ops t) (omega arith))
+  walk_well call_of C (choice m n ∷ rs) line s h =
+      let k = taken options s.walk.choices m n in
+      well_then (line_of rows_most) (call_of true k line s) (λ t. walk_rows ops options call_of rs (suc line) (block_opened ops t)) (C true k line s (omega arith))
+      (λ t e. walk_well call_of C rs (suc line) (block_opened ops t) (omega arith))
 
-  body-within : (n : ℕ) → lineOf (startOf n file) + length (drop (startOf n file) file) ≤ lineOf rowsMost
-  body-within n = omega (arith, length-drop (startOf n file) file, start-within n file)
+  body_within : (n : ℕ) → line_of (start_of n file) + length (drop (start_of n file) file) ≤ line_of rows_most
+  body_within n = omega (arith, length-drop (start_of n file) file, start_within n file)
 
-  calls-well : (left : ℕ) → Calls (callAt ops options left file)
-  unfolding callAt
-  calls-well zero byChoice n line s h = record { behind = omega arith; known = omega arith; within = h }
-  calls-well (suc left) byChoice n line s h =
-      go (ltb (s .walk .calls) callsMost) (byChoice && leb (length options) (s .walk .choices))
-      (walk-well (callAt ops options left file) (calls-well left) (drop (startOf n file) file) (lineOf (startOf n file))
-      (blockOpened ops (callMade ops byChoice s)) (body-within n))
+  calls_well : (left : ℕ) → Calls (call_at ops options left file)
+  unfolding call_at
+  calls_well zero by_choice n line s h = record { behind = omega arith; known = omega arith; within = h }
+  calls_well (suc left) by_choice n line s h =
+      go (ltb s.walk.calls calls_most) (by_choice && leb (length options) s.walk.choices)
+      (walk_well (call_at ops options left file) (calls_well left) (drop (start_of n file) file) (line_of (start_of n file))
+      (block_opened ops (call_made ops by_choice s)) (body_within n))
     where
       body : Out (Progress T)
-      body = walkRows ops options (callAt ops options left file) (drop (startOf n file) file) (lineOf (startOf n file)) (blockOpened ops (callMade ops byChoice s))
+      body = walk_rows ops options (call_at ops options left file) (drop (start_of n file) file) (line_of (start_of n file)) (block_opened ops (call_made ops by_choice s))
 
-      go : (b d : Bool) → Well (lineOf rowsMost) body
-          → Well {A = Progress T} (lineOf rowsMost) (elim b [ true ↦ elim d [ true ↦ refusal choicesRefusal line | false ↦ body ] | false ↦ refusal callsRefusal line ])
+      go : (b d : Bool) → Well (line_of rows_most) body
+          → Well {A = Progress T} (line_of rows_most) (elim b [ true ↦ elim d [ true ↦ refusal choices_refusal line | false ↦ body ] | false ↦ refusal calls_refusal line ])
       go true true w = record { behind = omega arith; known = omega arith; within = h }
       go true false w = w
       go false d w = record { behind = omega arith; known = omega arith; within = h }
 
-  pub expand-well : (t : T) → Well (lineOf rowsMost) (expand ops options file t)
+  pub expand_well : (t : T) → Well (line_of rows_most) (expand ops options file t)
   unfolding expand
-  expand-well t = walk-well (callAt ops options levels file) (calls-well levels) (drop (startOf 0 file) file) (lineOf (startOf 0 file)) _ (body-within 0)
+  expand_well t = walk_well (call_at ops options levels file) (calls_well levels) (drop (start_of 0 file) file) (line_of (start_of 0 file)) _ (body_within 0)
 
-pub expanded-well : (options : List Bool) (file : List Row) → length file ≤ rowsMost → Well (lineOf rowsMost) (expandedWith options file)
-unfolding expandedWith
-expanded-well options file h =
-    well-then (lineOf rowsMost) (expand metOps options file nothingMet) (λ s. ok (scenarioOf (exchangeOf s)))
-    (expand-well metOps options file h nothingMet) (λ s e. tt)
+pub expanded_well : (options : List Bool) (file : List Row) → length file ≤ rows_most → Well (line_of rows_most) (expanded_with options file)
+unfolding expanded_with
+expanded_well options file h =
+    well_then (line_of rows_most) (expand met_ops options file nothing_met) (λ s. ok (scenario_of (exchange_of s)))
+    (expand_well met_ops options file h nothing_met) (λ s e. tt)
 
 -- the scenario of a text, or a refusal named well
-pub sheet-well : (text : List ℕ) → Well (lineOf rowsMost) (sheetOf text)
-unfolding sheetOf Reads andThen
-sheet-well text = go (readOf text) (read-well false text)
+pub sheet_well : (text : List ℕ) → Well (line_of rows_most) (sheet_of text)
+unfolding sheet_of Reads and_then
+sheet_well text = go (read_of text) (read_well false text)
   where
-    go : (o : Out (List Row)) → Reads o → Well (lineOf rowsMost) (andThen o expandedOf)
-    go (ok rs) w = expanded-well [] rs w
+    go : (o : Out (List Row)) → Reads o → Well (line_of rows_most) (and_then o expanded_of)
+    go (ok rs) w = expanded_well [] rs w
     go (refusal number line) w = w

@@ -1,25 +1,25 @@
 -- The eight marked sheets: every answer is the expected one, computed from the text on. Assumes nothing.
-use mathlib.Core.Path.{_≡_, refl}
-use Rattle·model·specs.specs.Bounded.{every, any, lowest, among, same}
-use Rattle·model·specs.specs.Closure.{listed, cells, tabled, reads, linked}
-use Rattle·model·specs.specs.Refusal.{andThen}
-use Rattle·model·specs.specs.Text.{ascii, linesOf, aheadOfLine, fieldsOf, aheadOfField, digitsOnly, decimal, wellBegun, numberUpTo, placeOf, columnsOf, areColumns, headingOf}
-use Rattle·model·specs.specs.Rows.{formed, fromFields, rowOf}
-use Rattle·model·specs.specs.Place.{messageFits, orderFits, moved, isSheet, placed, isOwnPair, blockDirect, blockTable, blockCircle, circleAt, judged, rowsFrom, opens, absentCall, complete, bodyOf, readWith}
-use Rattle·model·specs.specs.Expansion.{startOf, blockOpened, callMade, messageMet, orderMet, walkRows, callAt, expand}
-use Rattle·model·specs.specs.Order.{number, event, messageOf, boardOf, isEvent, isOwn, isEarlier, direct, beforeTable, scenarioOf, atOrBefore, metOps, exchangeOf}
-use Rattle·model·specs.specs.Run.{with, withDone, withHeld, next, everyEvent, isAhead, ready, bufferEmpty, boardFree, maySend, mayDeliver, allowed}
-use Rattle·model·specs.specs.Race.{origin, notAtOrBefore, isRace, races, lowestEvent, lowestMessage, lowestRace}
-use Rattle·model·specs.specs.Schedule.{choose, scheduleFrom, schedule}
-use Rattle·model·specs.specs.Answer.{expandedWith, sheetOf, acceptedOf, verdictOf, answerFor, answerOf}
-use Rattle·model·specs.specs.Marked.{marked, answersFrom, computed}
+use mathlib.Core.Path.{◌≡◌, refl}
+use Rattle.model.specs.Bounded.{every, any, lowest, among, same}
+use Rattle.model.specs.Closure.{listed, cells, tabled, reads, linked}
+use Rattle.model.specs.Refusal.{and_then}
+use Rattle.model.specs.Text.{ascii, lines_of, ahead_of_line, fields_of, ahead_of_field, digits_only, decimal, well_begun, number_up_to, place_of, columns_of, are_columns, heading_of}
+use Rattle.model.specs.Rows.{formed, from_fields, row_of}
+use Rattle.model.specs.Place.{message_fits, order_fits, moved, is_sheet, placed, is_own_pair, block_direct, block_table, block_circle, circle_at, judged, rows_from, opens, absent_call, complete, body_of, read_with}
+use Rattle.model.specs.Expansion.{start_of, block_opened, call_made, message_met, order_met, walk_rows, call_at, expand}
+use Rattle.model.specs.Order.{number, event, message_of, board_of, is_event, is_own, is_earlier, direct, before_table, scenario_of, at_or_before, met_ops, exchange_of}
+use Rattle.model.specs.Run.{with, with_done, with_held, next, every_event, is_ahead, ready, buffer_empty, board_free, may_send, may_deliver, allowed}
+use Rattle.model.specs.Race.{origin, not_at_or_before, is_race, races, lowest_event, lowest_message, lowest_race}
+use Rattle.model.specs.Schedule.{choose, schedule_from, schedule}
+use Rattle.model.specs.Answer.{expanded_with, sheet_of, accepted_of, verdict_of, answer_for, answer_of}
+use Rattle.model.specs.Marked.{marked, answers_from, computed}
 
-pub marked-hold : computed marked ≡ marked
+pub marked_hold : computed marked ≡ marked
 unfolding
-    every any lowest among same andThen ascii linesOf aheadOfLine fieldsOf aheadOfField digitsOnly decimal wellBegun numberUpTo placeOf columnsOf
-    areColumns headingOf formed fromFields rowOf messageFits orderFits moved isSheet placed isOwnPair blockDirect blockTable blockCircle circleAt judged rowsFrom opens absentCall complete bodyOf readWith
-    startOf blockOpened callMade messageMet orderMet walkRows callAt expand number event messageOf boardOf isEvent isOwn isEarlier cells tabled
-    reads linked direct beforeTable scenarioOf atOrBefore metOps listed exchangeOf with withDone withHeld next everyEvent isAhead ready
-    bufferEmpty boardFree maySend mayDeliver allowed origin notAtOrBefore isRace races lowestEvent lowestMessage lowestRace choose scheduleFrom
-    schedule expandedWith sheetOf acceptedOf verdictOf answerFor answerOf marked answersFrom computed
-marked-hold = refl
+    every any lowest among same and_then ascii lines_of ahead_of_line fields_of ahead_of_field digits_only decimal well_begun number_up_to place_of columns_of
+    are_columns heading_of formed from_fields row_of message_fits order_fits moved is_sheet placed is_own_pair block_direct block_table block_circle circle_at judged rows_from opens absent_call complete body_of read_with
+    start_of block_opened call_made message_met order_met walk_rows call_at expand number event message_of board_of is_event is_own is_earlier cells tabled
+    reads linked direct before_table scenario_of at_or_before met_ops listed exchange_of with with_done with_held next every_event is_ahead ready
+    buffer_empty board_free may_send may_deliver allowed origin not_at_or_before is_race races lowest_event lowest_message lowest_race choose schedule_from
+    schedule expanded_with sheet_of accepted_of verdict_of answer_for answer_of marked answers_from computed
+marked_hold = refl

@@ -1,228 +1,228 @@
 -- No walk of a text that is read meets a circle. A link between blocks leads to a later block; every other stays in one walked block and
 -- comes from that block's rows, which the reading found without a circle. Assumes nothing.
-use Prim.Native.Nat.{ℕ, suc, _+_, _-_, _*_, _/_, _<_, _≤_}
-use native.Mathlib.Decide.{ℕ-discrete, decLt}
+use Prim.Native.Nat.{ℕ, suc, ◌+◌, ◌-◌, ◌*◌, ◌/◌, ◌<◌, ◌≤◌}
+use native.Mathlib.Decide.{ℕ_discrete, dec_lt}
 use native.Mathlib.Omega.{arith}
-use mathlib.Core.Path.{_≡_, refl, sym, _∙_, ap, subst, subst₂}
-use mathlib.Core.Logic.{_⊎_, inl, inr, ⊎-elim}
+use mathlib.Core.Path.{◌≡◌, refl, sym, ◌∙◌, ap, subst, subst₂}
+use mathlib.Core.Logic.{◌⊎◌, inl, inr, ⊎_elim}
 use mathlib.Core.Bool.{Bool, true, false}
-use mathlib.Core.List.{List, [], _∷_}
-use lib.ListN.{getD, List·getD-append}
-use lib.Seq.{getD-at}
-use Rattle·model·specs.specs.Closure.{listed}
-use Rattle·model·specs.specs.Refusal.{ok}
-use Rattle·model·specs.specs.Rows.{Row, sheet, message, order, block, call, choice}
-use Rattle·model·specs.specs.Place.{BlockBefore, given, paired, through, withMessage}
-use Rattle·model·specs.specs.Expansion.{freshWalk, Progress, blockOpened, callMade, messageMet, orderMet, expand}
-use Rattle·model·specs.specs.Order.{Event, sendOf, receiveOf, number, messageOf, Exchange, isOwn, Met, nothingMet, metOps, exchangeOf, Before, row, own, earlier, link}
-use Rattle·model·specs.specs.Answer.{exchangeWith}
-use Rattle·model·specs.specs.NoCircle.{NoCircles}
-use Rattle·model·proofs.proofs.Bounded.{not-both}
-use Rattle·model·proofs.proofs.Refusal.{and-then-ok}
-use Rattle·model·proofs.proofs.Block.{NoCircle, listed-more, listed-first, listed-later, own-pair-from}
-use Rattle·model·proofs.proofs.Clean.{Ordered, ordered-empty, Clean, read-clean, sheet-clean}
-use Rattle·model·proofs.proofs.Events.{own-parts}
-use Rattle·model·proofs.proofs.Order.{earlier-parts}
-use Rattle·model·proofs.proofs.Standing.{Fits, read-fits, sheet-fits}
-use Rattle·model·proofs.proofs.Walks.{Kept, walk-keeps}
-use Rattle·model·proofs.proofs.Walked.{Sound, Opened, sound-start, sound-kept}
+use mathlib.Core.List.{List, [], ◌∷◌}
+use lib.ListN.{get_or, get_or-append}
+use lib.Seq.{get_or_at}
+use Rattle.model.specs.Closure.{listed}
+use Rattle.model.specs.Refusal.{ok}
+use Rattle.model.specs.Rows.{Row, sheet, message, order, block, call, choice}
+use Rattle.model.specs.Place.{BlockBefore, given, paired, through, with_message}
+use Rattle.model.specs.Expansion.{fresh_walk, Progress, block_opened, call_made, message_met, order_met, expand}
+use Rattle.model.specs.Order.{Event, send_of, receive_of, number, message_of, Exchange, is_own, Met, nothing_met, met_ops, exchange_of, Before, row, own, earlier, link}
+use Rattle.model.specs.Answer.{exchange_with}
+use Rattle.model.specs.NoCircle.{NoCircles}
+use Rattle.model.proofs.Bounded.{not_both}
+use Rattle.model.proofs.Refusal.{and_then_ok}
+use Rattle.model.proofs.Block.{NoCircle, listed_more, listed_first, listed_later, own_pair_from}
+use Rattle.model.proofs.Clean.{Ordered, ordered_empty, Clean, read_clean, sheet_clean}
+use Rattle.model.proofs.Events.{own_parts}
+use Rattle.model.proofs.Order.{earlier_parts}
+use Rattle.model.proofs.Standing.{Fits, read_fits, sheet_fits}
+use Rattle.model.proofs.Walks.{Kept, walk_keeps}
+use Rattle.model.proofs.Walked.{Sound, Opened, sound_start, sound_kept}
 
 -- the rows behind the open block begin with it clean
-clean-head : (n : ℕ) (orders : List (ℕ × ℕ)) (rs : List Row) → Clean n orders rs → Ordered n orders
-clean-head n orders [] h = h
-clean-head n orders (sheet k ∷ rs) h = h .0
-clean-head n orders (message a b ∷ rs) h = h .0
-clean-head n orders (order x y ∷ rs) h = h .0
-clean-head n orders (block ∷ rs) h = h .0
-clean-head n orders (call k ∷ rs) h = h .0
-clean-head n orders (choice j k ∷ rs) h = h .0
+clean_head : (n : ℕ) (orders : List (ℕ × ℕ)) (rs : List Row) → Clean n orders rs → Ordered n orders
+clean_head n orders [] h = h
+clean_head n orders (sheet k ∷ rs) h = h.0
+clean_head n orders (message a b ∷ rs) h = h.0
+clean_head n orders (order x y ∷ rs) h = h.0
+clean_head n orders (block ∷ rs) h = h.0
+clean_head n orders (call k ∷ rs) h = h.0
+clean_head n orders (choice j k ∷ rs) h = h.0
 
 -- the block of message k
-abbrev blockIn : Progress Met → ℕ → ℕ
-blockIn s k = getD (s .kept .blocks) k 0
+abbrev block_in : Progress Met → ℕ → ℕ
+block_in s k = get_or s.kept.blocks k 0
 
 -- a P row of the walk is a row of a block whose first message is `first`
 pub record RowOf (first : ℕ) (orders : List (ℕ × ℕ)) (x y : ℕ) : Type 0 where
   pub before : ℕ
   pub behind : ℕ
-  pub firstIs : x ≡ 2 * first + before
-  pub secondIs : y ≡ 2 * first + behind
-  pub isRow : listed before behind orders ≡ true
+  pub first_is : x ≡ 2 * first + before
+  pub second_is : y ≡ 2 * first + behind
+  pub is_row : listed before behind orders ≡ true
 
 -- Block b of the walk: its first message, and its events and P rows, which have no circle.
 pub record BlockOf (s : Progress Met) (b : ℕ) : Type 0 where
   pub first : ℕ
   pub events : ℕ
   pub orders : List (ℕ × ℕ)
-  pub noCircle : NoCircle events orders
-  pub messages : (k : ℕ) → k < s .walk .count → blockIn s k ≡ b → (first ≤ k) × (2 * k + 1 < 2 * first + events)
-  pub rows : (x y : ℕ) → listed x y (s .kept .orders) ≡ true → blockIn s (x / 2) ≡ b → RowOf first orders x y
+  pub no_circle : NoCircle events orders
+  pub messages : (k : ℕ) → k < s.walk.count → block_in s k ≡ b → (first ≤ k) × (2 * k + 1 < 2 * first + events)
+  pub rows : (x y : ℕ) → listed x y s.kept.orders ≡ true → block_in s (x / 2) ≡ b → RowOf first orders x y
 
 -- What is so wherever the walk stands: n events and these P rows in the open block; each earlier block; and no P row between two blocks.
 pub record Blocks (s : Progress Met) (n : ℕ) (orders : List (ℕ × ℕ)) : Type 0 where
-  pub size : 2 * s .walk .first + n ≡ 2 * s .walk .count
-  pub noCircle : NoCircle n orders
-  pub rows : (x y : ℕ) → listed x y (s .kept .orders) ≡ true → blockIn s (x / 2) ≡ s .kept .open′ → RowOf (s .walk .first) orders x y
-  pub earlierOnes : (b : ℕ) → b < s .kept .open′ → BlockOf s b
-  pub oneBlock : (x y : ℕ) → listed x y (s .kept .orders) ≡ true → blockIn s (x / 2) ≡ blockIn s (y / 2)
+  pub size : 2 * s.walk.first + n ≡ 2 * s.walk.count
+  pub no_circle : NoCircle n orders
+  pub rows : (x y : ℕ) → listed x y s.kept.orders ≡ true → block_in s (x / 2) ≡ s.kept.open' → RowOf s.walk.first orders x y
+  pub earlier_ones : (b : ℕ) → b < s.kept.open' → BlockOf s b
+  pub one_block : (x y : ℕ) → listed x y s.kept.orders ≡ true → block_in s (x / 2) ≡ block_in s (y / 2)
 
-blocks-start : Blocks (record { walk = freshWalk; kept = nothingMet }) 0 []
+blocks_start : Blocks (record { walk = fresh_walk; kept = nothing_met }) 0 []
 unfolding listed
-blocks-start =
+blocks_start =
     record {
       size = refl;
-      noCircle = ordered-empty .noCircle;
-      rows = λ x y l e. not-both false l refl;
-      earlierOnes = λ b h. absurd (omega arith);
-      oneBlock = λ x y l. refl;
+      no_circle = ordered_empty.no_circle;
+      rows = λ x y l e. not_both false l refl;
+      earlier_ones = λ b h. absurd (omega arith);
+      one_block = λ x y l. refl;
     }
 
 -- a message of the walk's is in the open block or in an earlier one
-block-most : (s : Progress Met) → Sound s → (k : ℕ) → k < s .walk .count → blockIn s k ≤ s .kept .open′
-block-most s h k l = go (decLt k (s .walk .first))
+block_most : (s : Progress Met) → Sound s → (k : ℕ) → k < s.walk.count → block_in s k ≤ s.kept.open'
+block_most s h k l = go (dec_lt k s.walk.first)
   where
-    go : Dec (k < s .walk .first) → blockIn s k ≤ s .kept .open′
-    go (yes e) = omega (arith, h .earlierBlocks k e)
-    go (no f) = omega (arith, h .openBlock k (omega arith) l)
+    go : Dec (k < s.walk.first) → block_in s k ≤ s.kept.open'
+    go (yes e) = omega (arith, h.earlier_blocks k e)
+    go (no f) = omega (arith, h.open_block k (omega arith) l)
 
 -- the messages of both events of a P row are there
-row-messages : (s : Progress Met) → Sound s → (x y : ℕ) → listed x y (s .kept .orders) ≡ true → (x / 2 < s .walk .count) × (y / 2 < s .walk .count)
-row-messages s h x y l =
-    let p = h .ordersOnBoards x y l in
-    (omega (arith, p .firstThere, h .eventsLength), omega (arith, p .secondThere, h .eventsLength))
+row_messages : (s : Progress Met) → Sound s → (x y : ℕ) → listed x y s.kept.orders ≡ true → (x / 2 < s.walk.count) × (y / 2 < s.walk.count)
+row_messages s h x y l =
+    let p = h.orders_on_boards x y l in
+    (omega (arith, p.first_there, h.events_length), omega (arith, p.second_there, h.events_length))
 
 module _ (s : Progress Met) (n : ℕ) (orders : List (ℕ × ℕ)) (h : Sound s) (j : Blocks s n orders) where
   -- a message met
   module _ (a b : ℕ) where
     abbrev t : Progress Met
-    t = messageMet metOps a b s
+    t = message_met met_ops a b s
 
-    old-block : (k : ℕ) → k < s .walk .count → blockIn t k ≡ blockIn s k
-    unfolding messageMet metOps
-    old-block k l = List·getD-append (s .kept .blocks) (s .kept .open′ ∷ []) 0 k (omega (arith, h .blocksLength))
+    old_block : (k : ℕ) → k < s.walk.count → block_in t k ≡ block_in s k
+    unfolding message_met met_ops
+    old_block k l = get_or-append s.kept.blocks (s.kept.open' ∷ []) 0 k (omega (arith, h.blocks_length))
 
-    new-block : blockIn t (s .walk .count) ≡ s .kept .open′
-    unfolding messageMet metOps
-    new-block = getD-at (s .kept .blocks) (s .kept .open′) [] 0 (s .walk .count) (h .blocksLength)
+    new_block : block_in t s.walk.count ≡ s.kept.open'
+    unfolding message_met met_ops
+    new_block = get_or_at s.kept.blocks s.kept.open' [] 0 s.walk.count h.blocks_length
 
-    blocks-message : NoCircle (n + 2) orders → Blocks t (n + 2) orders
-    unfolding messageMet metOps
-    blocks-message clean =
+    blocks_message : NoCircle (n + 2) orders → Blocks t (n + 2) orders
+    unfolding message_met met_ops
+    blocks_message clean =
         record {
-          size = omega (arith, j .size);
-          noCircle = clean;
-          rows = λ x y l e. j .rows x y l (sym (old-block (x / 2) (row-messages s h x y l .0)) ∙ e);
-          earlierOnes = λ b o. let B = j .earlierOnes b o in
+          size = omega (arith, j.size);
+          no_circle = clean;
+          rows = λ x y l e. j.rows x y l (sym (old_block (x / 2) (row_messages s h x y l).0) ∙ e);
+          earlier_ones = λ b o. let B = j.earlier_ones b o in
               record {
-                first = B .first;
-                events = B .events;
-                orders = B .orders;
-                noCircle = B .noCircle;
-                messages = λ k l e. earlier-message b o k l e (decLt k (s .walk .count));
-                rows = λ x y l e. B .rows x y l (sym (old-block (x / 2) (row-messages s h x y l .0)) ∙ e);
+                first = B.first;
+                events = B.events;
+                orders = B.orders;
+                no_circle = B.no_circle;
+                messages = λ k l e. earlier_message b o k l e (dec_lt k s.walk.count);
+                rows = λ x y l e. B.rows x y l (sym (old_block (x / 2) (row_messages s h x y l).0) ∙ e);
               };
-          oneBlock = λ x y l. let p = row-messages s h x y l in old-block (x / 2) (p .0) ∙ j .oneBlock x y l ∙ sym (old-block (y / 2) (p .1));
+          one_block = λ x y l. let p = row_messages s h x y l in old_block (x / 2) p.0 ∙ j.one_block x y l ∙ sym (old_block (y / 2) p.1);
         }
       where
-        earlier-message : (b : ℕ) (o : b < s .kept .open′) (k : ℕ) → k < suc (s .walk .count) → blockIn t k ≡ b → Dec (k < s .walk .count)
-            → (j .earlierOnes b o .first ≤ k) × (2 * k + 1 < 2 * j .earlierOnes b o .first + j .earlierOnes b o .events)
-        earlier-message b o k l e (yes m) = j .earlierOnes b o .messages k m (sym (old-block k m) ∙ e)
-        earlier-message b o k l e (no f) =
-            let is : k ≡ s .walk .count = omega arith in
-            absurd (omega (arith, o, sym (ap (λ (i : ℕ). blockIn t i) is) ∙ e, new-block))
+        earlier_message : (b : ℕ) (o : b < s.kept.open') (k : ℕ) → k < suc s.walk.count → block_in t k ≡ b → Dec (k < s.walk.count)
+            → ((j.earlier_ones b o).first ≤ k) × (2 * k + 1 < 2 * (j.earlier_ones b o).first + (j.earlier_ones b o).events)
+        earlier_message b o k l e (yes m) = (j.earlier_ones b o).messages k m (sym (old_block k m) ∙ e)
+        earlier_message b o k l e (no f) =
+            let is : k ≡ s.walk.count = omega arith in
+            absurd (omega (arith, o, sym (ap (λ (i : ℕ). block_in t i) is) ∙ e, new_block))
 
   -- a P row met
   module _ (x y : ℕ) (hx : x < n) (hy : y < n) where
     abbrev u : Progress Met
-    u = orderMet metOps x y s
+    u = order_met met_ops x y s
 
     -- both its events are in the open block
-    in-open : (z : ℕ) → z < n → blockIn s ((2 * s .walk .first + z) / 2) ≡ s .kept .open′
-    in-open z l = h .openBlock ((2 * s .walk .first + z) / 2) (omega arith) (omega (arith, j .size))
+    in_open : (z : ℕ) → z < n → block_in s ((2 * s.walk.first + z) / 2) ≡ s.kept.open'
+    in_open z l = h.open_block ((2 * s.walk.first + z) / 2) (omega arith) (omega (arith, j.size))
 
-    blocks-order : NoCircle n ((x, y) ∷ orders) → Blocks u n ((x, y) ∷ orders)
-    unfolding orderMet metOps
-    blocks-order clean =
+    blocks_order : NoCircle n ((x, y) ∷ orders) → Blocks u n ((x, y) ∷ orders)
+    unfolding order_met met_ops
+    blocks_order clean =
         record {
-          size = j .size;
-          noCircle = clean;
-          rows = λ v w l e. ⊎-elim (λ p. the-row v w p) (λ m. more v w (j .rows v w m e)) (listed-more (2 * s .walk .first + x) (2 * s .walk .first + y) v w (s .kept .orders) l);
-          earlierOnes = λ b o. let B = j .earlierOnes b o in
+          size = j.size;
+          no_circle = clean;
+          rows = λ v w l e. ⊎_elim (λ p. the_row v w p) (λ m. more v w (j.rows v w m e)) (listed_more (2 * s.walk.first + x) (2 * s.walk.first + y) v w s.kept.orders l);
+          earlier_ones = λ b o. let B = j.earlier_ones b o in
               record {
-                first = B .first;
-                events = B .events;
-                orders = B .orders;
-                noCircle = B .noCircle;
-                messages = B .messages;
-                rows = λ v w l e. ⊎-elim
-                    (λ p. absurd (omega (arith, o, in-open x hx, sym (ap (λ (i : ℕ). blockIn s (i / 2)) (p .0)) ∙ e)))
-                    (λ m. B .rows v w m e)
-                    (listed-more (2 * s .walk .first + x) (2 * s .walk .first + y) v w (s .kept .orders) l);
+                first = B.first;
+                events = B.events;
+                orders = B.orders;
+                no_circle = B.no_circle;
+                messages = B.messages;
+                rows = λ v w l e. ⊎_elim
+                    (λ p. absurd (omega (arith, o, in_open x hx, sym (ap (λ (i : ℕ). block_in s (i / 2)) p.0) ∙ e)))
+                    (λ m. B.rows v w m e)
+                    (listed_more (2 * s.walk.first + x) (2 * s.walk.first + y) v w s.kept.orders l);
               };
-          oneBlock = λ v w l. ⊎-elim
-              (λ p. ap (λ (i : ℕ). blockIn s (i / 2)) (p .0) ∙ in-open x hx ∙ sym (in-open y hy) ∙ sym (ap (λ (i : ℕ). blockIn s (i / 2)) (p .1)))
-              (λ m. j .oneBlock v w m)
-              (listed-more (2 * s .walk .first + x) (2 * s .walk .first + y) v w (s .kept .orders) l);
+          one_block = λ v w l. ⊎_elim
+              (λ p. ap (λ (i : ℕ). block_in s (i / 2)) p.0 ∙ in_open x hx ∙ sym (in_open y hy) ∙ sym (ap (λ (i : ℕ). block_in s (i / 2)) p.1))
+              (λ m. j.one_block v w m)
+              (listed_more (2 * s.walk.first + x) (2 * s.walk.first + y) v w s.kept.orders l);
         }
       where
-        the-row : (v w : ℕ) → (v ≡ 2 * s .walk .first + x) × (w ≡ 2 * s .walk .first + y) → RowOf (s .walk .first) ((x, y) ∷ orders) v w
-        the-row v w p = record { before = x; behind = y; firstIs = p .0; secondIs = p .1; isRow = listed-first x y orders }
+        the_row : (v w : ℕ) → (v ≡ 2 * s.walk.first + x) × (w ≡ 2 * s.walk.first + y) → RowOf s.walk.first ((x, y) ∷ orders) v w
+        the_row v w p = record { before = x; behind = y; first_is = p.0; second_is = p.1; is_row = listed_first x y orders }
 
-        more : (v w : ℕ) → RowOf (s .walk .first) orders v w → RowOf (s .walk .first) ((x, y) ∷ orders) v w
+        more : (v w : ℕ) → RowOf s.walk.first orders v w → RowOf s.walk.first ((x, y) ∷ orders) v w
         more v w r =
             record {
-              before = r .before;
-              behind = r .behind;
-              firstIs = r .firstIs;
-              secondIs = r .secondIs;
-              isRow = listed-later x y (r .before) (r .behind) orders (r .isRow);
+              before = r.before;
+              behind = r.behind;
+              first_is = r.first_is;
+              second_is = r.second_is;
+              is_row = listed_later x y r.before r.behind orders r.is_row;
             }
 
   -- the open block, as one of the walk's
-  open-one : BlockOf s (s .kept .open′)
-  open-one =
+  open_one : BlockOf s s.kept.open'
+  open_one =
       record {
-        first = s .walk .first;
+        first = s.walk.first;
         events = n;
         orders = orders;
-        noCircle = j .noCircle;
-        messages = λ k l e. go k l e (decLt k (s .walk .first));
-        rows = j .rows;
+        no_circle = j.no_circle;
+        messages = λ k l e. go k l e (dec_lt k s.walk.first);
+        rows = j.rows;
       }
     where
-      go : (k : ℕ) → k < s .walk .count → blockIn s k ≡ s .kept .open′ → Dec (k < s .walk .first) → (s .walk .first ≤ k) × (2 * k + 1 < 2 * s .walk .first + n)
-      go k l e (yes m) = absurd (omega (arith, h .earlierBlocks k m))
-      go k l e (no m) = (omega arith, omega (arith, j .size))
+      go : (k : ℕ) → k < s.walk.count → block_in s k ≡ s.kept.open' → Dec (k < s.walk.first) → (s.walk.first ≤ k) × (2 * k + 1 < 2 * s.walk.first + n)
+      go k l e (yes m) = absurd (omega (arith, h.earlier_blocks k m))
+      go k l e (no m) = (omega arith, omega (arith, j.size))
 
   -- a block opened
-  blocks-opened : Blocks (blockOpened metOps s) 0 []
-  unfolding blockOpened metOps
-  blocks-opened =
+  blocks_opened : Blocks (block_opened met_ops s) 0 []
+  unfolding block_opened met_ops
+  blocks_opened =
       record {
         size = omega arith;
-        noCircle = ordered-empty .noCircle;
-        rows = λ x y l e. let p = row-messages s h x y l in absurd (omega (arith, block-most s h (x / 2) (p .0), e));
-        earlierOnes = λ b o. go b o (ℕ-discrete b (s .kept .open′));
-        oneBlock = j .oneBlock;
+        no_circle = ordered_empty.no_circle;
+        rows = λ x y l e. let p = row_messages s h x y l in absurd (omega (arith, block_most s h (x / 2) p.0, e));
+        earlier_ones = λ b o. go b o (ℕ_discrete b s.kept.open');
+        one_block = j.one_block;
       }
     where
-      same : (b : ℕ) → BlockOf s b → BlockOf (blockOpened metOps s) b
-      same b B = record { first = B .first; events = B .events; orders = B .orders; noCircle = B .noCircle; messages = B .messages; rows = B .rows }
+      same : (b : ℕ) → BlockOf s b → BlockOf (block_opened met_ops s) b
+      same b B = record { first = B.first; events = B.events; orders = B.orders; no_circle = B.no_circle; messages = B.messages; rows = B.rows }
 
-      go : (b : ℕ) → b < suc (s .kept .open′) → Dec (b ≡ s .kept .open′) → BlockOf (blockOpened metOps s) b
-      go b o (yes e) = same b (subst (λ (c : ℕ). BlockOf s c) (sym e) open-one)
-      go b o (no f) = same b (j .earlierOnes b (omega arith))
+      go : (b : ℕ) → b < suc s.kept.open' → Dec (b ≡ s.kept.open') → BlockOf (block_opened met_ops s) b
+      go b o (yes e) = same b (subst (λ (c : ℕ). BlockOf s c) (sym e) open_one)
+      go b o (no f) = same b (j.earlier_ones b (omega arith))
 
-  blocks-made : (byChoice : Bool) → Blocks (callMade metOps byChoice s) n orders
-  unfolding callMade
-  blocks-made byChoice =
+  blocks_made : (by_choice : Bool) → Blocks (call_made met_ops by_choice s) n orders
+  unfolding call_made
+  blocks_made by_choice =
       record {
-        size = j .size;
-        noCircle = j .noCircle;
-        rows = j .rows;
-        earlierOnes = λ b o. let B = j .earlierOnes b o in
-            record { first = B .first; events = B .events; orders = B .orders; noCircle = B .noCircle; messages = B .messages; rows = B .rows };
-        oneBlock = j .oneBlock;
+        size = j.size;
+        no_circle = j.no_circle;
+        rows = j.rows;
+        earlier_ones = λ b o. let B = j.earlier_ones b o in
+            record { first = B.first; events = B.events; orders = B.orders; no_circle = B.no_circle; messages = B.messages; rows = B.rows };
+        one_block = j.one_block;
       }
 
 -- The boards, the number and the P rows of the open block's events, as far as the walk has met them.
@@ -232,118 +232,118 @@ pub record Open : Type 0 where
   pub orders : List (ℕ × ℕ)
 
 -- every row keeps it, where the reading found the open block clean
-blocks-kept : Kept Open (λ (q : Open) (rs : List Row). Fits (q .boards) rs × Clean (q .events) (q .orders) rs)
-    (λ (q : Open) (s : Progress Met). (Sound s × Opened s (q .boards)) × Blocks s (q .events) (q .orders))
-blocks-kept =
+blocks_kept : Kept Open (λ (q : Open) (rs : List Row). Fits q.boards rs × Clean q.events q.orders rs)
+    (λ (q : Open) (s : Progress Met). (Sound s × Opened s q.boards) × Blocks s q.events q.orders)
+blocks_kept =
     record {
       empty = record { boards = []; events = 0; orders = [] };
-      withMessage = λ q a b. record { boards = withMessage (q .boards) a b; events = q .events + 2; orders = q .orders };
-      withOrder = λ q x y. record { boards = q .boards; events = q .events; orders = (x, y) ∷ q .orders };
+      with_message = λ q a b. record { boards = with_message q.boards a b; events = q.events + 2; orders = q.orders };
+      with_order = λ q x y. record { boards = q.boards; events = q.events; orders = (x, y) ∷ q.orders };
       message = λ q a b rs s f h room.
-          let p = sound-kept .message (q .boards) a b rs s (f .0) (h .0) room in (
-            (p .0, f .1 .1),
-            (p .1, blocks-message s (q .events) (q .orders) (h .0 .0) (h .1) a b (clean-head (q .events + 2) (q .orders) rs (f .1 .1) .noCircle)),
+          let p = sound_kept.message q.boards a b rs s f.0 h.0 room in (
+            (p.0, f.1.1),
+            (p.1, blocks_message s q.events q.orders h.0.0 h.1 a b (clean_head (q.events + 2) q.orders rs f.1.1).no_circle),
           );
       order = λ q x y rs s f h.
-          let p = sound-kept .order (q .boards) x y rs s (f .0) (h .0) in
-          let c = clean-head (q .events) ((x, y) ∷ q .orders) rs (f .1 .1) in
-          let i = c .inside x y (listed-first x y (q .orders)) in
-          ((p .0, f .1 .1), (p .1, blocks-order s (q .events) (q .orders) (h .0 .0) (h .1) x y (i .0) (i .1) (c .noCircle)));
-      opened = λ q s h. (sound-kept .opened (q .boards) s (h .0), blocks-opened s (q .events) (q .orders) (h .0 .0) (h .1));
-      made = λ q byChoice s h room. (
-        sound-kept .made (q .boards) byChoice s (h .0) room,
-        blocks-made s (q .events) (q .orders) (h .0 .0) (h .1) byChoice,
+          let p = sound_kept.order q.boards x y rs s f.0 h.0 in
+          let c = clean_head q.events ((x, y) ∷ q.orders) rs f.1.1 in
+          let i = c.inside x y (listed_first x y q.orders) in
+          ((p.0, f.1.1), (p.1, blocks_order s q.events q.orders h.0.0 h.1 x y i.0 i.1 c.no_circle));
+      opened = λ q s h. (sound_kept.opened q.boards s h.0, blocks_opened s q.events q.orders h.0.0 h.1);
+      made = λ q by_choice s h room. (
+        sound_kept.made q.boards by_choice s h.0 room,
+        blocks_made s q.events q.orders h.0.0 h.1 by_choice,
       );
-      behindBlock = λ q rs f. (f .0, f .1 .1);
-      behindCall = λ q n rs f. (f .0, f .1 .1);
-      behindChoice = λ q m n rs f. (f .0, f .1 .1);
+      behind_block = λ q rs f. (f.0, f.1.1);
+      behind_call = λ q n rs f. (f.0, f.1.1);
+      behind_choice = λ q m n rs f. (f.0, f.1.1);
     }
 
 -- A walk whose blocks have no circle.
 module _ (s : Progress Met) (n : ℕ) (orders : List (ℕ × ℕ)) (h : Sound s) (j : Blocks s n orders) where
   -- every block, those too that the walk has not come to
-  oneOf : (b : ℕ) → BlockOf s b
-  oneOf b = go (decLt b (s .kept .open′)) (ℕ-discrete b (s .kept .open′))
+  one_of : (b : ℕ) → BlockOf s b
+  one_of b = go (dec_lt b s.kept.open') (ℕ_discrete b s.kept.open')
     where
-      go : Dec (b < s .kept .open′) → Dec (b ≡ s .kept .open′) → BlockOf s b
-      go (yes l) d = j .earlierOnes b l
-      go (no f) (yes e) = subst (λ (c : ℕ). BlockOf s c) (sym e) (open-one s n orders h j)
+      go : Dec (b < s.kept.open') → Dec (b ≡ s.kept.open') → BlockOf s b
+      go (yes l) d = j.earlier_ones b l
+      go (no f) (yes e) = subst (λ (c : ℕ). BlockOf s c) (sym e) (open_one s n orders h j)
       go (no f) (no g) =
           record {
             first = 0;
             events = 0;
             orders = [];
-            noCircle = ordered-empty .noCircle;
-            messages = λ k l e. absurd (omega (arith, block-most s h k l));
-            rows = λ x y l e. absurd (omega (arith, block-most s h (x / 2) (row-messages s h x y l .0), e));
+            no_circle = ordered_empty.no_circle;
+            messages = λ k l e. absurd (omega (arith, block_most s h k l));
+            rows = λ x y l e. absurd (omega (arith, block_most s h (x / 2) (row_messages s h x y l).0, e));
           }
 
-  abbrev blockAt : Event → ℕ
-  blockAt x = blockIn s (messageOf x)
+  abbrev block_at : Event → ℕ
+  block_at x = block_in s (message_of x)
 
   -- x is before y by the rows of block b
   abbrev WithinBlock : ℕ → Event → Event → Type 0
-  WithinBlock b x y = BlockBefore (oneOf b .events) (oneOf b .orders) (number x - 2 * oneOf b .first) (number y - 2 * oneOf b .first)
+  WithinBlock b x y = BlockBefore (one_of b).events (one_of b).orders (number x - 2 * (one_of b).first) (number y - 2 * (one_of b).first)
 
   -- a link leads to a later block, or stays in one and comes from its rows
   abbrev Leads : Event → Event → Type 0
-  Leads x y = (blockAt x < blockAt y) ⊎ ((blockAt x ≡ blockAt y) × WithinBlock (blockAt x) x y)
+  Leads x y = (block_at x < block_at y) ⊎ ((block_at x ≡ block_at y) × WithinBlock (block_at x) x y)
 
-  half : (x : Event) → number x / 2 ≡ messageOf x
-  unfolding number messageOf
-  half (sendOf m) = omega arith
-  half (receiveOf m) = omega arith
+  half : (x : Event) → number x / 2 ≡ message_of x
+  unfolding number message_of
+  half (send_of m) = omega arith
+  half (receive_of m) = omega arith
 
-  row-leads : (x y : Event) → exchangeOf s .ordered x y ≡ true → Leads x y
-  unfolding exchangeOf
-  row-leads x y l =
-      let in-x : blockIn s (number x / 2) ≡ blockAt x = ap (blockIn s) (half x) in
-      let B = oneOf (blockAt x) in
-      let r = B .rows (number x) (number y) l in-x in
+  row_leads : (x y : Event) → (exchange_of s).ordered x y ≡ true → Leads x y
+  unfolding exchange_of
+  row_leads x y l =
+      let in-x : block_in s (number x / 2) ≡ block_at x = ap (block_in s) (half x) in
+      let B = one_of (block_at x) in
+      let r = B.rows (number x) (number y) l in-x in
       inr (
-        sym in-x ∙ j .oneBlock (number x) (number y) l ∙ ap (blockIn s) (half y),
-        subst₂ (BlockBefore (B .events) (B .orders)) (omega (arith, r .firstIs)) (omega (arith, r .secondIs)) (given (r .isRow)),
+        sym in-x ∙ j.one_block (number x) (number y) l ∙ ap (block_in s) (half y),
+        subst₂ (BlockBefore B.events B.orders) (omega (arith, r.first_is)) (omega (arith, r.second_is)) (given r.is_row),
       )
 
-  own-leads : (x y : Event) → isOwn (exchangeOf s .count) x y ≡ true → Leads x y
-  unfolding exchangeOf number messageOf
-  own-leads x y o = let p = own-parts (exchangeOf s .count) x y o in subst₂ Leads (sym (p .1)) (sym (p .2)) (pair (p .0) (p .3))
+  own_leads : (x y : Event) → is_own (exchange_of s).count x y ≡ true → Leads x y
+  unfolding exchange_of number message_of
+  own_leads x y o = let p = own_parts (exchange_of s).count x y o in subst₂ Leads (sym p.1) (sym p.2) (pair p.0 p.3)
     where
-      pair : (m : ℕ) → m < s .walk .count → Leads (sendOf m) (receiveOf m)
+      pair : (m : ℕ) → m < s.walk.count → Leads (send_of m) (receive_of m)
       pair m l =
-          let B = oneOf (blockIn s m) in
-          let i = B .messages m l refl in
-          inr (refl, paired (own-pair-from (B .events) (2 * m - 2 * B .first) (2 * m + 1 - 2 * B .first) (omega (arith, i .0)) (omega (arith, i .0)) (omega (arith, i .1))))
+          let B = one_of (block_in s m) in
+          let i = B.messages m l refl in
+          inr (refl, paired (own_pair_from B.events (2 * m - 2 * B.first) (2 * m + 1 - 2 * B.first) (omega (arith, i.0)) (omega (arith, i.0)) (omega (arith, i.1))))
 
-  leads : {x y : Event} → Before (exchangeOf s) x y → Leads x y
-  unfolding exchangeOf
-  leads (row {x = x} {y = y} l) = row-leads x y l
-  leads (own {x = x} {y = y} o) = own-leads x y o
-  leads (earlier {x = x} {y = y} e) = inl (earlier-parts (exchangeOf s) x y e .laterBlock)
+  leads : {x y : Event} → Before (exchange_of s) x y → Leads x y
+  unfolding exchange_of
+  leads (row {x = x} {y = y} l) = row_leads x y l
+  leads (own {x = x} {y = y} o) = own_leads x y o
+  leads (earlier {x = x} {y = y} e) = inl (earlier_parts (exchange_of s) x y e).later_block
   leads (link {x = x} {y = y} {z = z} p q) = joined (leads p) (leads q)
     where
       joined : Leads x y → Leads y z → Leads x z
       joined (inl a) (inl b) = inl (omega arith)
-      joined (inl a) (inr b) = inl (omega (arith, b .0))
-      joined (inr a) (inl b) = inl (omega (arith, a .0))
-      joined (inr a) (inr b) = inr (a .0 ∙ b .0, through (a .1) (subst (λ (c : ℕ). WithinBlock c y z) (sym (a .0)) (b .1)))
+      joined (inl a) (inr b) = inl (omega (arith, b.0))
+      joined (inr a) (inl b) = inl (omega (arith, a.0))
+      joined (inr a) (inr b) = inr (a.0 ∙ b.0, through a.1 (subst (λ (c : ℕ). WithinBlock c y z) (sym a.0) b.1))
 
-  pub none-before-itself : (x : Event) → Before (exchangeOf s) x x → ⊥
-  none-before-itself x p = ⊎-elim (λ l. absurd (omega (arith, l))) (λ w. oneOf (blockAt x) .noCircle (number x - 2 * oneOf (blockAt x) .first) (w .1)) (leads p)
+  pub none_before_itself : (x : Event) → Before (exchange_of s) x x → ⊥
+  none_before_itself x p = ⊎_elim (λ l. absurd (omega (arith, l))) (λ w. (one_of (block_at x)).no_circle (number x - 2 * (one_of (block_at x)).first) w.1) (leads p)
 
 -- what holds of a walk over rows that the reading found to fit and to be clean
-pub walk-no-circle : (options : List Bool) (file : List Row) → Fits [] file → Clean 0 [] file → (s : Progress Met)
-    → expand metOps options file nothingMet ≡ ok s → (x : Event) → Before (exchangeOf s) x x → ⊥
-unfolding blocks-kept
-walk-no-circle options file fits clean s w x p =
-    let k = walk-keeps blocks-kept options file (λ n. (sheet-fits n [] file fits, sheet-clean n 0 [] file clean)) s ((sound-start, refl), blocks-start) w in
-    none-before-itself s (k .0 .events) (k .0 .orders) (k .1 .0 .0) (k .1 .1) x p
+pub walk_no_circle : (options : List Bool) (file : List Row) → Fits [] file → Clean 0 [] file → (s : Progress Met)
+    → expand met_ops options file nothing_met ≡ ok s → (x : Event) → Before (exchange_of s) x x → ⊥
+unfolding blocks_kept
+walk_no_circle options file fits clean s w x p =
+    let k = walk_keeps blocks_kept options file (λ n. (sheet_fits n [] file fits, sheet_clean n 0 [] file clean)) s ((sound_start, refl), blocks_start) w in
+    none_before_itself s k.0.events k.0.orders k.1.0.0 k.1.1 x p
 
 -- request (h)
-pub no-circles : NoCircles
-unfolding exchangeWith
-no-circles choices text file options E read met x p =
-    let d = and-then-ok (expand metOps options file nothingMet) (λ s. ok (exchangeOf s)) E met in
-    let same : exchangeOf (d .0) ≡ E = cc (d .2) in
-    walk-no-circle options file (read-fits choices text file read) (read-clean choices text file read) (d .0) (d .1) x
+pub no_circles_holds : NoCircles
+unfolding exchange_with
+no_circles_holds choices text file options E read met x p =
+    let d = and_then_ok (expand met_ops options file nothing_met) (λ s. ok (exchange_of s)) E met in
+    let same : exchange_of d.0 ≡ E = cc d.2 in
+    walk_no_circle options file (read_fits choices text file read) (read_clean choices text file read) d.0 d.1 x
     (subst (λ (F : Exchange). Before F x x) (sym same) p)

@@ -1,22 +1,22 @@
 -- How often events occur in a list: over two lists, and over the messages below a bound. Assumes nothing.
-use Prim.Native.Nat.{ℕ, zero, suc, _+_, _*_, _<_, _≤_}
-use native.Mathlib.Nat.{le-step, lt-suc-self}
+use Prim.Native.Nat.{ℕ, zero, suc, ◌+◌, ◌*◌, ◌<◌, ◌≤◌}
+use native.Mathlib.Nat.{le_step, lt-suc_self}
 use native.Mathlib.Omega.{arith}
-use mathlib.Core.Path.{_≡_, refl, fun-ext}
+use mathlib.Core.Path.{◌≡◌, refl, fun_ext}
 use mathlib.Core.Bool.{Bool, true, false, cond}
-use mathlib.Core.List.{List, [], _∷_, _++_}
+use mathlib.Core.List.{List, [], ◌∷◌, ◌++◌}
 use borrow.Author.Tests.{eq-eqb}
 use lib.Dec.{eqb}
 use lib.ListN.{length}
-use Rattle·model·specs.specs.Order.{Event, sendOf, receiveOf, number, messageOf}
-use Rattle·model·specs.specs.Wired.{occurrences}
-use Rattle·model·proofs.proofs.Phases.{bump, same-sends, same-receives, send-no-receive, receive-no-send}
-use Rattle·model·proofs.proofs.Rank.{rank, rank-bump, rank-zero}
+use Rattle.model.specs.Order.{Event, send_of, receive_of, number, message_of}
+use Rattle.model.specs.Wired.{occurrences}
+use Rattle.model.proofs.Phases.{bump, same_sends, same_receives, send_no_receive, receive_no_send}
+use Rattle.model.proofs.Rank.{rank, rank_bump, rank_zero}
 
-pub occurrences-append : (x : Event) (es fs : List Event) → occurrences x (es ++ fs) ≡ occurrences x es + occurrences x fs
+pub occurrences_append : (x : Event) (es fs : List Event) → occurrences x (es ++ fs) ≡ occurrences x es + occurrences x fs
 unfolding occurrences
-occurrences-append x [] fs = omega arith
-occurrences-append x (y ∷ es) fs = go (eqb (number x) (number y)) (occurrences-append x es fs)
+occurrences_append x [] fs = omega arith
+occurrences_append x (y ∷ es) fs = go (eqb (number x) (number y)) (occurrences_append x es fs)
   where
     go : (b : Bool) → occurrences x (es ++ fs) ≡ occurrences x es + occurrences x fs
         → cond b (suc (occurrences x (es ++ fs))) (occurrences x (es ++ fs)) ≡ cond b (suc (occurrences x es)) (occurrences x es) + occurrences x fs
@@ -24,13 +24,13 @@ occurrences-append x (y ∷ es) fs = go (eqb (number x) (number y)) (occurrences
     go false e = omega arith
 
 -- an event occurs in a list that begins with it, and occurs there at least as often as behind its beginning
-occurs-first : (x : Event) (es : List Event) → 1 ≤ occurrences x (x ∷ es)
+occurs_first : (x : Event) (es : List Event) → 1 ≤ occurrences x (x ∷ es)
 unfolding occurrences
-occurs-first x es = rw (eq-eqb (number x) (number x) refl) (omega arith)
+occurs_first x es = rw (eq-eqb (number x) (number x) refl) (omega arith)
 
-occurs-behind : (x y : Event) (es : List Event) → occurrences x es ≤ occurrences x (y ∷ es)
+occurs_behind : (x y : Event) (es : List Event) → occurrences x es ≤ occurrences x (y ∷ es)
 unfolding occurrences
-occurs-behind x y es = go (eqb (number x) (number y))
+occurs_behind x y es = go (eqb (number x) (number y))
   where
     go : (b : Bool) → occurrences x es ≤ cond b (suc (occurrences x es)) (occurrences x es)
     go true = omega arith
@@ -38,40 +38,40 @@ occurs-behind x y es = go (eqb (number x) (number y))
 
 -- how often the two events of a message occur
 unfoldable tally : List Event → ℕ → ℕ
-tally es m = occurrences (sendOf m) es + occurrences (receiveOf m) es
+tally es m = occurrences (send_of m) es + occurrences (receive_of m) es
 
 -- an event more is one more of its message
-tally-more : (y : Event) (es : List Event) → tally (y ∷ es) ≡ bump (tally es) (messageOf y)
-unfolding tally occurrences bump messageOf
-tally-more (sendOf k) es = fun-ext (λ m. rw (same-sends m k, receive-no-send m k) (go (eqb m k) (occurrences (sendOf m) es) (occurrences (receiveOf m) es)))
+tally_more : (y : Event) (es : List Event) → tally (y ∷ es) ≡ bump (tally es) (message_of y)
+unfolding tally occurrences bump message_of
+tally_more (send_of k) es = fun_ext (λ m. rw (same_sends m k, receive_no_send m k) (go (eqb m k) (occurrences (send_of m) es) (occurrences (receive_of m) es)))
   where
     go : (b : Bool) (i j : ℕ) → cond b (suc i) i + j ≡ cond b (suc (i + j)) (i + j)
     go true i j = omega arith
     go false i j = refl
-tally-more (receiveOf k) es = fun-ext (λ m. rw (send-no-receive m k, same-receives m k) (go (eqb m k) (occurrences (sendOf m) es) (occurrences (receiveOf m) es)))
+tally_more (receive_of k) es = fun_ext (λ m. rw (send_no_receive m k, same_receives m k) (go (eqb m k) (occurrences (send_of m) es) (occurrences (receive_of m) es)))
   where
     go : (b : Bool) (i j : ℕ) → i + cond b (suc j) j ≡ cond b (suc (i + j)) (i + j)
     go true i j = omega arith
     go false i j = refl
 
 -- so a list of events of messages below n is as long as their tallies together
-tally-length : (n : ℕ) (es : List Event) → ((x : Event) → n ≤ messageOf x → occurrences x es ≡ 0) → rank n (tally es) ≡ length es
+tally_length : (n : ℕ) (es : List Event) → ((x : Event) → n ≤ message_of x → occurrences x es ≡ 0) → rank n (tally es) ≡ length es
 unfolding tally occurrences
-tally-length n [] none = rank-zero n
-tally-length n (y ∷ es) none =
-    let outside : n ≤ messageOf y → ⊥ = λ l. omega (arith, occurs-first y es, none y l) in
-    let more : rank n (bump (tally es) (messageOf y)) ≡ suc (rank n (tally es)) = rank-bump n (tally es) (messageOf y) (omega arith) in
-    let rest : rank n (tally es) ≡ length es = tally-length n es (λ x l. omega (arith, occurs-behind x y es, none x l)) in
-    rw tally-more (omega arith)
+tally_length n [] none = rank_zero n
+tally_length n (y ∷ es) none =
+    let outside : n ≤ message_of y → ⊥ = λ l. omega (arith, occurs_first y es, none y l) in
+    let more : rank n (bump (tally es) (message_of y)) ≡ suc (rank n (tally es)) = rank_bump n (tally es) (message_of y) (omega arith) in
+    let rest : rank n (tally es) ≡ length es = tally_length n es (λ x l. omega (arith, occurs_behind x y es, none x l)) in
+    rw tally_more (omega arith)
 
-rank-of-twos : (n : ℕ) (φ : ℕ → ℕ) → ((m : ℕ) → m < n → φ m ≡ 2) → rank n φ ≡ 2 * n
+rank_of_twos : (n : ℕ) (φ : ℕ → ℕ) → ((m : ℕ) → m < n → φ m ≡ 2) → rank n φ ≡ 2 * n
 unfolding rank
-rank-of-twos zero φ h = refl
-rank-of-twos (suc n) φ h = omega (arith, rank-of-twos n φ (λ m l. h m (le-step l)), h n (lt-suc-self n))
+rank_of_twos zero φ h = refl
+rank_of_twos (suc n) φ h = omega (arith, rank_of_twos n φ (λ m l. h m (le_step l)), h n (lt-suc_self n))
 
 -- Where every event of the messages below n occurs once, and no other occurs, there are two a message.
-pub two-a-message : (n : ℕ) (es : List Event) → ((x : Event) → messageOf x < n → occurrences x es ≡ 1)
-    → ((x : Event) → n ≤ messageOf x → occurrences x es ≡ 0) → length es ≡ 2 * n
-unfolding tally messageOf
-two-a-message n es once none =
-    omega (arith, tally-length n es none, rank-of-twos n (tally es) (λ m l. omega (arith, once (sendOf m) l, once (receiveOf m) l)))
+pub two_a_message : (n : ℕ) (es : List Event) → ((x : Event) → message_of x < n → occurrences x es ≡ 1)
+    → ((x : Event) → n ≤ message_of x → occurrences x es ≡ 0) → length es ≡ 2 * n
+unfolding tally message_of
+two_a_message n es once none =
+    omega (arith, tally_length n es none, rank_of_twos n (tally es) (λ m l. omega (arith, once (send_of m) l, once (receive_of m) l)))

@@ -1,54 +1,54 @@
 -- The rank of a state, the sum of its messages' phases: each step adds one, and it is three a message where all is consumed.
 -- Assumes nothing.
-use Prim.Native.Nat.{ℕ, zero, suc, _+_, _*_, _<_, _≤_}
-use native.Mathlib.Nat.{not-suc-le-zero, le-step, lt-suc-self, eq-or-lt-of-le, le-of-suc-le-suc}
+use Prim.Native.Nat.{ℕ, zero, suc, ◌+◌, ◌*◌, ◌<◌, ◌≤◌}
+use native.Mathlib.Nat.{not-suc-le-zero, le_step, lt-suc_self, eq-or-lt_of_le, le_of_suc-le-suc}
 use native.Mathlib.Omega.{arith}
-use mathlib.Core.Path.{_≡_, refl, sym, ap, subst}
-use mathlib.Core.Logic.{⊎-elim}
-use Rattle·model·proofs.proofs.Phases.{bump, bump-same, bump-other}
+use mathlib.Core.Path.{◌≡◌, refl, sym, ap, subst}
+use mathlib.Core.Logic.{⊎_elim}
+use Rattle.model.proofs.Phases.{bump, bump_same, bump_other}
 
 unfoldable pub rank : ℕ → (ℕ → ℕ) → ℕ
 rank zero φ = 0
 rank (suc n) φ = rank n φ + φ n
 
 -- a message above the bound does not count
-rank-above : (n : ℕ) (φ : ℕ → ℕ) (m : ℕ) → n ≤ m → rank n (bump φ m) ≡ rank n φ
+rank_above : (n : ℕ) (φ : ℕ → ℕ) (m : ℕ) → n ≤ m → rank n (bump φ m) ≡ rank n φ
 unfolding rank
-rank-above zero φ m h = refl
-rank-above (suc n) φ m h = rw (rank-above n φ m (omega arith), bump-other φ m n (λ e. omega arith))
+rank_above zero φ m h = refl
+rank_above (suc n) φ m h = rw (rank_above n φ m (omega arith), bump_other φ m n (λ e. omega arith))
 
-pub rank-bump : (n : ℕ) (φ : ℕ → ℕ) (m : ℕ) → m < n → rank n (bump φ m) ≡ suc (rank n φ)
+pub rank_bump : (n : ℕ) (φ : ℕ → ℕ) (m : ℕ) → m < n → rank n (bump φ m) ≡ suc (rank n φ)
 unfolding rank
-rank-bump zero φ m h = absurd (not-suc-le-zero h)
-rank-bump (suc n) φ m h =
-    ⊎-elim
+rank_bump zero φ m h = absurd (not-suc-le-zero h)
+rank_bump (suc n) φ m h =
+    ⊎_elim
     (λ (e : m ≡ n).
-    let top : bump φ m n ≡ suc (φ n) = subst (λ (k : ℕ). bump φ k n ≡ suc (φ n)) (sym e) (bump-same φ n) in
-    omega (arith, top, rank-above n φ m (omega arith)))
-    (λ (l : m < n). omega (arith, bump-other φ m n (λ e. omega arith), rank-bump n φ m l))
-    (eq-or-lt-of-le (le-of-suc-le-suc h))
+    let top : bump φ m n ≡ suc (φ n) = subst (λ (k : ℕ). bump φ k n ≡ suc (φ n)) (sym e) (bump_same φ n) in
+    omega (arith, top, rank_above n φ m (omega arith)))
+    (λ (l : m < n). omega (arith, bump_other φ m n (λ e. omega arith), rank_bump n φ m l))
+    (eq-or-lt_of_le (le_of_suc-le-suc h))
 
-pub rank-most : (n : ℕ) (φ : ℕ → ℕ) → ((m : ℕ) → φ m ≤ 3) → rank n φ ≤ 3 * n
+pub rank_most : (n : ℕ) (φ : ℕ → ℕ) → ((m : ℕ) → φ m ≤ 3) → rank n φ ≤ 3 * n
 unfolding rank
-rank-most zero φ h = omega arith
-rank-most (suc n) φ h = omega (arith, rank-most n φ h, h n)
+rank_most zero φ h = omega arith
+rank_most (suc n) φ h = omega (arith, rank_most n φ h, h n)
 
 -- a message not consumed keeps the rank below
-pub rank-less : (n : ℕ) (φ : ℕ → ℕ) → ((m : ℕ) → φ m ≤ 3) → (k : ℕ) → k < n → φ k < 3 → rank n φ < 3 * n
+pub rank_less : (n : ℕ) (φ : ℕ → ℕ) → ((m : ℕ) → φ m ≤ 3) → (k : ℕ) → k < n → φ k < 3 → rank n φ < 3 * n
 unfolding rank
-rank-less zero φ h k l u = absurd (not-suc-le-zero l)
-rank-less (suc n) φ h k l u =
-    ⊎-elim
-    (λ (e : k ≡ n). omega (arith, rank-most n φ h, ap φ e))
-    (λ (l′ : k < n). omega (arith, rank-less n φ h k l′ u, h n))
-    (eq-or-lt-of-le (le-of-suc-le-suc l))
+rank_less zero φ h k l u = absurd (not-suc-le-zero l)
+rank_less (suc n) φ h k l u =
+    ⊎_elim
+    (λ (e : k ≡ n). omega (arith, rank_most n φ h, ap φ e))
+    (λ (l' : k < n). omega (arith, rank_less n φ h k l' u, h n))
+    (eq-or-lt_of_le (le_of_suc-le-suc l))
 
-pub rank-full : (n : ℕ) (φ : ℕ → ℕ) → ((m : ℕ) → m < n → φ m ≡ 3) → rank n φ ≡ 3 * n
+pub rank_full : (n : ℕ) (φ : ℕ → ℕ) → ((m : ℕ) → m < n → φ m ≡ 3) → rank n φ ≡ 3 * n
 unfolding rank
-rank-full zero φ h = refl
-rank-full (suc n) φ h = omega (arith, rank-full n φ (λ m l. h m (le-step l)), h n (lt-suc-self n))
+rank_full zero φ h = refl
+rank_full (suc n) φ h = omega (arith, rank_full n φ (λ m l. h m (le_step l)), h n (lt-suc_self n))
 
-pub rank-zero : (n : ℕ) → rank n (λ m. 0) ≡ 0
+pub rank_zero : (n : ℕ) → rank n (λ m. 0) ≡ 0
 unfolding rank
-rank-zero zero = refl
-rank-zero (suc n) = omega (arith, rank-zero n)
+rank_zero zero = refl
+rank_zero (suc n) = omega (arith, rank_zero n)

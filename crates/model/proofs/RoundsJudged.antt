@@ -1,188 +1,185 @@
 -- An exchange that is repeated, over whole orders and every number of rounds: what two rounds say. Assumes nothing.
-use Prim.Native.Nat.{ℕ, suc, _*_, _%_, _<_, _≤_}
-use native.Mathlib.Nat.{one-mul, mod-eq-of-lt}
+use Prim.Native.Nat.{ℕ, ◌*◌, ◌<◌, ◌≤◌}
+use native.Mathlib.Nat.{one-mul, mod-eq_of_lt}
 use native.Mathlib.Omega.{arith}
-use mathlib.Core.Path.{_≡_, refl, sym, _∙_, ap, subst, subst⁻¹, fun-ext}
-use mathlib.Core.Logic.{_↔_, _⊎_, inl, inr, ⊎-elim}
-use mathlib.Core.Bool.{Bool, true, false}
+use mathlib.Core.Path.{◌≡◌, refl, sym, ◌∙◌, ap, subst, subst⁻¹, fun_ext}
+use mathlib.Core.Logic.{◌⊎◌, inl, inr, ⊎_elim}
 use mathlib.Core.List.{List, []}
-use native.Mathlib.Decide.{decLt}
+use native.Mathlib.Decide.{dec_lt}
 use borrow.Author.Tests.{lt-ltb, le-ltb}
-use lib.Dec.{ltb}
 use lib.ListN.{length}
-use Rattle·model·specs.specs.Limits.{channels}
-use Rattle·model·specs.specs.Order.{Event, sendOf, receiveOf, event, messageOf, Exchange, Before, Scenario, scenarioOf}
-use Rattle·model·specs.specs.Channel.{channelOf}
-use Rattle·model·specs.specs.Run.{Step, IsOrder, EndsStuck, EndsFinished, CanFinish}
-use Rattle·model·specs.specs.Race.{raceRuleOf, isRace}
-use Rattle·model·specs.specs.Schedule.{schedule}
-use Rattle·model·specs.specs.Answer.{Answer, free, locked, refused, verdictOf, Numbers, freeWord, lockedWord, numbersOf, traceAfter}
-use Rattle·model·specs.specs.Verdict.{LowestRace, Verdict}
-use Rattle·model·specs.specs.Rounds.{roundOf, inRound, standsFor, rounds, secondVerdict, firstVerdict, roundsVerdict, scenarioIn, RoundsJudged}
-use Rattle·model·proofs.proofs.Bounded.{both-ways}
-use Rattle·model·proofs.proofs.Causal.{Causal}
-use Rattle·model·proofs.proofs.Order.{RowsInside, RowsOnOneBoard, before-inside, before-exact, causal}
-use Rattle·model·proofs.proofs.PointThree.{Decided, isFree, isLocked, decided, verdict-for}
-use Rattle·model·proofs.proofs.Rounds.{rows-inside, rows-on-one-board, round-same, lift, before-in, at, at-round, at-in, zero-at, two-rounds-race, one-round-races}
+use Rattle.model.specs.Limits.{channels}
+use Rattle.model.specs.Order.{Event, message_of, Exchange, Before, scenario_of}
+use Rattle.model.specs.Channel.{channel_of}
+use Rattle.model.specs.Run.{Step, IsOrder, EndsStuck, EndsFinished, CanFinish}
+use Rattle.model.specs.Race.{race_rule_of}
+use Rattle.model.specs.Answer.{Answer, free, locked, refused, verdict_of, Numbers, free_word, locked_word, numbers_of, trace_after}
+use Rattle.model.specs.Verdict.{Verdict}
+use Rattle.model.specs.Rounds.{round_of, in_round, stands_for, rounds, second_verdict, first_verdict, rounds_verdict, scenario_in, RoundsJudged}
+use Rattle.model.proofs.Bounded.{both_ways}
+use Rattle.model.proofs.Causal.{Causal}
+use Rattle.model.proofs.Order.{RowsInside, RowsOnOneBoard, before_inside, before_exact, causal}
+use Rattle.model.proofs.PointThree.{decided, verdict_for}
+use Rattle.model.proofs.Rounds.{rows_inside, rows_on_one_board, round_same, lift, before_in, at, at_round, at_in, zero_at, two_rounds_race}
 
-module _ (E : Exchange) (inside : RowsInside E) (oneBoard : RowsOnOneBoard E) (noCircle : (x : Event) → Before E x x → ⊥) where
+module _ (E : Exchange) (inside : RowsInside E) (one_board : RowsOnOneBoard E) (no_circle : (x : Event) → Before E x x → ⊥) where
   -- no circle in any number of rounds
-  rounds-causal : (k : ℕ) → Causal (scenarioIn E k)
-  rounds-causal k =
-      causal (rounds E k) (rows-inside E inside k) (rows-on-one-board E inside k oneBoard) (λ x p. noCircle (inRound E x) (round-same E inside k p refl))
+  rounds_causal : (k : ℕ) → Causal (scenario_in E k)
+  rounds_causal k =
+      causal (rounds E k) (rows_inside E inside k) (rows_on_one_board E inside k one_board) (λ x p. no_circle (in_round E x) (round_same E inside k p refl))
 
   -- one round is the check's own
-  stands-for-one : (m : ℕ) → standsFor E 1 m ≡ m
-  unfolding standsFor
-  stands-for-one m = go (decLt m (1 * E .count))
+  stands_for_one : (m : ℕ) → stands_for E 1 m ≡ m
+  unfolding stands_for
+  stands_for_one m = go (dec_lt m (1 * E.count))
     where
-      go : Dec (m < 1 * E .count) → standsFor E 1 m ≡ m
-      go (yes l) = let h : m < E .count = omega (arith, one-mul (E .count)) in rw (lt-ltb m (1 * E .count) l) (mod-eq-of-lt h)
-      go (no g) = rw (le-ltb m (1 * E .count) (omega arith))
+      go : Dec (m < 1 * E.count) → stands_for E 1 m ≡ m
+      go (yes l) = let h : m < E.count = omega (arith, one-mul E.count) in rw (lt-ltb m (1 * E.count) l) (mod-eq_of_lt h)
+      go (no g) = rw (le-ltb m (1 * E.count) (omega arith))
 
-  first-event : (x : Event) → messageOf x < E .count → (roundOf E x ≡ 0) × (inRound E x ≡ x)
-  first-event x l =
-      let e = zero-at E inside x in
-      (ap (roundOf E) (sym e) ∙ at-round E inside 0 x l, ap (inRound E) (sym e) ∙ at-in E inside 0 x l)
+  first_event : (x : Event) → message_of x < E.count → (round_of E x ≡ 0) × (in_round E x ≡ x)
+  first_event x l =
+      let e = zero_at E inside x in
+      (ap (round_of E) (sym e) ∙ at_round E inside 0 x l, ap (in_round E) (sym e) ∙ at_in E inside 0 x l)
 
-  one-before : (x y : Event) → scenarioIn E 1 .before x y ≡ scenarioOf E .before x y
+  one_before : (x y : Event) → (scenario_in E 1).before x y ≡ (scenario_of E).before x y
   unfolding rounds
-  one-before x y =
-      both-ways (scenarioIn E 1 .before x y) (scenarioOf E .before x y)
+  one_before x y =
+      both_ways ((scenario_in E 1).before x y) ((scenario_of E).before x y)
       (λ h.
-      let b = before-inside (rounds E 1) x y h in
-      let c = one-mul (E .count) in
-      let fx = first-event x (omega (arith, b .0)) in
-      let fy = first-event y (omega (arith, b .1)) in
-      before-exact E inside x y .1
-      (subst (λ (u : Event). Before E u y) (fx .1) (subst (λ (v : Event). Before E (inRound E x) v) (fy .1) (round-same E inside 1 (before-in E inside 1 x y .0 h) (fx .0 ∙ sym (fy .0))))))
+      let b = before_inside (rounds E 1) x y h in
+      let c = one-mul E.count in
+      let fx = first_event x (omega (arith, b.0)) in
+      let fy = first_event y (omega (arith, b.1)) in
+      (before_exact E inside x y).1
+      (subst (λ (u : Event). Before E u y) fx.1 (subst (λ (v : Event). Before E (in_round E x) v) fy.1 (round_same E inside 1 ((before_in E inside 1 x y).0 h) (fx.0 ∙ sym fy.0)))))
       (λ h.
-      before-in E inside 1 x y .1
-      (subst (λ (u : Event). Before (rounds E 1) u y) (zero-at E inside x)
-      (subst (λ (v : Event). Before (rounds E 1) (at E inside 0 x) v) (zero-at E inside y) (lift E inside 1 0 (omega arith) (before-exact E inside x y .0 h)))))
+      (before_in E inside 1 x y).1
+      (subst (λ (u : Event). Before (rounds E 1) u y) (zero_at E inside x)
+      (subst (λ (v : Event). Before (rounds E 1) (at E inside 0 x) v) (zero_at E inside y) (lift E inside 1 0 (omega arith) ((before_exact E inside x y).0 h)))))
 
-  one-round : scenarioIn E 1 ≡ scenarioOf E
-  unfolding scenarioOf rounds
-  one-round = λ i.
+  one_round_holds : scenario_in E 1 ≡ scenario_of E
+  unfolding scenario_of rounds
+  one_round_holds = λ i.
       record {
-        count = one-mul (E .count) i;
-        source = fun-ext (λ (m : ℕ). ap (E .source) (stands-for-one m)) i;
-        target = fun-ext (λ (m : ℕ). ap (E .target) (stands-for-one m)) i;
-        before = fun-ext (λ (x : Event). fun-ext (λ (y : Event). one-before x y)) i;
+        count = one-mul E.count i;
+        source = fun_ext (λ (m : ℕ). ap E.source (stands_for_one m)) i;
+        target = fun_ext (λ (m : ℕ). ap E.target (stands_for_one m)) i;
+        before = fun_ext (λ (x : Event). fun_ext (λ (y : Event). one_before x y)) i;
       }
 
   module _ (code : ℕ) (known : code < channels) where
     -- point 3 of k rounds
-    numbersIn : ℕ → Numbers
-    numbersIn k = numbersOf (verdictOf (scenarioIn E k) code)
+    numbers_in : ℕ → Numbers
+    numbers_in k = numbers_of (verdict_of (scenario_in E k) code)
 
-    point : (k : ℕ) → Verdict (scenarioIn E k) code (numbersIn k) (traceAfter (verdictOf (scenarioIn E k) code) [])
-    unfolding numbersIn
-    point k = verdict-for (scenarioIn E k) (rounds-causal k) code known (verdictOf (scenarioIn E k) code) (decided (scenarioIn E k) (rounds-causal k) code known) []
+    point : (k : ℕ) → Verdict (scenario_in E k) code (numbers_in k) (trace_after (verdict_of (scenario_in E k) code) [])
+    unfolding numbers_in
+    point k = verdict_for (scenario_in E k) (rounds_causal k) code known (verdict_of (scenario_in E k) code) (decided (scenario_in E k) (rounds_causal k) code known) []
 
     -- locked on k rounds, locked on two
-    two-decide : (k : ℕ) → numbersIn k .word ≡ lockedWord → numbersIn 2 .word ≡ lockedWord
-    unfolding scenarioOf rounds
-    two-decide k l =
-        let race = point k .lockedWhenRacing .0 l in
-        let two = two-rounds-race E inside k (raceRuleOf code) (race .0) (race .1) (race .3) in
-        point 2 .lockedWhenRacing .1 (two .0, two .1, two .2, two .3)
+    two_decide : (k : ℕ) → (numbers_in k).word ≡ locked_word → (numbers_in 2).word ≡ locked_word
+    unfolding scenario_of rounds
+    two_decide k l =
+        let race = (point k).locked_when_racing.0 l in
+        let two = two_rounds_race E inside k (race_rule_of code) race.0 race.1 race.3 in
+        (point 2).locked_when_racing.1 (two.0, two.1, two.2, two.3)
 
-    free-of-locked : (k : ℕ) → (numbersIn k .word ≡ lockedWord → ⊥) → numbersIn k .word ≡ freeWord
-    free-of-locked k n = ⊎-elim (λ l. absurd (n l)) (λ f. f) (point k .lockedOrFree)
+    free_of_locked : (k : ℕ) → ((numbers_in k).word ≡ locked_word → ⊥) → (numbers_in k).word ≡ free_word
+    free_of_locked k n = ⊎_elim (λ l. absurd (n l)) (λ f. f) (point k).locked_or_free
 
     -- free on two rounds: on every number of them
-    all-free : numbersIn 2 .word ≡ freeWord → (k : ℕ) (ts : List Step) → IsOrder (scenarioIn E k) (channelOf code) ts → CanFinish (scenarioIn E k) (channelOf code) ts
-    all-free f k = point k .freeWhenFinishing .0 (free-of-locked k (λ l. let t = two-decide k l in omega arith))
+    all_free : (numbers_in 2).word ≡ free_word → (k : ℕ) (ts : List Step) → IsOrder (scenario_in E k) (channel_of code) ts → CanFinish (scenario_in E k) (channel_of code) ts
+    all_free f k = (point k).free_when_finishing.0 (free_of_locked k (λ l. let t = two_decide k l in omega arith))
 
     -- what is locked on so many rounds
     record LocksOn (number : ℕ) (r : Numbers) : Type 0 where
-      rounds′ : (number ≡ 1) ⊎ (number ≡ 2)
-      same : r ≡ numbersIn number
-      isLocked′ : numbersIn number .word ≡ lockedWord
-      fewest′ : (k : ℕ) → 1 ≤ k → k < number → numbersIn k .word ≡ freeWord
+      rounds' : (number ≡ 1) ⊎ (number ≡ 2)
+      same : r ≡ numbers_in number
+      is_locked' : (numbers_in number).word ≡ locked_word
+      fewest' : (k : ℕ) → 1 ≤ k → k < number → (numbers_in k).word ≡ free_word
 
     data Judged : ℕ → Numbers → Type 0 where
-      quiet : numbersIn 2 .word ≡ freeWord → Judged 0 (numbersOf free)
+      quiet : (numbers_in 2).word ≡ free_word → Judged 0 (numbers_of free)
       locks : {number : ℕ} {r : Numbers} → LocksOn number r → Judged number r
 
-    by-rounds : (one two : Answer) → verdictOf (scenarioIn E 1) code ≡ one → verdictOf (scenarioIn E 2) code ≡ two
-        → Judged (firstVerdict one two .0) (numbersOf (firstVerdict one two .1))
-    unfolding firstVerdict secondVerdict numbersIn
-    by-rounds free free a b = quiet (ap (λ v. numbersOf v .word) b)
-    by-rounds free (locked e x ts) a b =
+    by_rounds : (one two : Answer) → verdict_of (scenario_in E 1) code ≡ one → verdict_of (scenario_in E 2) code ≡ two
+        → Judged (first_verdict one two).0 (numbers_of (first_verdict one two).1)
+    unfolding first_verdict second_verdict numbers_in
+    by_rounds free free a b = quiet (ap (λ v. (numbers_of v).word) b)
+    by_rounds free (locked e x ts) a b =
         locks (record {
-          rounds′ = inr refl;
-          same = ap numbersOf (sym b);
-          isLocked′ = ap (λ v. numbersOf v .word) b;
-          fewest′ = λ k l m. let one : k ≡ 1 = omega arith in subst⁻¹ (λ (j : ℕ). numbersOf (verdictOf (scenarioIn E j) code) .word ≡ freeWord) one (ap (λ v. numbersOf v .word) a);
+          rounds' = inr refl;
+          same = ap numbers_of (sym b);
+          is_locked' = ap (λ v. (numbers_of v).word) b;
+          fewest' = λ k l m. let one : k ≡ 1 = omega arith in subst⁻¹ (λ (j : ℕ). (numbers_of (verdict_of (scenario_in E j) code)).word ≡ free_word) one (ap (λ v. (numbers_of v).word) a);
         })
-    by-rounds free (refused number line) a b =
-        let w : numbersIn 2 .word ≡ 2 = ap (λ v. numbersOf v .word) b in
-        absurd (⊎-elim (λ l. omega arith) (λ f. omega arith) (point 2 .lockedOrFree))
-    by-rounds (locked e x ts) two a b =
-        locks (record { rounds′ = inl refl; same = ap numbersOf (sym a); isLocked′ = ap (λ v. numbersOf v .word) a; fewest′ = λ k l m. absurd (omega arith) })
-    by-rounds (refused number line) two a b =
-        let w : numbersIn 1 .word ≡ 2 = ap (λ v. numbersOf v .word) a in
-        absurd (⊎-elim (λ l. omega arith) (λ f. omega arith) (point 1 .lockedOrFree))
+    by_rounds free (refused number line) a b =
+        let w : (numbers_in 2).word ≡ 2 = ap (λ v. (numbers_of v).word) b in
+        absurd (⊎_elim (λ l. omega arith) (λ f. omega arith) (point 2).locked_or_free)
+    by_rounds (locked e x ts) two a b =
+        locks (record { rounds' = inl refl; same = ap numbers_of (sym a); is_locked' = ap (λ v. (numbers_of v).word) a; fewest' = λ k l m. absurd (omega arith) })
+    by_rounds (refused number line) two a b =
+        let w : (numbers_in 1).word ≡ 2 = ap (λ v. (numbers_of v).word) a in
+        absurd (⊎_elim (λ l. omega arith) (λ f. omega arith) (point 1).locked_or_free)
 
-    judged-rounds : Judged (roundsVerdict E code .0) (numbersOf (roundsVerdict E code .1))
-    unfolding roundsVerdict
-    judged-rounds = by-rounds (verdictOf (scenarioOf E) code) (verdictOf (scenarioIn E 2) code) (ap (λ S. verdictOf S code) one-round) refl
+    judged_rounds : Judged (rounds_verdict E code).0 (numbers_of (rounds_verdict E code).1)
+    unfolding rounds_verdict
+    judged_rounds = by_rounds (verdict_of (scenario_of E) code) (verdict_of (scenario_in E 2) code) (ap (λ S. verdict_of S code) one_round_holds) refl
 
-    finished-all : (k : ℕ) (ts : List Step) → EndsFinished (scenarioIn E k) (channelOf code) ts → length ts ≡ 3 * (k * E .count)
-    unfolding scenarioOf rounds
-    finished-all k = point k .finishedLength
+    finished_all : (k : ℕ) (ts : List Step) → EndsFinished (scenario_in E k) (channel_of code) ts → length ts ≡ 3 * (k * E.count)
+    unfolding scenario_of rounds
+    finished_all k = (point k).finished_length
 
-    longer-none : (k : ℕ) (ts : List Step) → IsOrder (scenarioIn E k) (channelOf code) ts → length ts ≤ 3 * (k * E .count)
-    unfolding scenarioOf rounds
-    longer-none k = point k .noneLonger
+    longer_none : (k : ℕ) (ts : List Step) → IsOrder (scenario_in E k) (channel_of code) ts → length ts ≤ 3 * (k * E.count)
+    unfolding scenario_of rounds
+    longer_none k = (point k).none_longer
 
     -- a stuck order of k rounds, on no number of rounds where two are free
-    no-stuck : numbersIn 2 .word ≡ freeWord → (k : ℕ) (ts : List Step) → EndsStuck (scenarioIn E k) (channelOf code) ts → ⊥
-    no-stuck f k ts s = let l = two-decide k (point k .lockedWhenStuck .1 (ts, s)) in omega arith
+    no_stuck : (numbers_in 2).word ≡ free_word → (k : ℕ) (ts : List Step) → EndsStuck (scenario_in E k) (channel_of code) ts → ⊥
+    no_stuck f k ts s = let l = two_decide k ((point k).locked_when_stuck.1 (ts, s)) in omega arith
 
     told : {number : ℕ} {r : Numbers} → Judged number r → RoundsJudged E code number r
-    unfolding numbersIn
+    unfolding numbers_in
     told (quiet f) =
         record {
-          oneRound = one-round;
-          causalOrder = λ k. before-in E inside k;
-          freeOrLocked = inl refl;
-          freeWhenFinishing = ((λ i k l. all-free f k), (λ h. refl));
-          lockedWhenStuck = ((λ i. absurd (omega arith)), (λ (k, l, ts, s). absurd (no-stuck f k ts s)));
-          lockedRounds = λ i. absurd (omega arith);
-          lockedRace = λ i. absurd (omega arith);
-          lockedCount = λ i. absurd (omega arith);
-          lockedSteps = λ i. absurd (omega arith);
+          one_round = one_round_holds;
+          causal_order = λ k. before_in E inside k;
+          free_or_locked = inl refl;
+          free_when_finishing = ((λ i k l. all_free f k), (λ h. refl));
+          locked_when_stuck = ((λ i. absurd (omega arith)), (λ (k, l, ts, s). absurd (no_stuck f k ts s)));
+          locked_rounds = λ i. absurd (omega arith);
+          locked_race = λ i. absurd (omega arith);
+          locked_count = λ i. absurd (omega arith);
+          locked_steps = λ i. absurd (omega arith);
           fewest = λ i. absurd (omega arith);
-          finishedLength = finished-all;
-          noneLonger = longer-none;
+          finished_length = finished_all;
+          none_longer = longer_none;
         }
     told (locks {number = number} {r = r} h) =
         let says = point number in
-        let l = h .isLocked′ in
-        let word : r .word ≡ lockedWord = ap (λ (n : Numbers). n .word) (h .same) ∙ l in
-        let least : 1 ≤ number = ⊎-elim (λ i. omega arith) (λ i. omega arith) (h .rounds′) in
-        subst⁻¹ (RoundsJudged E code number) (h .same)
+        let l = h.is_locked' in
+        let word : r.word ≡ locked_word = ap (λ (n : Numbers). n.word) h.same ∙ l in
+        let least : 1 ≤ number = ⊎_elim (λ i. omega arith) (λ i. omega arith) h.rounds' in
+        subst⁻¹ (RoundsJudged E code number) h.same
         (record {
-          oneRound = one-round;
-          causalOrder = λ k. before-in E inside k;
-          freeOrLocked = inr l;
-          freeWhenFinishing = (
+          one_round = one_round_holds;
+          causal_order = λ k. before_in E inside k;
+          free_or_locked = inr l;
+          free_when_finishing = (
             (λ f. absurd (omega (arith, f, l))),
-            (λ all. says .freeWhenFinishing .1 (all number least)),
+            (λ all. says.free_when_finishing.1 (all number least)),
           );
-          lockedWhenStuck = ((λ i. (number, least, says .lockedWhenStuck .0 l .0, says .lockedWhenStuck .0 l .1)), (λ s. l));
-          lockedRounds = λ i. h .rounds′;
-          lockedRace = λ i. says .lockedRace l;
-          lockedCount = λ i. says .lockedCount l;
-          lockedSteps = λ i. says .lockedSteps l;
-          fewest = λ i k a b ts s. let f = h .fewest′ k a b in let t = point k .lockedWhenStuck .1 (ts, s) in omega arith;
-          finishedLength = finished-all;
-          noneLonger = longer-none;
+          locked_when_stuck = ((λ i. (number, least, (says.locked_when_stuck.0 l).0, (says.locked_when_stuck.0 l).1)), (λ s. l));
+          locked_rounds = λ i. h.rounds';
+          locked_race = λ i. says.locked_race l;
+          locked_count = λ i. says.locked_count l;
+          locked_steps = λ i. says.locked_steps l;
+          fewest = λ i k a b ts s. let f = h.fewest' k a b in let t = (point k).locked_when_stuck.1 (ts, s) in omega arith;
+          finished_length = finished_all;
+          none_longer = longer_none;
         })
 
     -- Two rounds decide all.
-    pub rounds-judged : RoundsJudged E code (roundsVerdict E code .0) (numbersOf (roundsVerdict E code .1))
-    rounds-judged = told judged-rounds
+    pub rounds_judged : RoundsJudged E code (rounds_verdict E code).0 (numbers_of (rounds_verdict E code).1)
+    rounds_judged = told judged_rounds

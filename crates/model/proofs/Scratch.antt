@@ -1,51 +1,51 @@
 -- Request (d): every call looks at the scratch's length once, for refusal 2.
-use Prim.Native.Nat.{ℕ, _≤_}
-use mathlib.Core.Path.{_≡_, ap}
+use Prim.Native.Nat.{ℕ, ◌≤◌}
+use mathlib.Core.Path.{◌≡◌, ap}
 use mathlib.Core.List.{List}
 use borrow.Author.Tests.{le-ltb}
 use lib.ListN.{length}
-use Rattle·model·specs.specs.Limits.{scratchLeast}
-use Rattle·model·specs.specs.Answer.{acceptedOf, answerOf, traceAfter}
-use Rattle·model·specs.specs.Replay.{replayable, replayOf}
-use Rattle·model·specs.specs.Waits.{waitsOf}
-use Rattle·model·specs.specs.Choice.{choosable, choiceAnswerOf, traceChosen}
-use Rattle·model·specs.specs.Scratch.{SameOnAnyScratch}
+use Rattle.model.specs.Limits.{scratch_least}
+use Rattle.model.specs.Answer.{accepted_of, answer_of, trace_after}
+use Rattle.model.specs.Replay.{replayable, replay_of}
+use Rattle.model.specs.Waits.{waits_of}
+use Rattle.model.specs.Choice.{choosable, choice_answer_of, trace_chosen}
+use Rattle.model.specs.Scratch.{SameOnAnyScratch}
 
-module _ (text : List ℕ) (code m n : ℕ) (a : scratchLeast ≤ m) (b : scratchLeast ≤ n) where
-  same-accepted : (traceLength : ℕ) → acceptedOf text code m traceLength ≡ acceptedOf text code n traceLength
-  unfolding acceptedOf
-  same-accepted traceLength = rw (le-ltb m scratchLeast a, le-ltb n scratchLeast b)
+module _ (text : List ℕ) (code m n : ℕ) (a : scratch_least ≤ m) (b : scratch_least ≤ n) where
+  same_accepted : (trace_length : ℕ) → accepted_of text code m trace_length ≡ accepted_of text code n trace_length
+  unfolding accepted_of
+  same_accepted trace_length = rw (le-ltb m scratch_least a, le-ltb n scratch_least b)
 
-  same-answer : (traceLength : ℕ) → answerOf text code m traceLength ≡ answerOf text code n traceLength
-  unfolding answerOf
-  same-answer traceLength = rw (same-accepted traceLength)
+  same_answer : (trace_length : ℕ) → answer_of text code m trace_length ≡ answer_of text code n trace_length
+  unfolding answer_of
+  same_answer trace_length = rw (same_accepted trace_length)
 
-  same-replayable : (traceLength : ℕ) → replayable text code m traceLength ≡ replayable text code n traceLength
+  same_replayable : (trace_length : ℕ) → replayable text code m trace_length ≡ replayable text code n trace_length
   unfolding replayable
-  same-replayable traceLength = rw (le-ltb m scratchLeast a, le-ltb n scratchLeast b)
+  same_replayable trace_length = rw (le-ltb m scratch_least a, le-ltb n scratch_least b)
 
-  same-replay : (trace : List ℕ) → replayOf text code m trace ≡ replayOf text code n trace
-  unfolding replayOf
-  same-replay trace = rw (same-replayable (length trace))
+  same_replay : (trace : List ℕ) → replay_of text code m trace ≡ replay_of text code n trace
+  unfolding replay_of
+  same_replay trace = rw (same_replayable (length trace))
 
-  same-waits : (trace : List ℕ) → waitsOf text code m trace ≡ waitsOf text code n trace
-  unfolding waitsOf
-  same-waits trace = rw (same-replayable (length trace))
+  same_waits : (trace : List ℕ) → waits_of text code m trace ≡ waits_of text code n trace
+  unfolding waits_of
+  same_waits trace = rw (same_replayable (length trace))
 
-  same-choosable : (traceLength : ℕ) → choosable text code m traceLength ≡ choosable text code n traceLength
+  same_choosable : (trace_length : ℕ) → choosable text code m trace_length ≡ choosable text code n trace_length
   unfolding choosable
-  same-choosable traceLength = rw (le-ltb m scratchLeast a, le-ltb n scratchLeast b)
+  same_choosable trace_length = rw (le-ltb m scratch_least a, le-ltb n scratch_least b)
 
-  same-chosen : (traceLength : ℕ) → choiceAnswerOf text code m traceLength ≡ choiceAnswerOf text code n traceLength
-  unfolding choiceAnswerOf
-  same-chosen traceLength = rw (same-choosable traceLength)
+  same_chosen : (trace_length : ℕ) → choice_answer_of text code m trace_length ≡ choice_answer_of text code n trace_length
+  unfolding choice_answer_of
+  same_chosen trace_length = rw (same_choosable trace_length)
 
-pub same-on-any-scratch : SameOnAnyScratch
-same-on-any-scratch text code m n a b = record {
-  answer = same-answer text code m n a b;
-  traceLeft = λ trace. ap (λ answer. traceAfter answer trace) (same-answer text code m n a b (length trace));
-  replayed = same-replay text code m n a b;
-  waits = same-waits text code m n a b;
-  chosen = same-chosen text code m n a b;
-  chosenTraceLeft = λ trace. ap (λ answer. traceChosen answer trace) (same-chosen text code m n a b (length trace));
+pub same_on_any_scratch_holds : SameOnAnyScratch
+same_on_any_scratch_holds text code m n a b = record {
+  answer = same_answer text code m n a b;
+  trace_left = λ trace. ap (λ answer. trace_after answer trace) (same_answer text code m n a b (length trace));
+  replayed = same_replay text code m n a b;
+  waits = same_waits text code m n a b;
+  chosen = same_chosen text code m n a b;
+  chosen_trace_left = λ trace. ap (λ answer. trace_chosen answer trace) (same_chosen text code m n a b (length trace));
 }

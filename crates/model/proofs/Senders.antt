@@ -1,62 +1,62 @@
 -- The judgement of a table of permitted senders is the request's: sound exactly if each pair is in exactly one rule, else its lowest faulty
 -- pair, a gap in no rule, a clash with its first two rules. Assumes nothing.
-use Prim.Native.Nat.{ℕ, zero, suc, _+_, _-_, _<_, _≤_}
+use Prim.Native.Nat.{ℕ, zero, suc, ◌+◌, ◌-◌, ◌<◌, ◌≤◌}
 use native.Mathlib.Nat.{add-zero, zero-add}
 use native.Mathlib.Omega.{arith}
-use mathlib.Core.Path.{_≡_, refl, sym, _∙_, ap, subst, subst⁻¹}
-use mathlib.Core.Logic.{_↔_, ⊎-elim}
-use mathlib.Core.Bool.{Bool, true, false, not, cond, _&&_}
-use mathlib.Core.List.{List, [], _∷_}
+use mathlib.Core.Path.{◌≡◌, refl, sym, ◌∙◌, ap, subst, subst⁻¹}
+use mathlib.Core.Logic.{◌↔◌, ⊎_elim}
+use mathlib.Core.Bool.{Bool, true, false, not, cond, ◌&&◌}
+use mathlib.Core.List.{List, [], ◌∷◌}
 use mathlib.Core.Option.{Option, none, some}
 use borrow.Author.Tests.{eqb-true, eqb-false, eq-eqb, ltb-true, not-true, not-false}
 use lib.Dec.{eqb, leb, ltb}
-use lib.ListN.{length, getD, drop, length-drop}
-use lib.Seq.{getD-drop}
-use Rattle·model·specs.specs.Limits.{textMost, rulesMost, pairs}
-use Rattle·model·specs.specs.Bounded.{every, lowest}
-use Rattle·model·specs.specs.Refusal.{Out, ok, refusal, andThen, senderTableRefusal}
-use Rattle·model·specs.specs.Text.{Line, linesOf}
-use Rattle·model·specs.specs.Place.{lineOf}
-use Rattle·model·specs.specs.Answer.{Numbers}
-use Rattle·model·specs.specs.Senders.{Rule, isNamesLine, ruleOf, aheadOfRule, rulesFrom, rulesBehind, rulesOf, covers, rulesWith, isFaulty, Soundness, sound, gap, clash, malformed, faultOf, soundnessOf, judgedTable, tableAnswer, soundWord, gapWord, clashWord, tableRefusedWord, tableNumbers, noRule, isIn, InOne, NoneLower, Gap, Clash, TableJudged, soundBy, soundRules, soundTable, permits}
-use Rattle·model·proofs.proofs.Bounded.{not-both, apart, Found, lowest-found, every-at, every-from, not-is-true, which}
-use Rattle·model·proofs.proofs.Refusal.{not-refused}
+use lib.ListN.{length, get_or, drop, length-drop}
+use lib.Seq.{get_or-drop}
+use Rattle.model.specs.Limits.{text_most, rules_most, pairs}
+use Rattle.model.specs.Bounded.{lowest}
+use Rattle.model.specs.Refusal.{Out, ok, refusal, and_then, sender_table_refusal}
+use Rattle.model.specs.Text.{Line, lines_of}
+use Rattle.model.specs.Place.{line_of}
+use Rattle.model.specs.Answer.{Numbers}
+use Rattle.model.specs.Senders.{Rule, is_names_line, rule_of, ahead_of_rule, rules_from, rules_behind, rules_of, covers, rules_with, is_faulty, Soundness, sound, gap, clash, malformed, fault_of, soundness_of, judged_table, table_answer, sound_word, gap_word, clash_word, table_refused_word, table_numbers, no_rule, is_in, InOne, NoneLower, Gap, Clash, TableJudged, sound_by, sound_rules, sound_table, permits}
+use Rattle.model.proofs.Bounded.{not_both, apart, Found, lowest_found, which}
+use Rattle.model.proofs.Refusal.{not_refused}
 
 -- nothing is found below a bound where nothing there passes
-pub none-of : (n : ℕ) (p : ℕ → Bool) → ((k : ℕ) → k < n → p k ≡ false) → lowest n p ≡ none
-none-of n p h = go (lowest n p) (lowest-found n p)
+pub none_of : (n : ℕ) (p : ℕ → Bool) → ((k : ℕ) → k < n → p k ≡ false) → lowest n p ≡ none
+none_of n p h = go (lowest n p) (lowest_found n p)
   where
     go : (o : Option ℕ) → Found n p o → o ≡ none
     go none f = refl
-    go (some k) f = not-both (p k) (f .passes) (h k (f .below))
+    go (some k) f = not_both (p k) f.passes (h k f.below)
 
 -- The rules that a pair is in: none; or the first, and those among the rules behind it.
 abbrev First : ℕ → ℕ → List Rule → List ℕ → Type 0
 First pair i rs [] = Gap rs pair
 First pair i rs (a ∷ ks) =
-    (k : ℕ) × (a ≡ i + k) × (k < length rs) × isIn rs pair k × ((j : ℕ) → j < k → isIn rs pair j → ⊥) × (ks ≡ rulesWith pair (suc a) (drop (suc k) rs))
+    (k : ℕ) × (a ≡ i + k) × (k < length rs) × is_in rs pair k × ((j : ℕ) → j < k → is_in rs pair j → ⊥) × (ks ≡ rules_with pair (suc a) (drop (suc k) rs))
 
-first-behind : (pair i : ℕ) (r : Rule) (rs : List Rule) (ks : List ℕ) → covers r pair ≡ false → First pair (suc i) rs ks → First pair i (r ∷ rs) ks
-first-behind pair i r rs [] e f = λ k l h. at k l h
+first_behind : (pair i : ℕ) (r : Rule) (rs : List Rule) (ks : List ℕ) → covers r pair ≡ false → First pair (suc i) rs ks → First pair i (r ∷ rs) ks
+first_behind pair i r rs [] e f = λ k l h. at k l h
   where
-    at : (k : ℕ) → k < suc (length rs) → isIn (r ∷ rs) pair k → ⊥
-    at zero l h = not-both (covers r pair) h e
+    at : (k : ℕ) → k < suc (length rs) → is_in (r ∷ rs) pair k → ⊥
+    at zero l h = not_both (covers r pair) h e
     at (suc k) l h = f k (omega arith) h
-first-behind pair i r rs (a ∷ ks) e (k, p, l, h, before, rest) = (suc k, omega arith, omega arith, h, at, rest)
+first_behind pair i r rs (a ∷ ks) e (k, p, l, h, before, rest) = (suc k, omega arith, omega arith, h, at, rest)
   where
-    at : (j : ℕ) → j < suc k → isIn (r ∷ rs) pair j → ⊥
-    at zero m g = not-both (covers r pair) g e
+    at : (j : ℕ) → j < suc k → is_in (r ∷ rs) pair j → ⊥
+    at zero m g = not_both (covers r pair) g e
     at (suc j) m g = before j (omega arith) g
 
-first-with : (pair i : ℕ) (rs : List Rule) → First pair i rs (rulesWith pair i rs)
-unfolding rulesWith
-first-with pair i [] = λ k l h. omega arith
-first-with pair i (r ∷ rs) = go (covers r pair) refl (first-with pair (suc i) rs)
+first_with : (pair i : ℕ) (rs : List Rule) → First pair i rs (rules_with pair i rs)
+unfolding rules_with
+first_with pair i [] = λ k l h. omega arith
+first_with pair i (r ∷ rs) = go (covers r pair) refl (first_with pair (suc i) rs)
   where
-    go : (b : Bool) → covers r pair ≡ b → First pair (suc i) rs (rulesWith pair (suc i) rs)
-        → First pair i (r ∷ rs) (cond b (i ∷ rulesWith pair (suc i) rs) (rulesWith pair (suc i) rs))
+    go : (b : Bool) → covers r pair ≡ b → First pair (suc i) rs (rules_with pair (suc i) rs)
+        → First pair i (r ∷ rs) (cond b (i ∷ rules_with pair (suc i) rs) (rules_with pair (suc i) rs))
     go true e f = (0, sym (add-zero i), omega arith, e, λ j l h. omega arith, refl)
-    go false e f = first-behind pair i r rs (rulesWith pair (suc i) rs) e f
+    go false e f = first_behind pair i r rs (rules_with pair (suc i) rs) e f
 
 -- what the judgement of well-formed rules says of them
 abbrev Judged : List Rule → Soundness → Type 0
@@ -67,283 +67,283 @@ Judged rules (malformed number line) = ⊥
 
 module _ (rules : List Rule) (pair : ℕ) where
   abbrev found : List ℕ
-  found = rulesWith pair 0 rules
+  found = rules_with pair 0 rules
 
-  first-of : (ks : List ℕ) → found ≡ ks → First pair 0 rules ks
-  first-of ks e = subst (λ (l : List ℕ). First pair 0 rules l) e (first-with pair 0 rules)
+  first_of : (ks : List ℕ) → found ≡ ks → First pair 0 rules ks
+  first_of ks e = subst (λ (l : List ℕ). First pair 0 rules l) e (first_with pair 0 rules)
 
   -- the rules behind the first, as rules of the table
-  behind : (k j : ℕ) → isIn (drop k rules) pair j → isIn rules pair (k + j)
-  behind k j h = rw (← getD-drop k rules j noRule) h
+  behind : (k j : ℕ) → is_in (drop k rules) pair j → is_in rules pair (k + j)
+  behind k j h = rw (← get_or-drop k rules j no_rule) h
 
-  among-behind : (k j : ℕ) → k ≤ j → isIn rules pair j → isIn (drop k rules) pair (j - k)
-  among-behind k j l h = let e : k + (j - k) ≡ j = omega arith in rw (getD-drop k rules (j - k) noRule, e) h
+  among_behind : (k j : ℕ) → k ≤ j → is_in rules pair j → is_in (drop k rules) pair (j - k)
+  among_behind k j l h = let e : k + (j - k) ≡ j = omega arith in rw (get_or-drop k rules (j - k) no_rule, e) h
 
-  gap-of : found ≡ [] → Gap rules pair
-  gap-of e = first-of [] e
+  gap_of : found ≡ [] → Gap rules pair
+  gap_of e = first_of [] e
 
   -- one rule: none ahead of it, and none behind it
-  one-of : (a : ℕ) → found ≡ a ∷ [] → InOne rules pair
-  one-of a e = go (first-of (a ∷ []) e)
+  one_of : (a : ℕ) → found ≡ a ∷ [] → InOne rules pair
+  one_of a e = go (first_of (a ∷ []) e)
     where
       go : First pair 0 rules (a ∷ []) → InOne rules pair
       go (k, p, l, h, ahead, rest) =
           record {
             rule = k;
             there = l;
-            inIt = h;
-            alone = λ j m g. ⊎-elim (λ (q : j ≡ k). q)
-                (⊎-elim (λ (q : j < k). absurd (ahead j q g)) (λ (q : k < j). absurd (later j q m g))) (apart j k);
+            in_it = h;
+            alone = λ j m g. ⊎_elim (λ (q : j ≡ k). q)
+                (⊎_elim (λ (q : j < k). absurd (ahead j q g)) (λ (q : k < j). absurd (later j q m g))) (apart j k);
           }
         where
           after : Gap (drop (suc k) rules) pair
-          after = subst (λ (l′ : List ℕ). First pair (suc a) (drop (suc k) rules) l′) (sym rest) (first-with pair (suc a) (drop (suc k) rules))
+          after = subst (λ (l' : List ℕ). First pair (suc a) (drop (suc k) rules) l') (sym rest) (first_with pair (suc a) (drop (suc k) rules))
 
-          later : (j : ℕ) → k < j → j < length rules → isIn rules pair j → ⊥
-          later j q m g = after (j - suc k) (simp length-drop (omega arith)) (among-behind (suc k) j q g)
+          later : (j : ℕ) → k < j → j < length rules → is_in rules pair j → ⊥
+          later j q m g = after (j - suc k) (simp length-drop (omega arith)) (among_behind (suc k) j q g)
 
   -- two rules: the first two
-  two-of : (a b : ℕ) (ks : List ℕ) → found ≡ a ∷ b ∷ ks → Clash rules pair (lineOf a) (lineOf b)
-  two-of a b ks e = go (first-of (a ∷ b ∷ ks) e)
+  two_of : (a b : ℕ) (ks : List ℕ) → found ≡ a ∷ b ∷ ks → Clash rules pair (line_of a) (line_of b)
+  two_of a b ks e = go (first_of (a ∷ b ∷ ks) e)
     where
-      second : (k : ℕ) → a ≡ 0 + k → isIn rules pair k → ((j : ℕ) → j < k → isIn rules pair j → ⊥) → First pair (suc a) (drop (suc k) rules) (b ∷ ks)
-          → Clash rules pair (lineOf a) (lineOf b)
-      second k p h ahead (n, p′, l′, h′, ahead′, rest) =
-          let e′ : suc k + n ≡ b = omega arith in
+      second : (k : ℕ) → a ≡ 0 + k → is_in rules pair k → ((j : ℕ) → j < k → is_in rules pair j → ⊥) → First pair (suc a) (drop (suc k) rules) (b ∷ ks)
+          → Clash rules pair (line_of a) (line_of b)
+      second k p h ahead (n, p', l', h', ahead', rest) =
+          let e' : suc k + n ≡ b = omega arith in
           record {
             first = a;
             second = b;
             lines = (refl, refl);
-            inOrder = (omega arith, omega (arith, length-drop (suc k) rules));
-            inBoth = (rw (p, zero-add k) h, rw (← e′) (behind (suc k) n h′));
-            firstTwo = λ j m g. ⊎-elim (λ (q : j ≡ k). omega arith)
-                (⊎-elim (λ (q : j < k). absurd (ahead j q g)) (λ (q : k < j). absurd (ahead′ (j - suc k) (omega arith) (among-behind (suc k) j q g)))) (apart j k);
+            in_order = (omega arith, omega (arith, length-drop (suc k) rules));
+            in_both = (rw (p, zero-add k) h, rw (← e') (behind (suc k) n h'));
+            first_two = λ j m g. ⊎_elim (λ (q : j ≡ k). omega arith)
+                (⊎_elim (λ (q : j < k). absurd (ahead j q g)) (λ (q : k < j). absurd (ahead' (j - suc k) (omega arith) (among_behind (suc k) j q g)))) (apart j k);
           }
 
-      go : First pair 0 rules (a ∷ b ∷ ks) → Clash rules pair (lineOf a) (lineOf b)
+      go : First pair 0 rules (a ∷ b ∷ ks) → Clash rules pair (line_of a) (line_of b)
       go (k, p, l, h, ahead, rest) =
           second k p h ahead
-          (subst (λ (l′ : List ℕ). First pair (suc a) (drop (suc k) rules) l′) (sym rest) (first-with pair (suc a) (drop (suc k) rules)))
+          (subst (λ (l' : List ℕ). First pair (suc a) (drop (suc k) rules) l') (sym rest) (first_with pair (suc a) (drop (suc k) rules)))
 
   -- a pair in exactly one rule is neither a gap nor a clash
-  not-gap : InOne rules pair → Gap rules pair → ⊥
-  not-gap o g = g (o .rule) (o .there) (o .inIt)
+  not_gap : InOne rules pair → Gap rules pair → ⊥
+  not_gap o g = g o.rule o.there o.in_it
 
-  not-clash : (a b : ℕ) → InOne rules pair → Clash rules pair a b → ⊥
-  not-clash a b o c =
-      let p : c .first ≡ o .rule = o .alone (c .first) (omega (arith, c .inOrder)) (c .inBoth .0) in
-      let q : c .second ≡ o .rule = o .alone (c .second) (c .inOrder .1) (c .inBoth .1) in
-      omega (arith, c .inOrder .0)
+  not_clash : (a b : ℕ) → InOne rules pair → Clash rules pair a b → ⊥
+  not_clash a b o c =
+      let p : c.first ≡ o.rule = o.alone c.first (omega (arith, c.in_order)) c.in_both.0 in
+      let q : c.second ≡ o.rule = o.alone c.second c.in_order.1 c.in_both.1 in
+      omega (arith, c.in_order.0)
 
   -- a pair is faulty exactly if it is not in exactly one rule
-  faultless : isFaulty rules pair ≡ false → InOne rules pair
-  unfolding isFaulty
+  faultless : is_faulty rules pair ≡ false → InOne rules pair
+  unfolding is_faulty
   faultless h = go found refl (eqb-true (length found) 1 (not-false (eqb (length found) 1) h))
     where
       go : (ks : List ℕ) → found ≡ ks → length ks ≡ 1 → InOne rules pair
       go [] e l = absurd (omega arith)
-      go (a ∷ []) e l = one-of a e
+      go (a ∷ []) e l = one_of a e
       go (a ∷ b ∷ ks) e l = absurd (omega arith)
 
-  fault-judged : NoneLower rules pair → isFaulty rules pair ≡ true → Judged rules (faultOf pair found)
-  unfolding isFaulty faultOf
-  fault-judged n h = go found refl (eqb-false (length found) 1 (not-true (eqb (length found) 1) h))
+  fault_judged : NoneLower rules pair → is_faulty rules pair ≡ true → Judged rules (fault_of pair found)
+  unfolding is_faulty fault_of
+  fault_judged n h = go found refl (eqb-false (length found) 1 (not-true (eqb (length found) 1) h))
     where
-      go : (ks : List ℕ) → found ≡ ks → (length ks ≡ 1 → ⊥) → Judged rules (faultOf pair ks)
-      go [] e l = (n, gap-of e)
+      go : (ks : List ℕ) → found ≡ ks → (length ks ≡ 1 → ⊥) → Judged rules (fault_of pair ks)
+      go [] e l = (n, gap_of e)
       go (a ∷ []) e l = absurd (l refl)
-      go (a ∷ b ∷ ks) e l = (n, two-of a b ks e)
+      go (a ∷ b ∷ ks) e l = (n, two_of a b ks e)
 
-judged : (rules : List Rule) → Judged rules (soundnessOf rules)
-unfolding soundnessOf
-judged rules = go (lowest pairs (isFaulty rules)) (lowest-found pairs (isFaulty rules))
+judged : (rules : List Rule) → Judged rules (soundness_of rules)
+unfolding soundness_of
+judged rules = go (lowest pairs (is_faulty rules)) (lowest_found pairs (is_faulty rules))
   where
-    go : (o : Option ℕ) → Found pairs (isFaulty rules) o
-        → Judged rules (elim o [ none ↦ sound | some pair ↦ faultOf pair (rulesWith pair 0 rules) ])
+    go : (o : Option ℕ) → Found pairs (is_faulty rules) o
+        → Judged rules (elim o [ none ↦ sound | some pair ↦ fault_of pair (rules_with pair 0 rules) ])
     go none f = λ q l. faultless rules q (f q l)
-    go (some pair) f = fault-judged rules pair (f .below, λ q l. faultless rules q (f .first q l)) (f .passes)
+    go (some pair) f = fault_judged rules pair (f.below, λ q l. faultless rules q (f.first q l)) f.passes
 
 -- What reading hands on: at most 64 rules, or 18 and a line, at most that of rule 65.
 abbrev Read : ℕ → Out (List Rule) → Type 0
-Read i (ok rules) = i + length rules ≤ rulesMost
-Read i (refusal number line) = (number ≡ senderTableRefusal) × (line ≤ lineOf rulesMost)
+Read i (ok rules) = i + length rules ≤ rules_most
+Read i (refusal number line) = (number ≡ sender_table_refusal) × (line ≤ line_of rules_most)
 
-read-ahead : (i : ℕ) (r : Rule) (o : Out (List Rule)) → Read (suc i) o → Read i (aheadOfRule r o)
-unfolding aheadOfRule
-read-ahead i r (ok rs) h = omega arith
-read-ahead i r (refusal number line) h = h
+read_ahead : (i : ℕ) (r : Rule) (o : Out (List Rule)) → Read (suc i) o → Read i (ahead_of_rule r o)
+unfolding ahead_of_rule
+read_ahead i r (ok rs) h = omega arith
+read_ahead i r (refusal number line) h = h
 
-read-cond : (i : ℕ) (t : Bool) (o p : Out (List Rule)) → Read i o → Read i p → Read i (cond t o p)
-read-cond i true o p h k = h
-read-cond i false o p h k = k
+read_cond : (i : ℕ) (t : Bool) (o p : Out (List Rule)) → Read i o → Read i p → Read i (cond t o p)
+read_cond i true o p h k = h
+read_cond i false o p h k = k
 
-read-from : (i : ℕ) (ls : List Line) → i ≤ rulesMost → Read i (rulesFrom i ls)
-unfolding rulesFrom
-read-from i [] h = omega arith
-read-from i (l ∷ ls) h = room (ltb i rulesMost) refl (λ u. read-from (suc i) ls u)
+read_from : (i : ℕ) (ls : List Line) → i ≤ rules_most → Read i (rules_from i ls)
+unfolding rules_from
+read_from i [] h = omega arith
+read_from i (l ∷ ls) h = room (ltb i rules_most) refl (λ u. read_from (suc i) ls u)
   where
-    form : i < rulesMost → (o : Option Rule) → Read (suc i) (rulesFrom (suc i) ls)
-        → Read i (elim o [ none ↦ refusal senderTableRefusal (lineOf i) | some r ↦ aheadOfRule r (rulesFrom (suc i) ls) ])
+    form : i < rules_most → (o : Option Rule) → Read (suc i) (rules_from (suc i) ls)
+        → Read i (elim o [ none ↦ refusal sender_table_refusal (line_of i) | some r ↦ ahead_of_rule r (rules_from (suc i) ls) ])
     form u none w = (refl, omega arith)
-    form u (some r) w = read-ahead i r (rulesFrom (suc i) ls) w
+    form u (some r) w = read_ahead i r (rules_from (suc i) ls) w
 
-    room : (b : Bool) → ltb i rulesMost ≡ b → (suc i ≤ rulesMost → Read (suc i) (rulesFrom (suc i) ls))
-        → Read i (elim (cond b (ruleOf l) none) [ none ↦ refusal senderTableRefusal (lineOf i) | some r ↦ aheadOfRule r (rulesFrom (suc i) ls) ])
-    room true e later = form (ltb-true i rulesMost e) (ruleOf l) (later (ltb-true i rulesMost e))
+    room : (b : Bool) → ltb i rules_most ≡ b → (suc i ≤ rules_most → Read (suc i) (rules_from (suc i) ls))
+        → Read i (elim (cond b (rule_of l) none) [ none ↦ refusal sender_table_refusal (line_of i) | some r ↦ ahead_of_rule r (rules_from (suc i) ls) ])
+    room true e later = form (ltb-true i rules_most e) (rule_of l) (later (ltb-true i rules_most e))
     room false e later = (refl, omega arith)
 
-read-table : (table : List ℕ) → Read 0 (rulesOf table)
-unfolding rulesOf rulesBehind
-read-table table =
-    read-cond 0 (ltb 0 (length table) && leb (length table) textMost) (rulesBehind (linesOf table)) (refusal senderTableRefusal 0) (go (linesOf table))
+read_table : (table : List ℕ) → Read 0 (rules_of table)
+unfolding rules_of rules_behind
+read_table table =
+    read_cond 0 (ltb 0 (length table) && leb (length table) text_most) (rules_behind (lines_of table)) (refusal sender_table_refusal 0) (go (lines_of table))
     (refl, omega arith)
   where
-    go : (ls : List Line) → Read 0 (rulesBehind ls)
+    go : (ls : List Line) → Read 0 (rules_behind ls)
     go [] = (refl, omega arith)
-    go (h ∷ ls) = read-cond 0 (isNamesLine h) (rulesFrom 0 ls) (refusal senderTableRefusal 1) (read-from 0 ls (omega arith)) (refl, omega arith)
+    go (h ∷ ls) = read_cond 0 (is_names_line h) (rules_from 0 ls) (refusal sender_table_refusal 1) (read_from 0 ls (omega arith)) (refl, omega arith)
 
 -- What the numbers of an answer say, by the rules read, or the refusal, and their judgement.
 abbrev Answered : Out (List Rule) → Soundness → Type 0
 Answered (ok rules) s = Judged rules s
-Answered (refusal number line) s = (number ≡ senderTableRefusal) × (s ≡ malformed number line)
+Answered (refusal number line) s = (number ≡ sender_table_refusal) × (s ≡ malformed number line)
 
 abbrev AllOnce : List Rule → Type 0
 AllOnce rules = (pair : ℕ) → pair < pairs → InOne rules pair
 
-same-rules : (C : List Rule → Type 0) (rules ks : List Rule) → ok rules ≡ ok ks → C rules → C ks
-same-rules C rules ks e h = let d : rules ≡ ks = cc in subst C d h
+same_rules : (C : List Rule → Type 0) (rules ks : List Rule) → ok rules ≡ ok ks → C rules → C ks
+same_rules C rules ks e h = let d : rules ≡ ks = cc in subst C d h
 
-sound-when : (o : Out (List Rule)) (s : Soundness) → Answered o s → ((tableNumbers s) .word ≡ soundWord) ↔ ((rules : List Rule) × (o ≡ ok rules) × AllOnce rules)
-sound-when (ok rules) sound h = (λ w. (rules, refl, h), λ w. refl)
-sound-when (ok rules) (gap q) h =
-    (λ w. absurd (omega arith), λ (ks, e, all). absurd (not-gap ks q (all q (h .0 .0)) (same-rules (λ rs. Gap rs q) rules ks e (h .1))))
-sound-when (ok rules) (clash q a b) h = (λ w. absurd (omega arith), λ (ks, e, all). absurd (not-clash ks q a b (all q (h .0 .0)) (same-rules (λ rs. Clash rs q a b) rules ks e (h .1))))
-sound-when (ok rules) (malformed number line) h = absurd h
-sound-when (refusal number line) s (p, q) = rw q (λ w. absurd (omega arith), λ (ks, e, all). not-refused e)
+sound_when_holds : (o : Out (List Rule)) (s : Soundness) → Answered o s → ((table_numbers s).word ≡ sound_word) ↔ ((rules : List Rule) × (o ≡ ok rules) × AllOnce rules)
+sound_when_holds (ok rules) sound h = (λ w. (rules, refl, h), λ w. refl)
+sound_when_holds (ok rules) (gap q) h =
+    (λ w. absurd (omega arith), λ (ks, e, all). absurd (not_gap ks q (all q h.0.0) (same_rules (λ rs. Gap rs q) rules ks e h.1)))
+sound_when_holds (ok rules) (clash q a b) h = (λ w. absurd (omega arith), λ (ks, e, all). absurd (not_clash ks q a b (all q h.0.0) (same_rules (λ rs. Clash rs q a b) rules ks e h.1)))
+sound_when_holds (ok rules) (malformed number line) h = absurd h
+sound_when_holds (refusal number line) s (p, q) = rw q (λ w. absurd (omega arith), λ (ks, e, all). not_refused e)
 
-gap-named : (o : Out (List Rule)) (s : Soundness) → Answered o s → (rules : List Rule) → o ≡ ok rules → (tableNumbers s) .word ≡ gapWord
-    → NoneLower rules ((tableNumbers s) .one) × Gap rules ((tableNumbers s) .one)
-gap-named (ok rules) sound h ks e w = absurd (omega arith)
-gap-named (ok rules) (gap q) h ks e w = same-rules (λ rs. NoneLower rs q × Gap rs q) rules ks e h
-gap-named (ok rules) (clash q a b) h ks e w = absurd (omega arith)
-gap-named (ok rules) (malformed number line) h ks e w = absurd h
-gap-named (refusal number line) s h ks e w = not-refused e
+gap_named_holds : (o : Out (List Rule)) (s : Soundness) → Answered o s → (rules : List Rule) → o ≡ ok rules → (table_numbers s).word ≡ gap_word
+    → NoneLower rules (table_numbers s).one × Gap rules (table_numbers s).one
+gap_named_holds (ok rules) sound h ks e w = absurd (omega arith)
+gap_named_holds (ok rules) (gap q) h ks e w = same_rules (λ rs. NoneLower rs q × Gap rs q) rules ks e h
+gap_named_holds (ok rules) (clash q a b) h ks e w = absurd (omega arith)
+gap_named_holds (ok rules) (malformed number line) h ks e w = absurd h
+gap_named_holds (refusal number line) s h ks e w = not_refused e
 
-clash-named : (o : Out (List Rule)) (s : Soundness) → Answered o s → (rules : List Rule) → o ≡ ok rules → (tableNumbers s) .word ≡ clashWord
-    → NoneLower rules ((tableNumbers s) .one) × Clash rules ((tableNumbers s) .one) ((tableNumbers s) .two) ((tableNumbers s) .three)
-clash-named (ok rules) sound h ks e w = absurd (omega arith)
-clash-named (ok rules) (gap q) h ks e w = absurd (omega arith)
-clash-named (ok rules) (clash q a b) h ks e w = same-rules (λ rs. NoneLower rs q × Clash rs q a b) rules ks e h
-clash-named (ok rules) (malformed number line) h ks e w = absurd h
-clash-named (refusal number line) s h ks e w = not-refused e
+clash_named_holds : (o : Out (List Rule)) (s : Soundness) → Answered o s → (rules : List Rule) → o ≡ ok rules → (table_numbers s).word ≡ clash_word
+    → NoneLower rules (table_numbers s).one × Clash rules (table_numbers s).one (table_numbers s).two (table_numbers s).three
+clash_named_holds (ok rules) sound h ks e w = absurd (omega arith)
+clash_named_holds (ok rules) (gap q) h ks e w = absurd (omega arith)
+clash_named_holds (ok rules) (clash q a b) h ks e w = same_rules (λ rs. NoneLower rs q × Clash rs q a b) rules ks e h
+clash_named_holds (ok rules) (malformed number line) h ks e w = absurd h
+clash_named_holds (refusal number line) s h ks e w = not_refused e
 
-refused-when : (o : Out (List Rule)) (s : Soundness) → Answered o s
-    → ((tableNumbers s) .word ≡ tableRefusedWord) ↔ (o ≡ refusal senderTableRefusal ((tableNumbers s) .two))
-refused-when (ok rules) sound h = (λ w. absurd (omega arith), λ e. absurd (not-refused (sym e)))
-refused-when (ok rules) (gap q) h = (λ w. absurd (omega arith), λ e. absurd (not-refused (sym e)))
-refused-when (ok rules) (clash q a b) h = (λ w. absurd (omega arith), λ e. absurd (not-refused (sym e)))
-refused-when (ok rules) (malformed number line) h = absurd h
-refused-when (refusal number line) s (p, q) = rw (q, p) (λ w. refl, λ e. refl)
+refused_when_holds : (o : Out (List Rule)) (s : Soundness) → Answered o s
+    → ((table_numbers s).word ≡ table_refused_word) ↔ (o ≡ refusal sender_table_refusal (table_numbers s).two)
+refused_when_holds (ok rules) sound h = (λ w. absurd (omega arith), λ e. absurd (not_refused (sym e)))
+refused_when_holds (ok rules) (gap q) h = (λ w. absurd (omega arith), λ e. absurd (not_refused (sym e)))
+refused_when_holds (ok rules) (clash q a b) h = (λ w. absurd (omega arith), λ e. absurd (not_refused (sym e)))
+refused_when_holds (ok rules) (malformed number line) h = absurd h
+refused_when_holds (refusal number line) s (p, q) = rw (q, p) (λ w. refl, λ e. refl)
 
 module _ (table : List ℕ) where
-  answered : Answered (rulesOf table) (tableAnswer table)
-  unfolding tableAnswer judgedTable
-  answered = go (rulesOf table) (read-table table)
+  answered : Answered (rules_of table) (table_answer table)
+  unfolding table_answer judged_table
+  answered = go (rules_of table) (read_table table)
     where
-      go : (o : Out (List Rule)) → Read 0 o → Answered o (judgedTable o)
+      go : (o : Out (List Rule)) → Read 0 o → Answered o (judged_table o)
       go (ok rules) h = judged rules
-      go (refusal number line) h = (h .0, refl)
+      go (refusal number line) h = (h.0, refl)
 
   -- the numbers behind the word: a pair or 18, and lines of the table, at most that of rule 65
-  pub table-within : ((tableNumbers (tableAnswer table)) .one < pairs) × ((tableNumbers (tableAnswer table)) .two ≤ lineOf rulesMost)
-      × ((tableNumbers (tableAnswer table)) .three ≤ lineOf rulesMost)
-  table-within = go (rulesOf table) (tableAnswer table) (read-table table) answered
+  pub table_within : ((table_numbers (table_answer table)).one < pairs) × ((table_numbers (table_answer table)).two ≤ line_of rules_most)
+      × ((table_numbers (table_answer table)).three ≤ line_of rules_most)
+  table_within = go (rules_of table) (table_answer table) (read_table table) answered
     where
       go : (o : Out (List Rule)) (s : Soundness) → Read 0 o → Answered o s
-          → ((tableNumbers s) .one < pairs) × ((tableNumbers s) .two ≤ lineOf rulesMost) × ((tableNumbers s) .three ≤ lineOf rulesMost)
+          → ((table_numbers s).one < pairs) × ((table_numbers s).two ≤ line_of rules_most) × ((table_numbers s).three ≤ line_of rules_most)
       go (ok rules) sound h a = (omega arith, omega arith, omega arith)
-      go (ok rules) (gap q) h a = (a .0 .0, omega arith, omega arith)
-      go (ok rules) (clash q i j) h a = (a .0 .0, omega (arith, a .1 .lines, a .1 .inOrder), omega (arith, a .1 .lines, a .1 .inOrder))
+      go (ok rules) (gap q) h a = (a.0.0, omega arith, omega arith)
+      go (ok rules) (clash q i j) h a = (a.0.0, omega (arith, a.1.lines, a.1.in_order), omega (arith, a.1.lines, a.1.in_order))
       go (ok rules) (malformed number line) h a = absurd a
-      go (refusal number line) s h a = rw (a .1) (omega (arith, a .0), h .1, omega arith)
+      go (refusal number line) s h a = rw a.1 (omega (arith, a.0), h.1, omega arith)
 
-  pub table-judged : (r : Numbers) → r ≡ tableNumbers (tableAnswer table) → TableJudged table r
-  table-judged r e =
+  pub table_judged : (r : Numbers) → r ≡ table_numbers (table_answer table) → TableJudged table r
+  table_judged r e =
       subst (λ (n : Numbers). TableJudged table n) (sym e)
       (record {
         answer = refl;
-        soundWhen = sound-when (rulesOf table) (tableAnswer table) answered;
-        gapNamed = gap-named (rulesOf table) (tableAnswer table) answered;
-        clashNamed = clash-named (rulesOf table) (tableAnswer table) answered;
-        refusedWhen = refused-when (rulesOf table) (tableAnswer table) answered;
+        sound_when = sound_when_holds (rules_of table) (table_answer table) answered;
+        gap_named = gap_named_holds (rules_of table) (table_answer table) answered;
+        clash_named = clash_named_holds (rules_of table) (table_answer table) answered;
+        refused_when = refused_when_holds (rules_of table) (table_answer table) answered;
       })
 
 -- The check with a table and the judgement of a table agree: its rules, or 18 without a line, as the judgement is sound or not.
 abbrev pub Agrees : List Rule → Soundness → Type 0
-Agrees rules sound = soundRules rules ≡ ok rules
-Agrees rules (gap q) = soundRules rules ≡ refusal senderTableRefusal 0
-Agrees rules (clash q a b) = soundRules rules ≡ refusal senderTableRefusal 0
+Agrees rules sound = sound_rules rules ≡ ok rules
+Agrees rules (gap q) = sound_rules rules ≡ refusal sender_table_refusal 0
+Agrees rules (clash q a b) = sound_rules rules ≡ refusal sender_table_refusal 0
 Agrees rules (malformed number line) = ⊥
 
-pub agrees : (rules : List Rule) → Agrees rules (soundnessOf rules)
-unfolding soundRules soundBy
-agrees rules = go (soundnessOf rules) refl (judged rules)
+pub agrees : (rules : List Rule) → Agrees rules (soundness_of rules)
+unfolding sound_rules sound_by
+agrees rules = go (soundness_of rules) refl (judged rules)
   where
-    go : (s : Soundness) → soundnessOf rules ≡ s → Judged rules s → Agrees rules s
+    go : (s : Soundness) → soundness_of rules ≡ s → Judged rules s → Agrees rules s
     go sound e h = rw e
     go (gap q) e h = rw e
     go (clash q a b) e h = rw e
     go (malformed number line) e h = absurd h
 
 -- A table is sound exactly if each pair is in exactly one of its rules.
-sound-rules : (rules ks : List Rule) → (soundRules rules ≡ ok ks) ↔ ((rules ≡ ks) × ((pair : ℕ) → pair < pairs → InOne ks pair))
-unfolding soundRules soundBy
-sound-rules rules ks = go (soundnessOf rules) refl (judged rules)
+sound_rules_holds : (rules ks : List Rule) → (sound_rules rules ≡ ok ks) ↔ ((rules ≡ ks) × ((pair : ℕ) → pair < pairs → InOne ks pair))
+unfolding sound_rules sound_by
+sound_rules_holds rules ks = go (soundness_of rules) refl (judged rules)
   where
-    gap-unsound : {q : ℕ} → Gap rules q → InOne rules q → ⊥
-    gap-unsound g o = g (o .rule) (o .there) (o .inIt)
+    gap_unsound : {q : ℕ} → Gap rules q → InOne rules q → ⊥
+    gap_unsound g o = g o.rule o.there o.in_it
 
-    clash-unsound : {q a b : ℕ} → Clash rules q a b → InOne rules q → ⊥
-    clash-unsound c o =
-        let one : c .first ≡ o .rule = o .alone (c .first) (omega (arith, c .inOrder)) (c .inBoth .0) in
-        let two : c .second ≡ o .rule = o .alone (c .second) (c .inOrder .1) (c .inBoth .1) in
-        omega (arith, c .inOrder)
+    clash_unsound : {q a b : ℕ} → Clash rules q a b → InOne rules q → ⊥
+    clash_unsound c o =
+        let one : c.first ≡ o.rule = o.alone c.first (omega (arith, c.in_order)) c.in_both.0 in
+        let two : c.second ≡ o.rule = o.alone c.second c.in_order.1 c.in_both.1 in
+        omega (arith, c.in_order)
 
-    go : (s : Soundness) → soundnessOf rules ≡ s → Judged rules s
-        → (soundBy s rules ≡ ok ks) ↔ ((rules ≡ ks) × ((pair : ℕ) → pair < pairs → InOne ks pair))
-    go sound e h = ((λ i. let same : rules ≡ ks = cc in (same, subst (λ rs. (pair : ℕ) → pair < pairs → InOne rs pair) same h)), (λ p. ap ok (p .0)))
-    go (gap q) e h = ((λ i. not-refused i), (λ p. absurd (gap-unsound (h .1) (subst⁻¹ (λ rs. InOne rs q) (p .0) (p .1 q (h .0 .0))))))
-    go (clash q a b) e h = ((λ i. not-refused i), (λ p. absurd (clash-unsound (h .1) (subst⁻¹ (λ rs. InOne rs q) (p .0) (p .1 q (h .0 .0))))))
+    go : (s : Soundness) → soundness_of rules ≡ s → Judged rules s
+        → (sound_by s rules ≡ ok ks) ↔ ((rules ≡ ks) × ((pair : ℕ) → pair < pairs → InOne ks pair))
+    go sound e h = ((λ i. let same : rules ≡ ks = cc in (same, subst (λ rs. (pair : ℕ) → pair < pairs → InOne rs pair) same h)), (λ p. ap ok p.0))
+    go (gap q) e h = ((λ i. not_refused i), (λ p. absurd (gap_unsound h.1 (subst⁻¹ (λ rs. InOne rs q) p.0 (p.1 q h.0.0)))))
+    go (clash q a b) e h = ((λ i. not_refused i), (λ p. absurd (clash_unsound h.1 (subst⁻¹ (λ rs. InOne rs q) p.0 (p.1 q h.0.0)))))
     go (malformed number line) e h = absurd h
 
-pub sound-table : (table : List ℕ) (ks : List Rule) → (soundTable table ≡ ok ks) ↔ ((rulesOf table ≡ ok ks) × ((pair : ℕ) → pair < pairs → InOne ks pair))
-unfolding soundTable andThen
-sound-table table ks = go (rulesOf table)
+pub sound_table_holds : (table : List ℕ) (ks : List Rule) → (sound_table table ≡ ok ks) ↔ ((rules_of table ≡ ok ks) × ((pair : ℕ) → pair < pairs → InOne ks pair))
+unfolding sound_table and_then
+sound_table_holds table ks = go (rules_of table)
   where
-    go : (o : Out (List Rule)) → (andThen o soundRules ≡ ok ks) ↔ ((o ≡ ok ks) × ((pair : ℕ) → pair < pairs → InOne ks pair))
-    go (ok rules) = ((λ i. let p = sound-rules rules ks .0 i in (ap ok (p .0), p .1)), (λ p. sound-rules rules ks .1 (cc (p .0), p .1)))
-    go (refusal number line) = ((λ i. not-refused i), (λ p. not-refused (p .0)))
+    go : (o : Out (List Rule)) → (and_then o sound_rules ≡ ok ks) ↔ ((o ≡ ok ks) × ((pair : ℕ) → pair < pairs → InOne ks pair))
+    go (ok rules) = ((λ i. let p = (sound_rules_holds rules ks).0 i in (ap ok p.0, p.1)), (λ p. (sound_rules_holds rules ks).1 (cc p.0, p.1)))
+    go (refusal number line) = ((λ i. not_refused i), (λ p. not_refused p.0))
 
 -- In a sound table a pair is permitted as the one rule says that it is in.
-permits-first : (rs : List Rule) (pair k : ℕ) → k < length rs → isIn rs pair k → ((j : ℕ) → j < k → isIn rs pair j → ⊥)
-    → permits rs pair ≡ eqb ((getD rs k noRule) .verdict) 1
+permits_first : (rs : List Rule) (pair k : ℕ) → k < length rs → is_in rs pair k → ((j : ℕ) → j < k → is_in rs pair j → ⊥)
+    → permits rs pair ≡ eqb (get_or rs k no_rule).verdict 1
 unfolding permits
-permits-first [] pair k l h before = absurd (omega arith)
-permits-first (r ∷ rs) pair zero l h before = rw h
-permits-first (r ∷ rs) pair (suc k) l h before =
-    let e : covers r pair ≡ false = ⊎-elim (λ (t : covers r pair ≡ true). absurd (before 0 (omega arith) t)) (λ f. f) (which (covers r pair)) in
-    rw e (permits-first rs pair k (omega arith) h (λ j m g. before (suc j) (omega arith) g))
+permits_first [] pair k l h before = absurd (omega arith)
+permits_first (r ∷ rs) pair zero l h before = rw h
+permits_first (r ∷ rs) pair (suc k) l h before =
+    let e : covers r pair ≡ false = ⊎_elim (λ (t : covers r pair ≡ true). absurd (before 0 (omega arith) t)) (λ f. f) (which (covers r pair)) in
+    rw e (permits_first rs pair k (omega arith) h (λ j m g. before (suc j) (omega arith) g))
 
-pub permits-rule : (rules : List Rule) (pair : ℕ) (o : InOne rules pair) → permits rules pair ≡ eqb ((getD rules (o .rule) noRule) .verdict) 1
-permits-rule rules pair o =
-    permits-first rules pair (o .rule) (o .there) (o .inIt) (λ j l g. let e : j ≡ o .rule = o .alone j (omega (arith, o .there)) g in omega arith)
+pub permits_rule : (rules : List Rule) (pair : ℕ) (o : InOne rules pair) → permits rules pair ≡ eqb (get_or rules o.rule no_rule).verdict 1
+permits_rule rules pair o =
+    permits_first rules pair o.rule o.there o.in_it (λ j l g. let e : j ≡ o.rule = o.alone j (omega (arith, o.there)) g in omega arith)
 
 -- and it is not forbidden exactly if that rule says 1
-pub forbidden-by : (rules : List Rule) (pair : ℕ) (o : InOne rules pair)
-    → (not (permits rules pair) ≡ false) ↔ ((getD rules (o .rule) noRule) .verdict ≡ 1)
-forbidden-by rules pair o =
-    let e = permits-rule rules pair o in
-    let v = (getD rules (o .rule) noRule) .verdict in (
+pub forbidden_by : (rules : List Rule) (pair : ℕ) (o : InOne rules pair)
+    → (not (permits rules pair) ≡ false) ↔ ((get_or rules o.rule no_rule).verdict ≡ 1)
+forbidden_by rules pair o =
+    let e = permits_rule rules pair o in
+    let v = (get_or rules o.rule no_rule).verdict in (
       (λ f. eqb-true v 1 (sym e ∙ not-false (permits rules pair) f)),
       (λ i. ap not (e ∙ eq-eqb v 1 i)),
     )

@@ -1,41 +1,41 @@
 -- The cured sheet is read and walked: its rows are placed, no block of it has a circle, and the walk meets the messages and the P rows
 -- that were written. Assumes nothing.
-use Prim.Native.Nat.{ℕ, zero, suc, _+_, _*_, _/_, _<_, _≤_}
+use Prim.Native.Nat.{ℕ, zero, suc, ◌+◌, ◌*◌, ◌/◌, ◌<◌, ◌≤◌}
 use Prim.Native.Char.{code}
 use native.Mathlib.Nat.{zero-add}
-use native.Mathlib.Decide.{ℕ-discrete}
+use native.Mathlib.Decide.{ℕ_discrete}
 use native.Mathlib.Omega.{arith}
-use mathlib.Core.Path.{_≡_, refl, sym, _∙_, ap, subst, subst⁻¹}
-use mathlib.Core.Logic.{⊎-elim, _↔_}
-use mathlib.Core.Bool.{Bool, true, false, cond, _&&_, _||_}
-use mathlib.Core.List.{List, [], _∷_, _++_, append-nil}
+use mathlib.Core.Path.{◌≡◌, refl, sym, ◌∙◌, ap, subst, subst⁻¹}
+use mathlib.Core.Logic.{⊎_elim, ◌↔◌}
+use mathlib.Core.Bool.{Bool, true, false, cond, ◌&&◌, ◌||◌}
+use mathlib.Core.List.{List, [], ◌∷◌, ◌++◌, append-nil}
 use mathlib.Core.Option.{Option, none, some}
 use lib.Dec.{eqb, ltb}
-use lib.ListN.{length, getD, length-append, List·getD-append}
-use lib.Seq.{getD-append-add, append-snoc}
-use borrow.Author.Tests.{eqb-true, eq-eqb, ne-eqb, lt-ltb, le-leb}
-use Rattle·model·specs.specs.Limits.{rowsMost, boards, messagesMost, textMost}
-use Rattle·model·specs.specs.Bounded.{among, same}
-use Rattle·model·specs.specs.Closure.{listed}
-use Rattle·model·specs.specs.Refusal.{Out, ok, refusal, andThen, rowRefusal, placeRefusal, circleRefusal}
-use Rattle·model·specs.specs.Text.{ascii, Line, fieldsOf, aheadOfField, placeOf, columnsOf, areColumns, headingOf}
-use Rattle·model·specs.specs.Rows.{Row, sheet, message, order, formed, rowOf}
-use Rattle·model·specs.specs.Place.{Place, outside, withMessage, messageFits, orderFits, moved, isSheet, placed, BlockBefore, given, paired, through, blockCircle, circleAt, lineOf, judged, rowsFrom, opens, absentCall, complete, bodyOf, readOf, readWith}
-use Rattle·model·specs.specs.Order.{Event, sendOf, receiveOf, number, event, messageOf, boardOf, Scenario, board}
-use Rattle·model·specs.specs.Cure.{curedBefore, isWritten, ordersAt, ordersBelow, Written, messageRows, orderRows, curedRows, rowsText, headingText, curedText}
-use Rattle·model·proofs.proofs.Bounded.{and-left, and-right, or-cases, or-left, or-right, which, not-both}
-use Rattle·model·proofs.proofs.Events.{event-number, number-event, own-both, below-number, below-event, send-event, receive-event}
-use Rattle·model·proofs.proofs.Block.{own-pair-parts, listed-more, listed-first, listed-later, circle-some}
-use Rattle·model·proofs.proofs.Causal.{Causal}
-use Rattle·model·proofs.proofs.Cured.{cured-trans, cured-irreflexive, cured-own, cured-inside}
-use Rattle·model·proofs.proofs.Rendered.{Plain, AllPlain, plain-append, lineIn, linesIn, rows-lines, house, row-read, heading-line, rows-short}
+use lib.ListN.{length, get_or, length-append, get_or-append}
+use lib.Seq.{get_or-append-add, append_snoc}
+use borrow.Author.Tests.{eqb-true, eq-eqb, ne_eqb, lt-ltb, le-leb}
+use Rattle.model.specs.Limits.{rows_most, boards, messages_most, text_most}
+use Rattle.model.specs.Bounded.{among, same}
+use Rattle.model.specs.Closure.{listed}
+use Rattle.model.specs.Refusal.{Out, ok, refusal, and_then, row_refusal, place_refusal, circle_refusal}
+use Rattle.model.specs.Text.{ascii, Line, fields_of, ahead_of_field, place_of, columns_of, are_columns, heading_of}
+use Rattle.model.specs.Rows.{Row, sheet, message, order, formed, row_of}
+use Rattle.model.specs.Place.{Place, outside, with_message, message_fits, order_fits, moved, is_sheet, placed, BlockBefore, given, paired, through, block_circle, circle_at, line_of, judged, rows_from, opens, absent_call, complete, body_of, read_of, read_with}
+use Rattle.model.specs.Order.{Event, send_of, receive_of, number, event, message_of, board_of, Scenario, board}
+use Rattle.model.specs.Cure.{cured_before, is_written, orders_at, orders_below, Written, message_rows, order_rows, cured_rows, rows_text, heading_text, cured_text}
+use Rattle.model.proofs.Bounded.{and_left, and_right, or_cases, or_left, or_right, which, not_both}
+use Rattle.model.proofs.Events.{event_number, number_event, own_both, below_number, below_event, send_event, receive_event}
+use Rattle.model.proofs.Block.{own_pair_parts, listed_more, listed_first, listed_later, circle_some}
+use Rattle.model.proofs.Causal.{Causal}
+use Rattle.model.proofs.Cured.{cured_trans, cured_irreflexive, cured_own, cured_inside}
+use Rattle.model.proofs.Rendered.{Plain, AllPlain, plain_append, line_in, lines_in, rows_lines, house, row_read, heading_line, rows_short}
 
 -- The P rows written, by number.
 module _ (S : Scenario) where
-  listed-append : (x y : ℕ) (ps qs : List (ℕ × ℕ)) → listed x y (ps ++ qs) ≡ (listed x y ps || listed x y qs)
+  listed_append : (x y : ℕ) (ps qs : List (ℕ × ℕ)) → listed x y (ps ++ qs) ≡ (listed x y ps || listed x y qs)
   unfolding listed
-  listed-append x y [] qs = refl
-  listed-append x y (p ∷ ps) qs = rw (listed-append x y ps qs) (turns (eqb x (p .0) && eqb y (p .1)) (listed x y ps) (listed x y qs))
+  listed_append x y [] qs = refl
+  listed_append x y (p ∷ ps) qs = rw (listed_append x y ps qs) (turns (eqb x p.0 && eqb y p.1) (listed x y ps) (listed x y qs))
     where
       turns : (a b c : Bool) → (a || (b || c)) ≡ (a || b || c)
       turns true b c = refl
@@ -43,393 +43,393 @@ module _ (S : Scenario) where
 
   -- one of them is written as asked
   pub record IsRow (x y : ℕ) : Type 0 where
-    pub first : x < 2 * S .count
-    pub second : y < 2 * S .count
-    pub written : isWritten S (event x) (event y) ≡ true
+    pub first : x < 2 * S.count
+    pub second : y < 2 * S.count
+    pub written : is_written S (event x) (event y) ≡ true
 
-  at-row : (x n a b : ℕ) → listed a b (ordersAt S x n) ≡ true → (a ≡ x) × (b < n) × (isWritten S (event x) (event b) ≡ true)
-  unfolding ordersAt listed
-  at-row x zero a b h = not-both false h refl
-  at-row x (suc n) a b h =
-      ⊎-elim
-      (λ p. let q = at-row x n a b p in (q .0, omega (arith, q .1), q .2))
-      (λ p. last (isWritten S (event x) (event n)) refl p)
-      (or-cases _ _ (sym (listed-append a b (ordersAt S x n) (cond (isWritten S (event x) (event n)) ((x, n) ∷ []) [])) ∙ h))
+  at_row : (x n a b : ℕ) → listed a b (orders_at S x n) ≡ true → (a ≡ x) × (b < n) × (is_written S (event x) (event b) ≡ true)
+  unfolding orders_at listed
+  at_row x zero a b h = not_both false h refl
+  at_row x (suc n) a b h =
+      ⊎_elim
+      (λ p. let q = at_row x n a b p in (q.0, omega (arith, q.1), q.2))
+      (λ p. last (is_written S (event x) (event n)) refl p)
+      (or_cases _ _ (sym (listed_append a b (orders_at S x n) (cond (is_written S (event x) (event n)) ((x, n) ∷ []) [])) ∙ h))
     where
-      last : (t : Bool) → isWritten S (event x) (event n) ≡ t → listed a b (cond t ((x, n) ∷ []) []) ≡ true
-          → (a ≡ x) × (b < suc n) × (isWritten S (event x) (event b) ≡ true)
+      last : (t : Bool) → is_written S (event x) (event n) ≡ t → listed a b (cond t ((x, n) ∷ []) []) ≡ true
+          → (a ≡ x) × (b < suc n) × (is_written S (event x) (event b) ≡ true)
       last true e p =
-          ⊎-elim
+          ⊎_elim
           (λ q.
-          let i = eqb-true a x (and-left (eqb a x) (eqb b n) q) in
-          let j = eqb-true b n (and-right (eqb a x) (eqb b n) q) in
+          let i = eqb-true a x (and_left (eqb a x) (eqb b n) q) in
+          let j = eqb-true b n (and_right (eqb a x) (eqb b n) q) in
           (i, omega arith, rw j e))
-          (λ q. not-both false q refl)
-          (or-cases (eqb a x && eqb b n) false p)
-      last false e p = not-both false p refl
+          (λ q. not_both false q refl)
+          (or_cases (eqb a x && eqb b n) false p)
+      last false e p = not_both false p refl
 
-  row-at : (x n b : ℕ) → b < n → isWritten S (event x) (event b) ≡ true → listed x b (ordersAt S x n) ≡ true
-  unfolding ordersAt listed
-  row-at x zero b l h = absurd (omega arith)
-  row-at x (suc n) b l h =
-      listed-append x b (ordersAt S x n) (cond (isWritten S (event x) (event n)) ((x, n) ∷ []) []) ∙ go (ℕ-discrete b n) (λ k. row-at x n b k h)
+  row_at : (x n b : ℕ) → b < n → is_written S (event x) (event b) ≡ true → listed x b (orders_at S x n) ≡ true
+  unfolding orders_at listed
+  row_at x zero b l h = absurd (omega arith)
+  row_at x (suc n) b l h =
+      listed_append x b (orders_at S x n) (cond (is_written S (event x) (event n)) ((x, n) ∷ []) []) ∙ go (ℕ_discrete b n) (λ k. row_at x n b k h)
     where
-      here : (n : ℕ) → b ≡ n → listed x b (cond (isWritten S (event x) (event n)) ((x, n) ∷ []) []) ≡ true
+      here : (n : ℕ) → b ≡ n → listed x b (cond (is_written S (event x) (event n)) ((x, n) ∷ []) []) ≡ true
       here n e =
-          subst (λ (m : ℕ). listed x b (cond (isWritten S (event x) (event m)) ((x, m) ∷ []) []) ≡ true) e
+          subst (λ (m : ℕ). listed x b (cond (is_written S (event x) (event m)) ((x, m) ∷ []) []) ≡ true) e
           (rw (h, eq-eqb x x refl, eq-eqb b b refl))
 
-      go : Dec (b ≡ n) → (b < n → listed x b (ordersAt S x n) ≡ true)
-          → (listed x b (ordersAt S x n) || listed x b (cond (isWritten S (event x) (event n)) ((x, n) ∷ []) [])) ≡ true
-      go (yes e) deep = or-right (listed x b (ordersAt S x n)) (listed x b (cond (isWritten S (event x) (event n)) ((x, n) ∷ []) [])) (here n e)
-      go (no d) deep = or-left _ _ (deep (omega arith))
+      go : Dec (b ≡ n) → (b < n → listed x b (orders_at S x n) ≡ true)
+          → (listed x b (orders_at S x n) || listed x b (cond (is_written S (event x) (event n)) ((x, n) ∷ []) [])) ≡ true
+      go (yes e) deep = or_right (listed x b (orders_at S x n)) (listed x b (cond (is_written S (event x) (event n)) ((x, n) ∷ []) [])) (here n e)
+      go (no d) deep = or_left _ _ (deep (omega arith))
 
-  below-row : (n a b : ℕ) → listed a b (ordersBelow S n) ≡ true → (a < n) × (b < 2 * S .count) × (isWritten S (event a) (event b) ≡ true)
-  unfolding ordersBelow listed
-  below-row zero a b h = not-both false h refl
-  below-row (suc n) a b h =
-      ⊎-elim
-      (λ p. let q = below-row n a b p in (omega (arith, q .0), q .1, q .2))
-      (λ p. let q = at-row n (2 * S .count) a b p in (omega (arith, q .0), q .1, rw (q .0) (q .2)))
-      (or-cases _ _ (sym (listed-append a b (ordersBelow S n) (ordersAt S n (2 * S .count))) ∙ h))
+  below_row : (n a b : ℕ) → listed a b (orders_below S n) ≡ true → (a < n) × (b < 2 * S.count) × (is_written S (event a) (event b) ≡ true)
+  unfolding orders_below listed
+  below_row zero a b h = not_both false h refl
+  below_row (suc n) a b h =
+      ⊎_elim
+      (λ p. let q = below_row n a b p in (omega (arith, q.0), q.1, q.2))
+      (λ p. let q = at_row n (2 * S.count) a b p in (omega (arith, q.0), q.1, rw q.0 q.2))
+      (or_cases _ _ (sym (listed_append a b (orders_below S n) (orders_at S n (2 * S.count))) ∙ h))
 
-  row-below : (n a b : ℕ) → a < n → b < 2 * S .count → isWritten S (event a) (event b) ≡ true → listed a b (ordersBelow S n) ≡ true
-  unfolding ordersBelow
-  row-below zero a b l k h = absurd (omega arith)
-  row-below (suc n) a b l k h =
-      listed-append a b (ordersBelow S n) (ordersAt S n (2 * S .count)) ∙ go (ℕ-discrete a n) (λ j. row-below n a b j k h)
+  row_below : (n a b : ℕ) → a < n → b < 2 * S.count → is_written S (event a) (event b) ≡ true → listed a b (orders_below S n) ≡ true
+  unfolding orders_below
+  row_below zero a b l k h = absurd (omega arith)
+  row_below (suc n) a b l k h =
+      listed_append a b (orders_below S n) (orders_at S n (2 * S.count)) ∙ go (ℕ_discrete a n) (λ j. row_below n a b j k h)
     where
-      go : Dec (a ≡ n) → (a < n → listed a b (ordersBelow S n) ≡ true) → (listed a b (ordersBelow S n) || listed a b (ordersAt S n (2 * S .count))) ≡ true
+      go : Dec (a ≡ n) → (a < n → listed a b (orders_below S n) ≡ true) → (listed a b (orders_below S n) || listed a b (orders_at S n (2 * S.count))) ≡ true
       go (yes e) deep =
-          or-right (listed a b (ordersBelow S n)) (listed a b (ordersAt S n (2 * S .count)))
-          (subst (λ (m : ℕ). listed a b (ordersAt S m (2 * S .count)) ≡ true) e (row-at a (2 * S .count) b k h))
-      go (no d) deep = or-left (listed a b (ordersBelow S n)) (listed a b (ordersAt S n (2 * S .count))) (deep (omega arith))
+          or_right (listed a b (orders_below S n)) (listed a b (orders_at S n (2 * S.count)))
+          (subst (λ (m : ℕ). listed a b (orders_at S m (2 * S.count)) ≡ true) e (row_at a (2 * S.count) b k h))
+      go (no d) deep = or_left (listed a b (orders_below S n)) (listed a b (orders_at S n (2 * S.count))) (deep (omega arith))
 
-  pub listed-written : (x y : ℕ) → (listed x y (ordersBelow S (2 * S .count)) ≡ true) ↔ IsRow x y
-  listed-written x y = (
-    (λ h. let p = below-row (2 * S .count) x y h in record { first = p .0; second = p .1; written = p .2 }),
-    (λ r. row-below (2 * S .count) x y (r .first) (r .second) (r .written)),
+  pub listed_written : (x y : ℕ) → (listed x y (orders_below S (2 * S.count)) ≡ true) ↔ IsRow x y
+  listed_written x y = (
+    (λ h. let p = below_row (2 * S.count) x y h in record { first = p.0; second = p.1; written = p.2 }),
+    (λ r. row_below (2 * S.count) x y r.first r.second r.written),
   )
 
   -- The board of each event, message by message.
-  unfoldable pub eventsTo : ℕ → List ℕ
-  eventsTo zero = []
-  eventsTo (suc m) = withMessage (eventsTo m) (S .source m) (S .target m)
+  unfoldable pub events_to : ℕ → List ℕ
+  events_to zero = []
+  events_to (suc m) = with_message (events_to m) (S.source m) (S.target m)
 
-  pub events-length : (m : ℕ) → length (eventsTo m) ≡ 2 * m
-  unfolding eventsTo
-  events-length zero = refl
-  events-length (suc m) = simp length-append (omega (arith, events-length m))
+  pub events_length : (m : ℕ) → length (events_to m) ≡ 2 * m
+  unfolding events_to
+  events_length zero = refl
+  events_length (suc m) = simp length-append (omega (arith, events_length m))
 
-  pub events-at : (n m : ℕ) → m < n → (getD (eventsTo n) (2 * m) 0 ≡ S .source m) × (getD (eventsTo n) (2 * m + 1) 0 ≡ S .target m)
-  unfolding eventsTo
-  events-at zero m h = absurd (omega arith)
-  events-at (suc n) m h = go (ℕ-discrete m n) (λ l. events-at n m l)
+  pub events_at : (n m : ℕ) → m < n → (get_or (events_to n) (2 * m) 0 ≡ S.source m) × (get_or (events_to n) (2 * m + 1) 0 ≡ S.target m)
+  unfolding events_to
+  events_at zero m h = absurd (omega arith)
+  events_at (suc n) m h = go (ℕ_discrete m n) (λ l. events_at n m l)
     where
-      go : Dec (m ≡ n) → (m < n → (getD (eventsTo n) (2 * m) 0 ≡ S .source m) × (getD (eventsTo n) (2 * m + 1) 0 ≡ S .target m))
-          → (getD (eventsTo n ++ (S .source n ∷ S .target n ∷ [])) (2 * m) 0 ≡ S .source m)
-          × (getD (eventsTo n ++ (S .source n ∷ S .target n ∷ [])) (2 * m + 1) 0 ≡ S .target m)
+      go : Dec (m ≡ n) → (m < n → (get_or (events_to n) (2 * m) 0 ≡ S.source m) × (get_or (events_to n) (2 * m + 1) 0 ≡ S.target m))
+          → (get_or (events_to n ++ (S.source n ∷ S.target n ∷ [])) (2 * m) 0 ≡ S.source m)
+          × (get_or (events_to n ++ (S.source n ∷ S.target n ∷ [])) (2 * m + 1) 0 ≡ S.target m)
       go (yes e) deep =
-          let i : 2 * m ≡ length (eventsTo n) + 0 = omega (arith, events-length n) in
-          let j : 2 * m + 1 ≡ length (eventsTo n) + 1 = omega (arith, events-length n) in (
-            rw (i, getD-append-add (eventsTo n) (S .source n ∷ S .target n ∷ []) 0 0) (ap (S .source) (sym e)),
-            rw (j, getD-append-add (eventsTo n) (S .source n ∷ S .target n ∷ []) 1 0) (ap (S .target) (sym e)),
+          let i : 2 * m ≡ length (events_to n) + 0 = omega (arith, events_length n) in
+          let j : 2 * m + 1 ≡ length (events_to n) + 1 = omega (arith, events_length n) in (
+            rw (i, get_or-append-add (events_to n) (S.source n ∷ S.target n ∷ []) 0 0) (ap S.source (sym e)),
+            rw (j, get_or-append-add (events_to n) (S.source n ∷ S.target n ∷ []) 1 0) (ap S.target (sym e)),
           )
       go (no d) deep =
           let l : m < n = omega arith in (
-            List·getD-append (eventsTo n) (S .source n ∷ S .target n ∷ []) 0 (2 * m) (omega (arith, events-length n)) ∙ deep l .0,
-            List·getD-append (eventsTo n) (S .source n ∷ S .target n ∷ []) 0 (2 * m + 1) (omega (arith, events-length n)) ∙ deep l .1,
+            get_or-append (events_to n) (S.source n ∷ S.target n ∷ []) 0 (2 * m) (omega (arith, events_length n)) ∙ (deep l).0,
+            get_or-append (events_to n) (S.source n ∷ S.target n ∷ []) 0 (2 * m + 1) (omega (arith, events_length n)) ∙ (deep l).1,
           )
 
   -- an event's board stands at its number
-  board-of : (z : Event) → messageOf z < S .count → getD (eventsTo (S .count)) (number z) 0 ≡ board S z
-  unfolding messageOf number boardOf
-  board-of (sendOf m) l = events-at (S .count) m l .0
-  board-of (receiveOf m) l = events-at (S .count) m l .1
+  board_of_holds : (z : Event) → message_of z < S.count → get_or (events_to S.count) (number z) 0 ≡ board S z
+  unfolding message_of number board_of
+  board_of_holds (send_of m) l = (events_at S.count m l).0
+  board_of_holds (receive_of m) l = (events_at S.count m l).1
 
-  pub event-board : (x : ℕ) → x < 2 * S .count → getD (eventsTo (S .count)) x 0 ≡ board S (event x)
-  event-board x h = subst (λ (k : ℕ). getD (eventsTo (S .count)) k 0 ≡ board S (event x)) (number-event x) (board-of (event x) (below-event x (S .count) h))
+  pub event_board : (x : ℕ) → x < 2 * S.count → get_or (events_to S.count) x 0 ≡ board S (event x)
+  event_board x h = subst (λ (k : ℕ). get_or (events_to S.count) k 0 ≡ board S (event x)) (number_event x) (board_of_holds (event x) (below_event x S.count h))
 
   -- The rows as the reader hands them on: message by message from k on, and pair by pair.
-  unfoldable pub messagesFrom : ℕ → ℕ → List Row
-  messagesFrom k zero = []
-  messagesFrom k (suc n) = message (S .source k) (S .target k) ∷ messagesFrom (suc k) n
+  unfoldable pub messages_from : ℕ → ℕ → List Row
+  messages_from k zero = []
+  messages_from k (suc n) = message (S.source k) (S.target k) ∷ messages_from (suc k) n
 
-  unfoldable writtenFrom : ℕ → ℕ → List Written
-  writtenFrom k zero = []
-  writtenFrom k (suc n) = record { letter = code "M"; one = S .source k; two = S .target k } ∷ writtenFrom (suc k) n
+  unfoldable written_from : ℕ → ℕ → List Written
+  written_from k zero = []
+  written_from k (suc n) = record { letter = code "M"; one = S.source k; two = S.target k } ∷ written_from (suc k) n
 
-  messages-split : (k n : ℕ) → messageRows S k ++ writtenFrom k n ≡ messageRows S (k + n)
-  unfolding messageRows writtenFrom
-  messages-split k zero =
+  messages_split : (k n : ℕ) → message_rows S k ++ written_from k n ≡ message_rows S (k + n)
+  unfolding message_rows written_from
+  messages_split k zero =
       let e : k ≡ k + 0 = omega arith in
-      append-nil (messageRows S k) ∙ ap (messageRows S) e
-  messages-split k (suc n) =
+      append-nil (message_rows S k) ∙ ap (message_rows S) e
+  messages_split k (suc n) =
       let e : suc k + n ≡ k + suc n = omega arith in
-      sym (append-snoc (messageRows S k) (record { letter = code "M"; one = S .source k; two = S .target k }) (writtenFrom (suc k) n))
-      ∙ messages-split (suc k) n ∙ ap (messageRows S) e
+      sym (append_snoc (message_rows S k) (record { letter = code "M"; one = S.source k; two = S.target k }) (written_from (suc k) n))
+      ∙ messages_split (suc k) n ∙ ap (message_rows S) e
 
-  messages-from : writtenFrom 0 (S .count) ≡ messageRows S (S .count)
-  unfolding messageRows
-  messages-from = messages-split 0 (S .count) ∙ ap (messageRows S) (zero-add (S .count))
+  messages_from_holds : written_from 0 S.count ≡ message_rows S S.count
+  unfolding message_rows
+  messages_from_holds = messages_split 0 S.count ∙ ap (message_rows S) (zero-add S.count)
 
 -- what is written is between events of the sheet
-written-before : (S : Scenario) (x y : Event) → isWritten S x y ≡ true → curedBefore S x y ≡ true
-unfolding isWritten
-written-before S x y h =
+written_before : (S : Scenario) (x y : Event) → is_written S x y ≡ true → cured_before S x y ≡ true
+unfolding is_written
+written_before S x y h =
     let a = eqb (board S x) (board S y) in
-    let b = curedBefore S x y in
-    and-right a b (and-left (a && b) _ (and-left _ _ h))
+    let b = cured_before S x y in
+    and_right a b (and_left (a && b) _ (and_left _ _ h))
 
-pub written-row : (S : Scenario) → Causal S → (x y : Event) → isWritten S x y ≡ true → IsRow S (number x) (number y)
-written-row S C x y h =
-    let p = cured-inside S C x y (written-before S x y h) in
+pub written_row : (S : Scenario) → Causal S → (x y : Event) → is_written S x y ≡ true → IsRow S (number x) (number y)
+written_row S C x y h =
+    let p = cured_inside S C x y (written_before S x y h) in
     record {
-      first = below-number x (S .count) .0 (p .0);
-      second = below-number y (S .count) .0 (p .1);
-      written = rw (event-number x, event-number y) h;
+      first = (below_number x S.count).0 p.0;
+      second = (below_number y S.count).0 p.1;
+      written = rw (event_number x, event_number y) h;
     }
 
-unfoldable pub ordersRead : List (ℕ × ℕ) → List Row
-ordersRead [] = []
-ordersRead (p ∷ ps) = order (p .0) (p .1) ∷ ordersRead ps
+unfoldable pub orders_read : List (ℕ × ℕ) → List Row
+orders_read [] = []
+orders_read (p ∷ ps) = order p.0 p.1 ∷ orders_read ps
 
-rows-length : (ps : List (ℕ × ℕ)) → length (orderRows ps) ≡ length ps
-unfolding orderRows
-rows-length [] = refl
-rows-length (p ∷ ps) = ap suc (rows-length ps)
+rows_length : (ps : List (ℕ × ℕ)) → length (order_rows ps) ≡ length ps
+unfolding order_rows
+rows_length [] = refl
+rows_length (p ∷ ps) = ap suc (rows_length ps)
 
 -- a row that is formed, has a place and makes no circle is taken
-taken : (i : ℕ) (p q : Place) (l : Line) (r : Row) → i < rowsMost → rowOf false house l ≡ some r → placed p r ≡ some q → circleAt r q ≡ false
+taken : (i : ℕ) (p q : Place) (l : Line) (r : Row) → i < rows_most → row_of false house l ≡ some r → placed p r ≡ some q → circle_at r q ≡ false
     → judged false house i p l ≡ ok (r, q)
 unfolding judged
 taken i p q l r h a b d =
-    let e : cond (ltb i rowsMost) (rowOf false house l) none ≡ some r = rw (lt-ltb i rowsMost h) a in
+    let e : cond (ltb i rows_most) (row_of false house l) none ≡ some r = rw (lt-ltb i rows_most h) a in
     subst⁻¹
-    (λ (o : Option Row). _≡_ {A = Out (Row × Place)} (elim o [
-      | none ↦ refusal rowRefusal (lineOf i)
+    (λ (o : Option Row). ◌≡◌ {A = Out (Row × Place)} (elim o [
+      | none ↦ refusal row_refusal (line_of i)
       | some k ↦ elim (placed p k) [
-        | none ↦ refusal placeRefusal (lineOf i)
-        | some z ↦ cond (circleAt k z) (refusal circleRefusal (lineOf i)) (ok (k, z))
+        | none ↦ refusal place_refusal (line_of i)
+        | some z ↦ cond (circle_at k z) (refusal circle_refusal (line_of i)) (ok (k, z))
       ]
     ]) (ok (r, q)))
     e
     (subst⁻¹
-    (λ (o : Option Place). _≡_ {A = Out (Row × Place)} (elim o [
-      | none ↦ refusal placeRefusal (lineOf i)
-      | some z ↦ cond (circleAt r z) (refusal circleRefusal (lineOf i)) (ok (r, z))
+    (λ (o : Option Place). ◌≡◌ {A = Out (Row × Place)} (elim o [
+      | none ↦ refusal place_refusal (line_of i)
+      | some z ↦ cond (circle_at r z) (refusal circle_refusal (line_of i)) (ok (r, z))
     ]) (ok (r, q)))
     b
     (rw d))
 
 -- and the rows behind it follow it
 follows : (i : ℕ) (p q : Place) (l : Line) (ls : List Line) (r : Row) (rs : List Row) → judged false house i p l ≡ ok (r, q)
-    → rowsFrom false house (suc i) q ls ≡ ok rs → rowsFrom false house i p (l ∷ ls) ≡ ok (r ∷ rs)
-unfolding rowsFrom
+    → rows_from false house (suc i) q ls ≡ ok rs → rows_from false house i p (l ∷ ls) ≡ ok (r ∷ rs)
+unfolding rows_from
 follows i p q l ls r rs a b =
     subst⁻¹
-    (λ (o : Out (Row × Place)). _≡_ {A = Out (List Row)} (elim o [
+    (λ (o : Out (Row × Place)). ◌≡◌ {A = Out (List Row)} (elim o [
       | refusal number line ↦ refusal number line
-      | ok rp ↦ elim (rowsFrom false house (suc i) (rp .1) ls) [ refusal number line ↦ refusal number line | ok ks ↦ ok ((rp .0) ∷ ks) ]
+      | ok rp ↦ elim (rows_from false house (suc i) rp.1 ls) [ refusal number line ↦ refusal number line | ok ks ↦ ok (rp.0 ∷ ks) ]
     ]) (ok (r ∷ rs)))
     a
-    (subst⁻¹ (λ (o : Out (List Row)). _≡_ {A = Out (List Row)} (elim o [ refusal number line ↦ refusal number line | ok ks ↦ ok (r ∷ ks) ]) (ok (r ∷ rs))) b refl)
+    (subst⁻¹ (λ (o : Out (List Row)). ◌≡◌ {A = Out (List Row)} (elim o [ refusal number line ↦ refusal number line | ok ks ↦ ok (r ∷ ks) ]) (ok (r ∷ rs))) b refl)
 
-module _ (S : Scenario) (C : Causal S) (few : S .count ≤ messagesMost) (low : (x : Event) → board S x < boards) where
+module _ (S : Scenario) (C : Causal S) (few : S.count ≤ messages_most) (low : (x : Event) → board S x < boards) where
   -- the place behind k messages and some P rows
-  abbrev placeAt : ℕ → List (ℕ × ℕ) → Place
-  placeAt k orders = record { opened = 0 ∷ []; events = eventsTo S k; orders = orders }
+  abbrev place_at : ℕ → List (ℕ × ℕ) → Place
+  place_at k orders = record { opened = 0 ∷ []; events = events_to S k; orders = orders }
 
   abbrev AllRows : List (ℕ × ℕ) → Type 0
   AllRows ps = (x y : ℕ) → listed x y ps ≡ true → IsRow S x y
 
-  message-plain : (k : ℕ) → Plain (record { letter = code "M"; one = S .source k; two = S .target k })
-  unfolding boardOf
-  message-plain k = record { noSpace = refl; noLineEnd = refl; oneMost = omega (arith, low (sendOf k)); twoMost = omega (arith, low (receiveOf k)) }
+  message_plain : (k : ℕ) → Plain (record { letter = code "M"; one = S.source k; two = S.target k })
+  unfolding board_of
+  message_plain k = record { no_space = refl; no_line_end = refl; one_most = omega (arith, low (send_of k)); two_most = omega (arith, low (receive_of k)) }
 
-  order-plain : (x y : ℕ) → IsRow S x y → Plain (record { letter = code "P"; one = x; two = y })
-  order-plain x y r = record { noSpace = refl; noLineEnd = refl; oneMost = omega (arith, r .first); twoMost = omega (arith, r .second) }
+  order_plain : (x y : ℕ) → IsRow S x y → Plain (record { letter = code "P"; one = x; two = y })
+  order_plain x y r = record { no_space = refl; no_line_end = refl; one_most = omega (arith, r.first); two_most = omega (arith, r.second) }
 
   -- An M row is taken.
-  message-taken : (i k : ℕ) → i < rowsMost → k < S .count
-      → judged false house i (placeAt k []) (lineIn (record { letter = code "M"; one = S .source k; two = S .target k }))
-      ≡ ok (message (S .source k) (S .target k), placeAt (suc k) [])
-  unfolding placed moved messageFits isSheet circleAt eventsTo formed boardOf
-  message-taken i k h l =
-      let room : length (eventsTo S k) < 2 * messagesMost = omega (arith, events-length S k) in
-      taken i (placeAt k []) (placeAt (suc k) []) _ (message (S .source k) (S .target k)) h
-      (row-read (record { letter = code "M"; one = S .source k; two = S .target k }) (message-plain k))
+  message_taken : (i k : ℕ) → i < rows_most → k < S.count
+      → judged false house i (place_at k []) (line_in (record { letter = code "M"; one = S.source k; two = S.target k }))
+      ≡ ok (message (S.source k) (S.target k), place_at (suc k) [])
+  unfolding placed moved message_fits is_sheet circle_at events_to formed board_of
+  message_taken i k h l =
+      let room : length (events_to S k) < 2 * messages_most = omega (arith, events_length S k) in
+      taken i (place_at k []) (place_at (suc k) []) _ (message (S.source k) (S.target k)) h
+      (row_read (record { letter = code "M"; one = S.source k; two = S.target k }) (message_plain k))
       (rw (
-        lt-ltb (S .source k) boards (low (sendOf k)),
-        lt-ltb (S .target k) boards (low (receiveOf k)),
-        lt-ltb (length (eventsTo S k)) (2 * messagesMost) room,
+        lt-ltb (S.source k) boards (low (send_of k)),
+        lt-ltb (S.target k) boards (low (receive_of k)),
+        lt-ltb (length (events_to S k)) (2 * messages_most) room,
       ))
       refl
 
   -- The order of the rows written lies in the cured order, which has no circle.
-  pub written-cured : (x y : ℕ) → IsRow S x y → curedBefore S (event x) (event y) ≡ true
-  written-cured x y r = written-before S (event x) (event y) (r .written)
+  pub written_cured : (x y : ℕ) → IsRow S x y → cured_before S (event x) (event y) ≡ true
+  written_cured x y r = written_before S (event x) (event y) r.written
 
-  written-board : (x y : ℕ) → IsRow S x y → board S (event x) ≡ board S (event y)
-  unfolding isWritten
-  written-board x y r =
+  written_board : (x y : ℕ) → IsRow S x y → board S (event x) ≡ board S (event y)
+  unfolding is_written
+  written_board x y r =
       let a = eqb (board S (event x)) (board S (event y)) in
-      let b = curedBefore S (event x) (event y) in
-      eqb-true (board S (event x)) (board S (event y)) (and-left a b (and-left (a && b) _ (and-left _ _ (r .written))))
+      let b = cured_before S (event x) (event y) in
+      eqb-true (board S (event x)) (board S (event y)) (and_left a b (and_left (a && b) _ (and_left _ _ r.written)))
 
-  block-cured : (orders : List (ℕ × ℕ)) → AllRows orders → {x y : ℕ} → BlockBefore (2 * S .count) orders x y → curedBefore S (event x) (event y) ≡ true
-  block-cured orders all (given {x = x} {y = y} h) = written-cured x y (all x y h)
-  block-cured orders all (paired {x = x} {y = y} h) =
-      let p = own-pair-parts (2 * S .count) x y h in
-      let i : x ≡ 2 * (x / 2) = omega (arith, p .0) in
-      let j : y ≡ 2 * (x / 2) + 1 = omega (arith, p .0, p .1) in
-      let a : event x ≡ sendOf (x / 2) = ap event i ∙ send-event (x / 2) in
-      let b : event y ≡ receiveOf (x / 2) = ap event j ∙ receive-event (x / 2) in
-      rw (a, b) (cured-own S C (sendOf (x / 2)) (receiveOf (x / 2)) (own-both (S .count) (x / 2) (omega (arith, p .1, p .2))))
-  block-cured orders all (through {x = x} {y = y} {z = z} p q) =
-      cured-trans S C (event x) (event y) (event z) (block-cured orders all p) (block-cured orders all q)
+  block_cured : (orders : List (ℕ × ℕ)) → AllRows orders → {x y : ℕ} → BlockBefore (2 * S.count) orders x y → cured_before S (event x) (event y) ≡ true
+  block_cured orders all (given {x = x} {y = y} h) = written_cured x y (all x y h)
+  block_cured orders all (paired {x = x} {y = y} h) =
+      let p = own_pair_parts (2 * S.count) x y h in
+      let i : x ≡ 2 * (x / 2) = omega (arith, p.0) in
+      let j : y ≡ 2 * (x / 2) + 1 = omega (arith, p.0, p.1) in
+      let a : event x ≡ send_of (x / 2) = ap event i ∙ send_event (x / 2) in
+      let b : event y ≡ receive_of (x / 2) = ap event j ∙ receive_event (x / 2) in
+      rw (a, b) (cured_own S C (send_of (x / 2)) (receive_of (x / 2)) (own_both S.count (x / 2) (omega (arith, p.1, p.2))))
+  block_cured orders all (through {x = x} {y = y} {z = z} p q) =
+      cured_trans S C (event x) (event y) (event z) (block_cured orders all p) (block_cured orders all q)
 
-  no-block-circle : (orders : List (ℕ × ℕ)) → AllRows orders → blockCircle (2 * S .count) orders ≡ false
-  no-block-circle orders all =
-      ⊎-elim
-      (λ t. let c = circle-some (2 * S .count) orders t in absurd (cured-irreflexive S C (event (c .0)) (block-cured orders all (c .1))))
+  no_block_circle : (orders : List (ℕ × ℕ)) → AllRows orders → block_circle (2 * S.count) orders ≡ false
+  no_block_circle orders all =
+      ⊎_elim
+      (λ t. let c = circle_some (2 * S.count) orders t in absurd (cured_irreflexive S C (event c.0) (block_cured orders all c.1)))
       (λ f. f)
-      (which (blockCircle (2 * S .count) orders))
+      (which (block_circle (2 * S.count) orders))
 
-  all-more : (x y : ℕ) (orders : List (ℕ × ℕ)) → IsRow S x y → AllRows orders → AllRows ((x, y) ∷ orders)
-  all-more x y orders r all a b h =
-      ⊎-elim (λ e. subst⁻¹ (λ (k : ℕ). IsRow S k b) (e .0) (subst⁻¹ (λ (k : ℕ). IsRow S x k) (e .1) r)) (all a b) (listed-more x y a b orders h)
+  all_more : (x y : ℕ) (orders : List (ℕ × ℕ)) → IsRow S x y → AllRows orders → AllRows ((x, y) ∷ orders)
+  all_more x y orders r all a b h =
+      ⊎_elim (λ e. subst⁻¹ (λ (k : ℕ). IsRow S k b) e.0 (subst⁻¹ (λ (k : ℕ). IsRow S x k) e.1 r)) (all a b) (listed_more x y a b orders h)
 
-  nothing-listed : (x y : ℕ) → listed x y [] ≡ true → IsRow S x y
+  nothing_listed : (x y : ℕ) → listed x y [] ≡ true → IsRow S x y
   unfolding listed
-  nothing-listed x y h = not-both false h refl
+  nothing_listed x y h = not_both false h refl
 
   -- A P row is taken.
-  order-taken : (i x y : ℕ) (orders : List (ℕ × ℕ)) → i < rowsMost → IsRow S x y → AllRows orders
-      → judged false house i (placeAt (S .count) orders) (lineIn (record { letter = code "P"; one = x; two = y }))
-      ≡ ok (order x y, placeAt (S .count) ((x, y) ∷ orders))
-  unfolding placed moved orderFits isSheet circleAt formed
-  order-taken i x y orders h r all =
-      let n = events-length S (S .count) in
-      let apart : x ≡ y → ⊥ = λ e. cured-irreflexive S C (event x) (subst⁻¹ (λ (k : ℕ). curedBefore S (event x) (event k) ≡ true) e (written-cured x y r)) in
-      let same : getD (eventsTo S (S .count)) x 0 ≡ getD (eventsTo S (S .count)) y 0 =
-      event-board S x (r .first) ∙ written-board x y r ∙ sym (event-board S y (r .second)) in
-      taken i (placeAt (S .count) orders) (placeAt (S .count) ((x, y) ∷ orders)) _ (order x y) h
-      (row-read (record { letter = code "P"; one = x; two = y }) (order-plain x y r))
-      (rw (n, lt-ltb x (2 * S .count) (r .first), lt-ltb y (2 * S .count) (r .second), ne-eqb x y apart, eq-eqb _ _ same))
-      (rw n (no-block-circle ((x, y) ∷ orders) (all-more x y orders r all)))
+  order_taken : (i x y : ℕ) (orders : List (ℕ × ℕ)) → i < rows_most → IsRow S x y → AllRows orders
+      → judged false house i (place_at S.count orders) (line_in (record { letter = code "P"; one = x; two = y }))
+      ≡ ok (order x y, place_at S.count ((x, y) ∷ orders))
+  unfolding placed moved order_fits is_sheet circle_at formed
+  order_taken i x y orders h r all =
+      let n = events_length S S.count in
+      let apart : x ≡ y → ⊥ = λ e. cured_irreflexive S C (event x) (subst⁻¹ (λ (k : ℕ). cured_before S (event x) (event k) ≡ true) e (written_cured x y r)) in
+      let same : get_or (events_to S S.count) x 0 ≡ get_or (events_to S S.count) y 0 =
+      event_board S x r.first ∙ written_board x y r ∙ sym (event_board S y r.second) in
+      taken i (place_at S.count orders) (place_at S.count ((x, y) ∷ orders)) _ (order x y) h
+      (row_read (record { letter = code "P"; one = x; two = y }) (order_plain x y r))
+      (rw (n, lt-ltb x (2 * S.count) r.first, lt-ltb y (2 * S.count) r.second, ne_eqb x y apart, eq-eqb _ _ same))
+      (rw n (no_block_circle ((x, y) ∷ orders) (all_more x y orders r all)))
 
-  orders-taken : (i : ℕ) (ps orders : List (ℕ × ℕ)) → i + length ps ≤ rowsMost → AllRows ps → AllRows orders
-      → rowsFrom false house i (placeAt (S .count) orders) (linesIn (orderRows ps)) ≡ ok (ordersRead ps)
-  unfolding linesIn orderRows ordersRead rowsFrom
-  orders-taken i [] orders h all done = refl
-  orders-taken i (p ∷ ps) orders h all done =
-      let r = all (p .0) (p .1) (listed-first (p .0) (p .1) ps) in
-      follows i (placeAt (S .count) orders) (placeAt (S .count) (p ∷ orders)) _ (linesIn (orderRows ps)) (order (p .0) (p .1)) (ordersRead ps)
-      (order-taken i (p .0) (p .1) orders (omega arith) r done)
-      (orders-taken (suc i) ps (p ∷ orders) (omega arith) (λ x y h. all x y (listed-later (p .0) (p .1) x y ps h)) (all-more (p .0) (p .1) orders r done))
+  orders_taken : (i : ℕ) (ps orders : List (ℕ × ℕ)) → i + length ps ≤ rows_most → AllRows ps → AllRows orders
+      → rows_from false house i (place_at S.count orders) (lines_in (order_rows ps)) ≡ ok (orders_read ps)
+  unfolding lines_in order_rows orders_read rows_from
+  orders_taken i [] orders h all done = refl
+  orders_taken i (p ∷ ps) orders h all done =
+      let r = all p.0 p.1 (listed_first p.0 p.1 ps) in
+      follows i (place_at S.count orders) (place_at S.count (p ∷ orders)) _ (lines_in (order_rows ps)) (order p.0 p.1) (orders_read ps)
+      (order_taken i p.0 p.1 orders (omega arith) r done)
+      (orders_taken (suc i) ps (p ∷ orders) (omega arith) (λ x y h. all x y (listed_later p.0 p.1 x y ps h)) (all_more p.0 p.1 orders r done))
 
-  messages-taken : (n k : ℕ) (ps : List (ℕ × ℕ)) → k + n ≡ S .count → suc (S .count) + length ps ≤ rowsMost → AllRows ps
-      → rowsFrom false house (suc k) (placeAt k []) (linesIn (writtenFrom S k n ++ orderRows ps)) ≡ ok (messagesFrom S k n ++ ordersRead ps)
-  unfolding linesIn writtenFrom messagesFrom
-  messages-taken zero k ps e h all =
-      let i : S .count ≡ k = omega arith in
-      subst (λ (j : ℕ). rowsFrom false house (suc j) (placeAt j []) (linesIn (orderRows ps)) ≡ ok (ordersRead ps)) i
-      (orders-taken (suc (S .count)) ps [] h all none-yet)
+  messages_taken : (n k : ℕ) (ps : List (ℕ × ℕ)) → k + n ≡ S.count → suc S.count + length ps ≤ rows_most → AllRows ps
+      → rows_from false house (suc k) (place_at k []) (lines_in (written_from S k n ++ order_rows ps)) ≡ ok (messages_from S k n ++ orders_read ps)
+  unfolding lines_in written_from messages_from
+  messages_taken zero k ps e h all =
+      let i : S.count ≡ k = omega arith in
+      subst (λ (j : ℕ). rows_from false house (suc j) (place_at j []) (lines_in (order_rows ps)) ≡ ok (orders_read ps)) i
+      (orders_taken (suc S.count) ps [] h all none_yet)
     where
-      none-yet : AllRows []
-      none-yet x y t = nothing-listed x y t
-  messages-taken (suc n) k ps e h all =
-      follows (suc k) (placeAt k []) (placeAt (suc k) []) _ (linesIn (writtenFrom S (suc k) n ++ orderRows ps)) (message (S .source k) (S .target k))
-      (messagesFrom S (suc k) n ++ ordersRead ps)
-      (message-taken (suc k) k (omega arith) (omega arith))
-      (messages-taken n (suc k) ps (omega arith) h all)
+      none_yet : AllRows []
+      none_yet x y t = nothing_listed x y t
+  messages_taken (suc n) k ps e h all =
+      follows (suc k) (place_at k []) (place_at (suc k) []) _ (lines_in (written_from S (suc k) n ++ order_rows ps)) (message (S.source k) (S.target k))
+      (messages_from S (suc k) n ++ orders_read ps)
+      (message_taken (suc k) k (omega arith) (omega arith))
+      (messages_taken n (suc k) ps (omega arith) h all)
 
   -- The whole text.
   abbrev pairs : List (ℕ × ℕ)
-  pairs = ordersBelow S (2 * S .count)
+  pairs = orders_below S (2 * S.count)
 
-  abbrev pub rowsWritten : List Row
-  rowsWritten = sheet 0 ∷ (messagesFrom S 0 (S .count) ++ ordersRead pairs)
+  abbrev pub rows_written : List Row
+  rows_written = sheet 0 ∷ (messages_from S 0 S.count ++ orders_read pairs)
 
-  all-rows : AllRows pairs
-  all-rows x y h = listed-written S x y .0 h
+  all_rows : AllRows pairs
+  all_rows x y h = (listed_written S x y).0 h
 
-  pub messages-length : (n : ℕ) → length (messageRows S n) ≡ n
-  unfolding messageRows
-  messages-length zero = refl
-  messages-length (suc n) = simp length-append (omega (arith, messages-length n))
+  pub messages_length : (n : ℕ) → length (message_rows S n) ≡ n
+  unfolding message_rows
+  messages_length zero = refl
+  messages_length (suc n) = simp length-append (omega (arith, messages_length n))
 
-  pub rows-count : length (curedRows S) ≡ suc (S .count) + length pairs
-  unfolding curedRows
-  rows-count = simp length-append (omega (arith, messages-length (S .count), rows-length pairs))
+  pub rows_count : length (cured_rows S) ≡ suc S.count + length pairs
+  unfolding cured_rows
+  rows_count = simp length-append (omega (arith, messages_length S.count, rows_length pairs))
 
-  module _ (fits : length (curedRows S) ≤ rowsMost) where
-    sheet-taken : judged false house 0 outside (lineIn (record { letter = code "S"; one = 0; two = 0 })) ≡ ok (sheet 0, placeAt 0 [])
-    unfolding placed moved isSheet circleAt eventsTo formed among
-    sheet-taken =
-        taken 0 outside (placeAt 0 []) _ (sheet 0) (omega arith)
-        (row-read (record { letter = code "S"; one = 0; two = 0 }) (record { noSpace = refl; noLineEnd = refl; oneMost = omega arith; twoMost = omega arith }))
+  module _ (fits : length (cured_rows S) ≤ rows_most) where
+    sheet_taken : judged false house 0 outside (line_in (record { letter = code "S"; one = 0; two = 0 })) ≡ ok (sheet 0, place_at 0 [])
+    unfolding placed moved is_sheet circle_at events_to formed among
+    sheet_taken =
+        taken 0 outside (place_at 0 []) _ (sheet 0) (omega arith)
+        (row_read (record { letter = code "S"; one = 0; two = 0 }) (record { no_space = refl; no_line_end = refl; one_most = omega arith; two_most = omega arith }))
         refl refl
 
-    rows-taken : rowsFrom false house 0 outside (linesIn (curedRows S)) ≡ ok rowsWritten
-    unfolding curedRows linesIn
-    rows-taken =
-        follows 0 outside (placeAt 0 []) _ (linesIn (messageRows S (S .count) ++ orderRows pairs)) (sheet 0) (messagesFrom S 0 (S .count) ++ ordersRead pairs)
-        sheet-taken
-        (subst (λ (ms : List Written). rowsFrom false house 1 (placeAt 0 []) (linesIn (ms ++ orderRows pairs)) ≡ ok (messagesFrom S 0 (S .count) ++ ordersRead pairs))
-        (messages-from S)
-        (messages-taken (S .count) 0 pairs (zero-add (S .count)) (omega (arith, rows-count)) all-rows))
+    rows_taken : rows_from false house 0 outside (lines_in (cured_rows S)) ≡ ok rows_written
+    unfolding cured_rows lines_in
+    rows_taken =
+        follows 0 outside (place_at 0 []) _ (lines_in (message_rows S S.count ++ order_rows pairs)) (sheet 0) (messages_from S 0 S.count ++ orders_read pairs)
+        sheet_taken
+        (subst (λ (ms : List Written). rows_from false house 1 (place_at 0 []) (lines_in (ms ++ order_rows pairs)) ≡ ok (messages_from S 0 S.count ++ orders_read pairs))
+        (messages_from_holds S)
+        (messages_taken S.count 0 pairs (zero-add S.count) (omega (arith, rows_count)) all_rows))
 
     -- no row calls, and sheet 0 is there
-    no-absent-order : (present : List ℕ) (i : ℕ) (ps : List (ℕ × ℕ)) → absentCall present i (ordersRead ps) ≡ none
-    unfolding absentCall ordersRead
-    no-absent-order present i [] = refl
-    no-absent-order present i (p ∷ ps) = no-absent-order present (suc i) ps
+    no_absent_order : (present : List ℕ) (i : ℕ) (ps : List (ℕ × ℕ)) → absent_call present i (orders_read ps) ≡ none
+    unfolding absent_call orders_read
+    no_absent_order present i [] = refl
+    no_absent_order present i (p ∷ ps) = no_absent_order present (suc i) ps
 
-    no-absent : (present : List ℕ) (i k n : ℕ) (ps : List (ℕ × ℕ)) → absentCall present i (messagesFrom S k n ++ ordersRead ps) ≡ none
-    unfolding absentCall messagesFrom
-    no-absent present i k zero ps = no-absent-order present i ps
-    no-absent present i k (suc n) ps = no-absent present (suc i) (suc k) n ps
+    no_absent : (present : List ℕ) (i k n : ℕ) (ps : List (ℕ × ℕ)) → absent_call present i (messages_from S k n ++ orders_read ps) ≡ none
+    unfolding absent_call messages_from
+    no_absent present i k zero ps = no_absent_order present i ps
+    no_absent present i k (suc n) ps = no_absent present (suc i) (suc k) n ps
 
-    all-there : complete rowsWritten ≡ ok rowsWritten
-    unfolding complete opens among absentCall
-    all-there = rw (no-absent (opens rowsWritten) 1 0 (S .count) pairs)
+    all_there : complete rows_written ≡ ok rows_written
+    unfolding complete opens among absent_call
+    all_there = rw (no_absent (opens rows_written) 1 0 S.count pairs)
 
-    orders-plain : (ps : List (ℕ × ℕ)) → AllRows ps → AllPlain (orderRows ps)
-    unfolding orderRows
-    orders-plain [] all = tt
-    orders-plain (p ∷ ps) all =
-        (order-plain (p .0) (p .1) (all (p .0) (p .1) (listed-first (p .0) (p .1) ps)), orders-plain ps (λ x y h. all x y (listed-later (p .0) (p .1) x y ps h)))
+    orders_plain : (ps : List (ℕ × ℕ)) → AllRows ps → AllPlain (order_rows ps)
+    unfolding order_rows
+    orders_plain [] all = tt
+    orders_plain (p ∷ ps) all =
+        (order_plain p.0 p.1 (all p.0 p.1 (listed_first p.0 p.1 ps)), orders_plain ps (λ x y h. all x y (listed_later p.0 p.1 x y ps h)))
 
-    messages-plain : (n : ℕ) → AllPlain (messageRows S n)
-    unfolding messageRows
-    messages-plain zero = tt
-    messages-plain (suc n) = plain-append (messageRows S n) _ (messages-plain n) (message-plain n, tt)
+    messages_plain : (n : ℕ) → AllPlain (message_rows S n)
+    unfolding message_rows
+    messages_plain zero = tt
+    messages_plain (suc n) = plain_append (message_rows S n) _ (messages_plain n) (message_plain n, tt)
 
-    all-plain : AllPlain (curedRows S)
-    unfolding curedRows
-    all-plain = (
-      record { noSpace = refl; noLineEnd = refl; oneMost = omega arith; twoMost = omega arith },
-      plain-append (messageRows S (S .count)) (orderRows pairs) (messages-plain (S .count)) (orders-plain pairs all-rows),
+    all_plain : AllPlain (cured_rows S)
+    unfolding cured_rows
+    all_plain = (
+      record { no_space = refl; no_line_end = refl; one_most = omega arith; two_most = omega arith },
+      plain_append (message_rows S S.count) (order_rows pairs) (messages_plain S.count) (orders_plain pairs all_rows),
     )
 
-    pub text-short : length (curedText S) ≤ textMost
-    unfolding curedText headingText ascii
-    text-short = simp length-append (omega (arith, rows-short (curedRows S) all-plain))
+    pub text_short : length (cured_text S) ≤ text_most
+    unfolding cured_text heading_text ascii
+    text_short = simp length-append (omega (arith, rows_short (cured_rows S) all_plain))
 
-    text-some : 0 < length (curedText S)
-    unfolding curedText headingText ascii
-    text-some = simp length-append (omega arith)
+    text_some : 0 < length (cured_text S)
+    unfolding cured_text heading_text ascii
+    text_some = simp length-append (omega arith)
 
-    pub cured-read : readOf (curedText S) ≡ ok rowsWritten
-    unfolding readWith bodyOf curedText headingOf columnsOf areColumns placeOf ascii fieldsOf aheadOfField same andThen
-    cured-read =
+    pub cured_read : read_of (cured_text S) ≡ ok rows_written
+    unfolding read_with body_of cured_text heading_of columns_of are_columns place_of ascii fields_of ahead_of_field same and_then
+    cured_read =
         rw (
-          lt-ltb 0 (length (curedText S)) text-some,
-          le-leb (length (curedText S)) textMost text-short,
-          heading-line (rowsText (curedRows S)),
-          rows-lines (curedRows S) all-plain,
-          rows-taken,
-          all-there,
+          lt-ltb 0 (length (cured_text S)) text_some,
+          le-leb (length (cured_text S)) text_most text_short,
+          heading_line (rows_text (cured_rows S)),
+          rows_lines (cured_rows S) all_plain,
+          rows_taken,
+          all_there,
         )

@@ -1,10 +1,7 @@
 -- Tests over the numbers below a bound, and over the members of a list. The other files speak through these.
 -- Assumes nothing.
-use Prim.Native.Nat.{ℕ, zero, suc, _+_}
-use mathlib.Core.Bool.{Bool, true, false, not, cond, _&&_, _||_}
-use mathlib.Core.List.{List, [], _∷_}
-use mathlib.Core.Option.{Option, none, some}
-use lib.Dec.{eqb, ltb}
+use Rattle.std.specs.Prelude.{ℕ, zero, suc, ◌+◌, Bool, true, false, not, cond, ◌&&◌, ◌||◌, List, [], ◌∷◌, eqb, ltb}
+use Rattle.std.proofs.Math.Option.{Option, none, some}
 
 -- every number below n passes the test
 unfoldable pub every : ℕ → (ℕ → Bool) → Bool
@@ -16,9 +13,9 @@ unfoldable pub any : ℕ → (ℕ → Bool) → Bool
 any n p = not (every n (λ k. not (p k)))
 
 -- how many numbers below n pass the test
-unfoldable pub howMany : ℕ → (ℕ → Bool) → ℕ
-howMany zero p = 0
-howMany (suc n) p = howMany n p + cond (p n) 1 0
+unfoldable pub how_many : ℕ → (ℕ → Bool) → ℕ
+how_many zero p = 0
+how_many (suc n) p = how_many n p + cond (p n) 1 0
 
 -- the lowest number below n that passes the test
 unfoldable pub lowest : ℕ → (ℕ → Bool) → Option ℕ
@@ -31,13 +28,13 @@ among n [] = false
 among n (k ∷ ks) = eqb n k || among n ks
 
 -- the members are numbers below n, and none of them is there twice
-unfoldable pub eachOnce : ℕ → List ℕ → Bool
-eachOnce n [] = true
-eachOnce n (k ∷ ks) = ltb k n && not (among k ks) && eachOnce n ks
+unfoldable pub each_once : ℕ → List ℕ → Bool
+each_once n [] = true
+each_once n (k ∷ ks) = ltb k n && not (among k ks) && each_once n ks
 
 -- two lists of numbers are the same
 unfoldable pub same : List ℕ → List ℕ → Bool
 same [] [] = true
 same [] (b ∷ bs) = false
-same (a ∷ as′) [] = false
-same (a ∷ as′) (b ∷ bs) = eqb a b && same as′ bs
+same (a ∷ as') [] = false
+same (a ∷ as') (b ∷ bs) = eqb a b && same as' bs

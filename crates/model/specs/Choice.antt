@@ -1,36 +1,30 @@
 -- Request (c), a choice between two subprograms: the choice lists of a file, their order, the answer over all of them, and what the
 -- call promises. Assumes nothing.
-use Prim.Native.Nat.{ℕ, zero, suc, _+_, _*_, _≤_}
-use mathlib.Core.Path.{_≡_}
-use mathlib.Core.Logic.{_↔_, _⊎_}
-use mathlib.Core.Bool.{Bool, true, false, cond, _&&_, _||_}
-use mathlib.Core.List.{List, [], _∷_, _++_}
-use mathlib.Core.Option.{Option, none, some}
-use lib.Dec.{eqb, ltb}
-use lib.ListN.{length}
-use Rattle·model·specs.specs.Limits.{choicesMost, listsMost, channels, scratchLeast, traceLeast}
-use Rattle·model·specs.specs.Refusal.{Out, ok, refusal, channelRefusal, benchRefusal, choicesRefusal}
-use Rattle·model·specs.specs.Text.{Line, Columns, linesOf, headingOf}
-use Rattle·model·specs.specs.Rows.{Row, sheet, message, order, block, call, choice, rowOf}
-use Rattle·model·specs.specs.Place.{readWith}
-use Rattle·model·specs.specs.Expansion.{Progress, expand}
-use Rattle·model·specs.specs.Order.{Met, nothingMet, metOps, Scenario}
-use Rattle·model·specs.specs.Channel.{channelOf}
-use Rattle·model·specs.specs.Run.{Step, IsOrder, EndsStuck, CanFinish}
-use Rattle·model·specs.specs.Answer.{free, locked, refused, expandedWith, exchangeWith, answerFor, scratchBehind, traceAfter, Numbers, freeWord, lockedWord, refusedWord}
-use Rattle·model·specs.specs.Verdict.{IsMet, Verdict, Checked}
+use Rattle.std.specs.Prelude.{ℕ, zero, suc, ◌+◌, ◌*◌, ◌≤◌, ◌≡◌, ◌↔◌, ◌⊎◌, Bool, true, false, cond, ◌&&◌, ◌||◌, List, [], ◌∷◌, ◌++◌, eqb, ltb, length}
+use Rattle.std.proofs.Math.Option.{Option, none, some}
+use Rattle.model.specs.Limits.{choices_most, lists_most, channels, scratch_least, trace_least}
+use Rattle.model.specs.Refusal.{Out, ok, refusal, channel_refusal, bench_refusal, choices_refusal}
+use Rattle.model.specs.Text.{Line, Columns, lines_of, heading_of}
+use Rattle.model.specs.Rows.{Row, sheet, message, order, block, call, choice, row_of}
+use Rattle.model.specs.Place.{read_with}
+use Rattle.model.specs.Expansion.{Progress, expand}
+use Rattle.model.specs.Order.{Met, nothing_met, met_ops, Scenario}
+use Rattle.model.specs.Channel.{channel_of}
+use Rattle.model.specs.Run.{Step, IsOrder, EndsStuck, CanFinish}
+use Rattle.model.specs.Answer.{free, locked, refused, expanded_with, exchange_with, answer_for, scratch_behind, trace_after, Numbers, free_word, locked_word, refused_word}
+use Rattle.model.specs.Verdict.{IsMet, Verdict, Checked}
 
 -- A choice list fixes one option for each A row `A m n` as the walk meets it: false is m, true is n.
 
 -- a walk is refused with 13: it met an A row that its list has no option for
-unfoldable pub isAsked : {T : Type 0} → Out T → Bool
-isAsked (ok t) = false
-isAsked (refusal number line) = eqb number choicesRefusal
+unfoldable pub is_asked : {T : Type 0} → Out T → Bool
+is_asked (ok t) = false
+is_asked (refusal number line) = eqb number choices_refusal
 
 module _ (file : List Row) where
   -- the walk with these options, fewer than eight, asks for one more
   unfoldable pub asks : List Bool → Bool
-  asks l = ltb (length l) choicesMost && isAsked (exchangeWith l file)
+  asks l = ltb (length l) choices_most && is_asked (exchange_with l file)
 
   -- the beginnings of choice lists: nothing is fixed yet; and where the walk asks, either option more
   pub data Beginning : List Bool → Type 0 where
@@ -43,17 +37,17 @@ module _ (file : List Row) where
     pub whole : asks l ≡ false
 
   -- the lists that begin with l, with so many options left to take, in their order
-  unfoldable pub listsFrom : ℕ → List Bool → List (List Bool)
-  listsFrom zero l = l ∷ []
-  listsFrom (suc left) l =
+  unfoldable pub lists_from : ℕ → List Bool → List (List Bool)
+  lists_from zero l = l ∷ []
+  lists_from (suc left) l =
       elim (asks l) [
-        | true ↦ listsFrom left (l ++ (false ∷ [])) ++ listsFrom left (l ++ (true ∷ []))
+        | true ↦ lists_from left (l ++ (false ∷ [])) ++ lists_from left (l ++ (true ∷ []))
         | false ↦ l ∷ []
       ]
 
   -- all choice lists of the file
-  unfoldable pub listsOf : List (List Bool)
-  listsOf = listsFrom choicesMost []
+  unfoldable pub lists_of : List (List Bool)
+  lists_of = lists_from choices_most []
 
 -- The order of the lists: the earlier A row decides first, and m is ahead of n.
 abbrev pub Ahead : List Bool → List Bool → Type 0
@@ -77,57 +71,57 @@ InOrder (l ∷ ls) = ((k : List Bool) → Among k ls → Ahead l k) × InOrder l
 -- These are exactly the choice lists of the file, in that order, each once, at most 256.
 pub record AllLists (file : List Row) (ls : List (List Bool)) : Type 0 where
   pub each : (l : List Bool) → Among l ls ↔ ChoiceList file l
-  pub inOrder : InOrder ls
+  pub in_order : InOrder ls
   -- no list is ahead of itself, so none stands there twice
   pub once : (l : List Bool) → Ahead l l → ⊥
-  pub few : length ls ≤ listsMost
+  pub few : length ls ≤ lists_most
   -- a list fixes one option for each A row that its walk meets
-  pub eachMet : (l : List Bool) → ChoiceList file l → (s : Progress Met) → expand metOps l file nothingMet ≡ ok s → s .walk .choices ≡ length l
+  pub each_met : (l : List Bool) → ChoiceList file l → (s : Progress Met) → expand met_ops l file nothing_met ≡ ok s → s.walk.choices ≡ length l
 
 -- Each list gives a free sheet; or the first locked list, its race and its steps; or a refusal's number and line.
 pub data ChoiceAnswer : Type 0 where
-  eachFree : ChoiceAnswer
-  firstLocked : List Bool → ℕ → ℕ → List Step → ChoiceAnswer
-  firstRefused : ℕ → ℕ → ChoiceAnswer
+  each_free : ChoiceAnswer
+  first_locked : List Bool → ℕ → ℕ → List Step → ChoiceAnswer
+  first_refused : ℕ → ℕ → ChoiceAnswer
 
 module _ (file : List Row) where
   -- the refusal of the first refused list
-  unfoldable pub refusalIn : List (List Bool) → Option (ℕ × ℕ)
-  refusalIn [] = none
-  refusalIn (l ∷ ls) = elim (expandedWith l file) [ ok S ↦ refusalIn ls | refusal number line ↦ some (number, line) ]
+  unfoldable pub refusal_in : List (List Bool) → Option (ℕ × ℕ)
+  refusal_in [] = none
+  refusal_in (l ∷ ls) = elim (expanded_with l file) [ ok S ↦ refusal_in ls | refusal number line ↦ some (number, line) ]
 
   -- the first locked list
-  unfoldable pub lockIn : ℕ → List (List Bool) → ChoiceAnswer
-  lockIn code [] = eachFree
-  lockIn code (l ∷ ls) =
-      elim (answerFor (expandedWith l file) code) [
-        | free ↦ lockIn code ls
-        | locked e x ts ↦ firstLocked l e x ts
-        | refused number line ↦ lockIn code ls
+  unfoldable pub lock_in : ℕ → List (List Bool) → ChoiceAnswer
+  lock_in code [] = each_free
+  lock_in code (l ∷ ls) =
+      elim (answer_for (expanded_with l file) code) [
+        | free ↦ lock_in code ls
+        | locked e x ts ↦ first_locked l e x ts
+        | refused number line ↦ lock_in code ls
       ]
 
   -- the answer over the lists: a refusal in any of them comes before any lock
-  unfoldable pub judgedOver : ℕ → List (List Bool) → ChoiceAnswer
-  judgedOver code ls = elim (refusalIn ls) [ none ↦ lockIn code ls | some r ↦ firstRefused (r .0) (r .1) ]
+  unfoldable pub judged_over : ℕ → List (List Bool) → ChoiceAnswer
+  judged_over code ls = elim (refusal_in ls) [ none ↦ lock_in code ls | some r ↦ first_refused r.0 r.1 ]
 
 -- the rows, A rows let through, unless refusal 1, 2 or one of reading applies
 unfoldable pub choosable : List ℕ → ℕ → ℕ → ℕ → Out (List Row)
-choosable text code scratchLength traceLength =
+choosable text code scratch_length trace_length =
     cond (ltb code channels)
-    (cond (ltb scratchLength scratchLeast || ltb traceLength traceLeast) (refusal benchRefusal 0) (readWith true text))
-    (refusal channelRefusal 0)
+    (cond (ltb scratch_length scratch_least || ltb trace_length trace_least) (refusal bench_refusal 0) (read_with true text))
+    (refusal channel_refusal 0)
 
-unfoldable pub choiceAnswerFor : Out (List Row) → ℕ → ChoiceAnswer
-choiceAnswerFor (ok file) code = judgedOver file code (listsOf file)
-choiceAnswerFor (refusal number line) code = firstRefused number line
+unfoldable pub choice_answer_for : Out (List Row) → ℕ → ChoiceAnswer
+choice_answer_for (ok file) code = judged_over file code (lists_of file)
+choice_answer_for (refusal number line) code = first_refused number line
 
-unfoldable pub choiceAnswerOf : List ℕ → ℕ → ℕ → ℕ → ChoiceAnswer
-choiceAnswerOf text code scratchLength traceLength = choiceAnswerFor (choosable text code scratchLength traceLength) code
+unfoldable pub choice_answer_of : List ℕ → ℕ → ℕ → ℕ → ChoiceAnswer
+choice_answer_of text code scratch_length trace_length = choice_answer_for (choosable text code scratch_length trace_length) code
 
 -- the number of a list, with bit k set where its A row k (from 0) takes n
-unfoldable pub choicesNumber : List Bool → ℕ
-choicesNumber [] = 0
-choicesNumber (b ∷ l) = cond b 1 0 + 2 * choicesNumber l
+unfoldable pub choices_number : List Bool → ℕ
+choices_number [] = 0
+choices_number (b ∷ l) = cond b 1 0 + 2 * choices_number l
 
 -- The word of an answer, as the check's, the three numbers behind it, and the length and the number of the list.
 pub record ChoiceNumbers : Type 0 where
@@ -138,107 +132,107 @@ pub record ChoiceNumbers : Type 0 where
   pub options : ℕ
   pub choices : ℕ
 
-abbrev pub choiceNumbers : ChoiceAnswer → ChoiceNumbers
-choiceNumbers eachFree = record { word = freeWord; one = 0; two = 0; three = 0; options = 0; choices = 0 }
-choiceNumbers (firstLocked l e x ts) =
-    record { word = lockedWord; one = e; two = x; three = length ts; options = length l; choices = choicesNumber l }
-choiceNumbers (firstRefused number line) = record { word = refusedWord; one = number; two = line; three = 0; options = 0; choices = 0 }
+abbrev pub choice_numbers : ChoiceAnswer → ChoiceNumbers
+choice_numbers each_free = record { word = free_word; one = 0; two = 0; three = 0; options = 0; choices = 0 }
+choice_numbers (first_locked l e x ts) =
+    record { word = locked_word; one = e; two = x; three = length ts; options = length l; choices = choices_number l }
+choice_numbers (first_refused number line) = record { word = refused_word; one = number; two = line; three = 0; options = 0; choices = 0 }
 
 -- without those of the list
-abbrev pub firstFour : ChoiceNumbers → Numbers
-firstFour r = record { word = r .word; one = r .one; two = r .two; three = r .three }
+abbrev pub first_four : ChoiceNumbers → Numbers
+first_four r = record { word = r.word; one = r.one; two = r.two; three = r.three }
 
 -- the trace buffer changes only on "locked", in the bytes of the steps reported
-unfoldable pub traceChosen : ChoiceAnswer → List ℕ → List ℕ
-traceChosen eachFree trace = trace
-traceChosen (firstLocked l e x ts) trace = traceAfter (locked e x ts) trace
-traceChosen (firstRefused number line) trace = trace
+unfoldable pub trace_chosen : ChoiceAnswer → List ℕ → List ℕ
+trace_chosen each_free trace = trace
+trace_chosen (first_locked l e x ts) trace = trace_after (locked e x ts) trace
+trace_chosen (first_refused number line) trace = trace
 
 -- A file without A rows: no line behind the heading reads as one.
-unfoldable pub isChoice : Row → Bool
-isChoice (sheet n) = false
-isChoice (message a b) = false
-isChoice (order x y) = false
-isChoice block = false
-isChoice (call n) = false
-isChoice (choice m n) = true
+unfoldable pub is_choice : Row → Bool
+is_choice (sheet n) = false
+is_choice (message a b) = false
+is_choice (order x y) = false
+is_choice block = false
+is_choice (call n) = false
+is_choice (choice m n) = true
 
 -- no row is an A row
 abbrev pub Plain : List Row → Type 0
 Plain [] = Unit {0}
-Plain (r ∷ rs) = (isChoice r ≡ false) × Plain rs
+Plain (r ∷ rs) = (is_choice r ≡ false) × Plain rs
 
-unfoldable pub readsAsChoice : Columns → Line → Bool
-readsAsChoice c l = elim (rowOf true c l) [ none ↦ false | some r ↦ isChoice r ]
+unfoldable pub reads_as_choice : Columns → Line → Bool
+reads_as_choice c l = elim (row_of true c l) [ none ↦ false | some r ↦ is_choice r ]
 
-unfoldable pub anyChoice : Columns → List Line → Bool
-anyChoice c [] = false
-anyChoice c (l ∷ ls) = readsAsChoice c l || anyChoice c ls
+unfoldable pub any_choice : Columns → List Line → Bool
+any_choice c [] = false
+any_choice c (l ∷ ls) = reads_as_choice c l || any_choice c ls
 
-unfoldable pub choicesBehind : List Line → Bool
-choicesBehind [] = false
-choicesBehind (h ∷ ls) = elim (headingOf h) [ none ↦ false | some c ↦ anyChoice c ls ]
+unfoldable pub choices_behind : List Line → Bool
+choices_behind [] = false
+choices_behind (h ∷ ls) = elim (heading_of h) [ none ↦ false | some c ↦ any_choice c ls ]
 
-unfoldable pub hasChoices : List ℕ → Bool
-hasChoices text = choicesBehind (linesOf text)
+unfoldable pub has_choices : List ℕ → Bool
+has_choices text = choices_behind (lines_of text)
 
 -- What the answer says, for a file, a code and the lists of the file.
 module _ (file : List Row) (code : ℕ) where
   -- on this list some allowed order ends stuck
   pub record Sticking (l : List Bool) : Type 0 where
     pub scenario : Scenario
-    pub isScenario : expandedWith l file ≡ ok scenario
+    pub is_scenario : expanded_with l file ≡ ok scenario
     pub steps : List Step
-    pub endsStuck : EndsStuck scenario (channelOf code) steps
+    pub ends_stuck : EndsStuck scenario (channel_of code) steps
 
   -- on this list every allowed order, the empty one too, can be carried on until all is consumed
   pub record Finishing (l : List Bool) : Type 0 where
     pub scenario : Scenario
-    pub isScenario : expandedWith l file ≡ ok scenario
-    pub finishes : (ts : List Step) → IsOrder scenario (channelOf code) ts → CanFinish scenario (channelOf code) ts
+    pub is_scenario : expanded_with l file ≡ ok scenario
+    pub finishes : (ts : List Step) → IsOrder scenario (channel_of code) ts → CanFinish scenario (channel_of code) ts
 
   -- the list is refused with this number and line, and no list ahead of it is refused
   pub record FirstRefused (number line : ℕ) : Type 0 where
     pub list : List Bool
-    pub isList : ChoiceList file list
-    pub isRefused : expandedWith list file ≡ refusal number line
-    pub noneAhead : (k : List Bool) → ChoiceList file k → Ahead k list → (S : Scenario) × (expandedWith k file ≡ ok S)
+    pub is_list : ChoiceList file list
+    pub is_refused : expanded_with list file ≡ refusal number line
+    pub none_ahead : (k : List Bool) → ChoiceList file k → Ahead k list → (S : Scenario) × (expanded_with k file ≡ ok S)
 
   -- the list named is locked, with its lowest race and with steps that are an allowed order of its scenario and end stuck; and no list
   -- ahead of it is locked
   pub record FirstLocked (r : ChoiceNumbers) (trace : List ℕ) : Type 0 where
     pub list : List Bool
-    pub isList : ChoiceList file list
-    pub listLength : length list ≡ r .options
-    pub listNumber : choicesNumber list ≡ r .choices
+    pub is_list : ChoiceList file list
+    pub list_length : length list ≡ r.options
+    pub list_number : choices_number list ≡ r.choices
     pub scenario : Scenario
-    pub isScenario : expandedWith list file ≡ ok scenario
-    pub verdict : Verdict scenario code (firstFour r) trace
-    pub noneAhead : (k : List Bool) → ChoiceList file k → Ahead k list → Finishing k
+    pub is_scenario : expanded_with list file ≡ ok scenario
+    pub verdict : Verdict scenario code (first_four r) trace
+    pub none_ahead : (k : List Bool) → ChoiceList file k → Ahead k list → Finishing k
 
   pub record ChoiceVerdict (r : ChoiceNumbers) (trace : List ℕ) : Type 0 where
-    pub lists : AllLists file (listsOf file)
+    pub lists : AllLists file (lists_of file)
     -- a list's scenario is what its walk meets, with "before" the paper's relation
-    pub causalOrder : (l : List Bool) (S : Scenario) → expandedWith l file ≡ ok S → IsMet (exchangeWith l file) S
+    pub causal_order : (l : List Bool) (S : Scenario) → expanded_with l file ≡ ok S → IsMet (exchange_with l file) S
     -- refused exactly if some list is, and then as the first one is
-    pub refusedWhen : (r .word ≡ refusedWord)
-        ↔ ((l : List Bool) × (number : ℕ) × (line : ℕ) × ChoiceList file l × (expandedWith l file ≡ refusal number line))
-    pub refusedFirst : r .word ≡ refusedWord → FirstRefused (r .one) (r .two)
+    pub refused_when : (r.word ≡ refused_word)
+        ↔ ((l : List Bool) × (number : ℕ) × (line : ℕ) × ChoiceList file l × (expanded_with l file ≡ refusal number line))
+    pub refused_first : r.word ≡ refused_word → FirstRefused r.one r.two
     -- locked exactly if none is refused and for some list some allowed order of its scenario ends stuck
-    pub lockedWhen : (r .word ≡ lockedWord)
-        ↔ (((l : List Bool) → ChoiceList file l → (S : Scenario) × (expandedWith l file ≡ ok S)) × ((l : List Bool) × ChoiceList file l × Sticking l))
-    pub lockedFirst : r .word ≡ lockedWord → FirstLocked r trace
+    pub locked_when : (r.word ≡ locked_word)
+        ↔ (((l : List Bool) → ChoiceList file l → (S : Scenario) × (expanded_with l file ≡ ok S)) × ((l : List Bool) × ChoiceList file l × Sticking l))
+    pub locked_first : r.word ≡ locked_word → FirstLocked r trace
     -- free exactly if for every list every allowed order can be carried on until all is consumed
-    pub freeWhen : (r .word ≡ freeWord) ↔ ((l : List Bool) → ChoiceList file l → Finishing l)
+    pub free_when : (r.word ≡ free_word) ↔ ((l : List Bool) → ChoiceList file l → Finishing l)
 
 -- What a call gives, from what it was lent: the text, the code, and the scratch and the trace at entry.
-pub record ChoiceChecked (text : List ℕ) (code : ℕ) (scratch scratchExit trace traceExit : List ℕ) (r : ChoiceNumbers) : Type 0 where
+pub record ChoiceChecked (text : List ℕ) (code : ℕ) (scratch scratch_exit trace trace_exit : List ℕ) (r : ChoiceNumbers) : Type 0 where
   -- the answer is the request's, and the buffers are left as the check leaves them
-  pub answer : r ≡ choiceNumbers (choiceAnswerOf text code (length scratch) (length trace))
-  pub scratchLeft : scratchExit ≡ scratchBehind (choosable text code (length scratch) (length trace)) scratch
-  pub traceLeft : traceExit ≡ traceChosen (choiceAnswerOf text code (length scratch) (length trace)) trace
+  pub answer : r ≡ choice_numbers (choice_answer_of text code (length scratch) (length trace))
+  pub scratch_left : scratch_exit ≡ scratch_behind (choosable text code (length scratch) (length trace)) scratch
+  pub trace_left : trace_exit ≡ trace_chosen (choice_answer_of text code (length scratch) (length trace)) trace
   -- where the text is read, the answer is right for every choice list, over whole orders
-  pub verdict : (file : List Row) → choosable text code (length scratch) (length trace) ≡ ok file → ChoiceVerdict file code r traceExit
+  pub verdict : (file : List Row) → choosable text code (length scratch) (length trace) ≡ ok file → ChoiceVerdict file code r trace_exit
   -- on a file without A rows the call gives what the check gives, and no list
-  pub withoutChoices : hasChoices text ≡ false
-      → Checked text code scratch scratchExit trace traceExit (firstFour r) × (r .options ≡ 0) × (r .choices ≡ 0)
+  pub without_choices : has_choices text ≡ false
+      → Checked text code scratch scratch_exit trace trace_exit (first_four r) × (r.options ≡ 0) × (r.choices ≡ 0)

@@ -1,12 +1,8 @@
 -- "The sheet file": the five forms of a row, and the A row of request (c). Assumes nothing.
-use Prim.Native.Nat.{ℕ}
+use Rattle.std.specs.Prelude.{ℕ, Bool, cond, ◌&&◌, List, [], ◌∷◌, eqb, length, get_or}
 use Prim.Native.Char.{code}
-use mathlib.Core.Bool.{Bool, cond, _&&_}
-use mathlib.Core.List.{List, [], _∷_}
-use mathlib.Core.Option.{Option, none, some}
-use lib.Dec.{eqb}
-use lib.ListN.{length, getD}
-use Rattle·model·specs.specs.Text.{Line, Columns, fieldsOf, numberOf}
+use Rattle.std.proofs.Math.Option.{Option, none, some}
+use Rattle.model.specs.Text.{Line, Columns, fields_of, number_of}
 
 -- `S n 0`, `M a b`, `P x y`, `B 0 0`, `C n 0`; and `A m n`, a choice between two subprograms
 pub data Row : Type 0 where
@@ -28,16 +24,16 @@ formed choices kind one two =
     (cond (choices && eqb kind (code "A")) (some (choice one two)) none)))))
 
 -- kind is one letter, the other two are numbers
-unfoldable pub fromFields : Bool → List ℕ → Option ℕ → Option ℕ → Option Row
-fromFields choices [] one two = none
-fromFields choices (k ∷ []) none two = none
-fromFields choices (k ∷ []) (some a) none = none
-fromFields choices (k ∷ []) (some a) (some b) = formed choices k a b
-fromFields choices (k ∷ l ∷ ls) one two = none
+unfoldable pub from_fields : Bool → List ℕ → Option ℕ → Option ℕ → Option Row
+from_fields choices [] one two = none
+from_fields choices (k ∷ []) none two = none
+from_fields choices (k ∷ []) (some a) none = none
+from_fields choices (k ∷ []) (some a) (some b) = formed choices k a b
+from_fields choices (k ∷ l ∷ ls) one two = none
 
 -- a row: three fields in the heading's order, one space between, and its line end; nothing else is one (refusal 5)
-unfoldable pub rowOf : Bool → Columns → Line → Option Row
-rowOf choices c l =
-    let fs = fieldsOf (l .bytes) in
-    cond (l .ended && eqb (length fs) 3)
-    (fromFields choices (getD fs (c .kind) []) (numberOf (getD fs (c .one) [])) (numberOf (getD fs (c .two) []))) none
+unfoldable pub row_of : Bool → Columns → Line → Option Row
+row_of choices c l =
+    let fs = fields_of l.bytes in
+    cond (l.ended && eqb (length fs) 3)
+    (from_fields choices (get_or fs c.kind []) (number_of (get_or fs c.one [])) (number_of (get_or fs c.two []))) none

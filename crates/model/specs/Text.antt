@@ -1,15 +1,11 @@
 -- "The sheet file": a text's lines, a line's fields, numbers, and the heading.
 -- A text is the list of its bytes. Assumes nothing.
-use Prim.Native.Nat.{ℕ, suc, _+_, _*_, _-_}
-use Prim.Native.String.{String, [] as []ˢ, _∷_ as _∷ˢ_}
+use Rattle.std.specs.Prelude.{ℕ, suc, ◌+◌, ◌*◌, ◌-◌, Bool, true, false, not, cond, ◌&&◌, List, [], ◌∷◌, eqb, leb, ltb, length}
+use Prim.Native.String.{String, [] as []ˢ, ◌∷◌ as ◌∷ˢ◌}
 use Prim.Native.Char.{code}
-use mathlib.Core.Bool.{Bool, true, false, not, cond, _&&_}
-use mathlib.Core.List.{List, [], _∷_}
-use mathlib.Core.Option.{Option, none, some}
-use lib.Dec.{eqb, leb, ltb}
-use lib.ListN.{length}
-use Rattle·model·specs.specs.Limits.{numberMost}
-use Rattle·model·specs.specs.Bounded.{same}
+use Rattle.std.proofs.Math.Option.{Option, none, some}
+use Rattle.model.specs.Limits.{number_most}
+use Rattle.model.specs.Bounded.{same}
 
 -- the bytes of a word in quotes
 unfoldable pub ascii : String → List ℕ
@@ -17,8 +13,8 @@ ascii []ˢ = []
 ascii (c ∷ˢ s) = code c ∷ ascii s
 
 -- Byte 10 ends a line, and byte 32 stands between two fields.
-abbrev pub lineEnd : ℕ
-lineEnd = 10
+abbrev pub line_end : ℕ
+line_end = 10
 
 abbrev pub space : ℕ
 space = 32
@@ -28,31 +24,31 @@ pub record Line : Type 0 where
   pub bytes : List ℕ
   pub ended : Bool
 
-unfoldable pub aheadOfLine : ℕ → List Line → List Line
-aheadOfLine b [] = record { bytes = b ∷ []; ended = false } ∷ []
-aheadOfLine b (l ∷ ls) = record { bytes = b ∷ l .bytes; ended = l .ended } ∷ ls
+unfoldable pub ahead_of_line : ℕ → List Line → List Line
+ahead_of_line b [] = record { bytes = b ∷ []; ended = false } ∷ []
+ahead_of_line b (l ∷ ls) = record { bytes = b ∷ l.bytes; ended = l.ended } ∷ ls
 
 -- each line is ended by byte 10, and a byte 10 at the end of the text begins no further line
-unfoldable pub linesOf : List ℕ → List Line
-linesOf [] = []
-linesOf (b ∷ text) = cond (eqb b lineEnd) (record { bytes = []; ended = true } ∷ linesOf text) (aheadOfLine b (linesOf text))
+unfoldable pub lines_of : List ℕ → List Line
+lines_of [] = []
+lines_of (b ∷ text) = cond (eqb b line_end) (record { bytes = []; ended = true } ∷ lines_of text) (ahead_of_line b (lines_of text))
 
-unfoldable pub aheadOfField : ℕ → List (List ℕ) → List (List ℕ)
-aheadOfField b [] = (b ∷ []) ∷ []
-aheadOfField b (f ∷ fs) = (b ∷ f) ∷ fs
+unfoldable pub ahead_of_field : ℕ → List (List ℕ) → List (List ℕ)
+ahead_of_field b [] = (b ∷ []) ∷ []
+ahead_of_field b (f ∷ fs) = (b ∷ f) ∷ fs
 
 -- the fields of a line: one more than it has spaces, so that two spaces together make an empty field
-unfoldable pub fieldsOf : List ℕ → List (List ℕ)
-fieldsOf [] = [] ∷ []
-fieldsOf (b ∷ bytes) = cond (eqb b space) ([] ∷ fieldsOf bytes) (aheadOfField b (fieldsOf bytes))
+unfoldable pub fields_of : List ℕ → List (List ℕ)
+fields_of [] = [] ∷ []
+fields_of (b ∷ bytes) = cond (eqb b space) ([] ∷ fields_of bytes) (ahead_of_field b (fields_of bytes))
 
 -- Numbers are decimal, without leading zeros.
-abbrev pub isDigit : ℕ → Bool
-isDigit b = leb 48 b && leb b 57
+abbrev pub is_digit : ℕ → Bool
+is_digit b = leb 48 b && leb b 57
 
-unfoldable pub digitsOnly : List ℕ → Bool
-digitsOnly [] = true
-digitsOnly (d ∷ ds) = isDigit d && digitsOnly ds
+unfoldable pub digits_only : List ℕ → Bool
+digits_only [] = true
+digits_only (d ∷ ds) = is_digit d && digits_only ds
 
 -- the value of the digits, behind digits of value n
 unfoldable pub decimal : ℕ → List ℕ → ℕ
@@ -60,18 +56,18 @@ decimal n [] = n
 decimal n (d ∷ ds) = decimal (n * 10 + (d - 48)) ds
 
 -- some digits, the first of them 0 only where it is the only one
-unfoldable pub wellBegun : List ℕ → Bool
-wellBegun [] = false
-wellBegun (d ∷ []) = true
-wellBegun (d ∷ e ∷ ds) = not (eqb d 48)
+unfoldable pub well_begun : List ℕ → Bool
+well_begun [] = false
+well_begun (d ∷ []) = true
+well_begun (d ∷ e ∷ ds) = not (eqb d 48)
 
 -- the number that a field holds, 0 to the largest
-unfoldable pub numberUpTo : ℕ → List ℕ → Option ℕ
-numberUpTo most f = cond (wellBegun f && digitsOnly f && leb (decimal 0 f) most) (some (decimal 0 f)) none
+unfoldable pub number_up_to : ℕ → List ℕ → Option ℕ
+number_up_to most f = cond (well_begun f && digits_only f && leb (decimal 0 f) most) (some (decimal 0 f)) none
 
--- a number of a sheet file, 0 to `numberMost`
-abbrev pub numberOf : List ℕ → Option ℕ
-numberOf f = numberUpTo numberMost f
+-- a number of a sheet file, 0 to `number_most`
+abbrev pub number_of : List ℕ → Option ℕ
+number_of f = number_up_to number_most f
 
 -- The heading: which field of each row is its kind, its one and its two.
 pub record Columns : Type 0 where
@@ -80,18 +76,18 @@ pub record Columns : Type 0 where
   pub two : ℕ
 
 -- the place of a name among the fields; their number where it is not among them
-unfoldable pub placeOf : List ℕ → List (List ℕ) → ℕ
-placeOf name [] = 0
-placeOf name (f ∷ fs) = cond (same name f) 0 (suc (placeOf name fs))
+unfoldable pub place_of : List ℕ → List (List ℕ) → ℕ
+place_of name [] = 0
+place_of name (f ∷ fs) = cond (same name f) 0 (suc (place_of name fs))
 
-unfoldable pub columnsOf : List (List ℕ) → Columns
-columnsOf fs = record { kind = placeOf (ascii "kind") fs; one = placeOf (ascii "one") fs; two = placeOf (ascii "two") fs }
+unfoldable pub columns_of : List (List ℕ) → Columns
+columns_of fs = record { kind = place_of (ascii "kind") fs; one = place_of (ascii "one") fs; two = place_of (ascii "two") fs }
 
 -- three fields, and each of the three names among them
-unfoldable pub areColumns : Columns → Bool
-areColumns c = ltb (c .kind) 3 && ltb (c .one) 3 && ltb (c .two) 3
+unfoldable pub are_columns : Columns → Bool
+are_columns c = ltb c.kind 3 && ltb c.one 3 && ltb c.two 3
 
-unfoldable pub headingOf : Line → Option Columns
-headingOf l =
-    let fs = fieldsOf (l .bytes) in
-    cond (l .ended && eqb (length fs) 3 && areColumns (columnsOf fs)) (some (columnsOf fs)) none
+unfoldable pub heading_of : Line → Option Columns
+heading_of l =
+    let fs = fields_of l.bytes in
+    cond (l.ended && eqb (length fs) 3 && are_columns (columns_of fs)) (some (columns_of fs)) none

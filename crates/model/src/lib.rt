@@ -1,5 +1,6 @@
 // The model is the definitions of specs/ and the theorems of proofs/. What stands here are its limits, for the code to use:
 // each is a number of specs/Limits, Place, Refusal or Waits, and a proof that uses one ties the two together.
+#![tactic(auto)]
 
 // The sheet file: bytes, rows, the largest number of a field, sheets, boards.
 pub const TEXT_MOST: usize = 8192;

@@ -1,27 +1,25 @@
 // A live monitor: a run's state between calls, with the channel code in force. Each call hands the next monitor back.
-ghost use mathlib.Core.Path.{_≡_};
-ghost use Prim.Native.Nat.{_*_, _^_, _<_};
-ghost use lib.ListN.{length};
-ghost use Rattle·model.specs.Limits.{channels, messagesMost};
-ghost use Rattle·model.specs.Answer.{sheetOf};
-ghost use Rattle·model.specs.Monitor.{Opened, Stepped, Switched, WholeLists};
-ghost use Rattle·relation.specs.Width.{width};
-ghost use Rattle·relation.specs.Scenario.{scenarioIn};
-ghost use Rattle·scenario.specs.Contract.{Fit};
-ghost use Rattle·step.specs.Steps.{stepOrNone};
-ghost use Rattle·monitor·specs.specs.Bridge.{heldIn, monitorOf, zeros, answerIn, refusedAs, forbiddenAs, takenAs, Begins, Takes, Steps, Switches};
-use answer_words::monitored::FORBIDDEN;
-use answer_words::monitored::REFUSED;
-use answer_words::monitored::TAKEN;
+#![tactic(auto)]
+
+ghost use Rattle.std.specs.Prelude.{◌≡◌, ◌*◌, ◌^◌, ◌<◌, length};
+ghost use Rattle.model.specs.Limits.{channels, messages_most};
+ghost use Rattle.model.specs.Answer.{sheet_of};
+ghost use Rattle.model.specs.Monitor.{Opened, Stepped, Switched, WholeLists};
+ghost use Rattle.relation.specs.Width.{width};
+ghost use Rattle.relation.specs.Scenario.{scenario_in};
+ghost use Rattle.scenario.specs.Contract.{Fit};
+ghost use Rattle.step.specs.Steps.{step_or_none};
+ghost use Rattle.monitor.specs.Bridge.{held_in, monitor_of, zeros, answer_in, refused_as, forbidden_as, taken_as, Begins, Takes, Steps, Switches};
+
+use answer_words::monitored::{FORBIDDEN, REFUSED, TAKEN};
 use expansion::Expanded;
 use relation::WIDTH;
-use run::Buffer;
-use run::Run;
-use step::Step;
-use step::StepOrNone;
+use run::{Buffer, Run};
+use step::{Step, StepOrNone};
 
 // The state of a run, and the channel code in force.
 #[repr(C)]
+#[derive(Clone, Copy)]
 pub struct Monitor {
     pub run: Run,
     pub code: u32,
@@ -29,6 +27,7 @@ pub struct Monitor {
 
 // word 0 taken, 1 forbidden, 2 refused (one is the number, two the line); and the monitor to go on with.
 #[repr(C)]
+#[derive(Clone, Copy)]
 pub struct MonitorAnswer {
     pub word: u32,
     pub one: u32,
@@ -38,8 +37,8 @@ pub struct MonitorAnswer {
 
 // Refused, with number and line, and a monitor handed back.
 fn refused(next: Monitor, number: u8, line: usize) -> MonitorAnswer
-    requires { ⌜ line < 2 ^ 32 ⌝ }
-    ensures { λ r. ⌜ answerIn r ≡ refusedAs number line next ⌝ }
+    requires { line < 2 ^ 32 }
+    ensures { answer_in result ≡ refused_as number line next }
 {
     MonitorAnswer {
         word: REFUSED,
@@ -51,7 +50,7 @@ fn refused(next: Monitor, number: u8, line: usize) -> MonitorAnswer
 
 // A step that the rule forbids leaves the monitor as it was.
 fn forbidden(same: Monitor) -> MonitorAnswer
-    ensures { λ r. ⌜ answerIn r ≡ forbiddenAs same ⌝ }
+    ensures { answer_in result ≡ forbidden_as same }
 {
     MonitorAnswer {
         word: FORBIDDEN,
@@ -63,7 +62,7 @@ fn forbidden(same: Monitor) -> MonitorAnswer
 
 // Opened, stepped or switched.
 fn taken(run: Run, code: u32) -> MonitorAnswer
-    ensures { λ r. ⌜ answerIn r ≡ takenAs run code ⌝ }
+    ensures { answer_in result ≡ taken_as run code }
 {
     let next = Monitor { run, code };
     MonitorAnswer {
@@ -76,7 +75,7 @@ fn taken(run: Run, code: u32) -> MonitorAnswer
 
 // What a refused opening hands back: all zeros.
 fn zero() -> Monitor
-    ensures { λ r. ⌜ r ≡ zeros 0 ⌝ }
+    ensures { result ≡ zeros 0 }
 {
     Monitor {
         run: Run {
@@ -90,8 +89,8 @@ fn zero() -> Monitor
 
 // A text that is a sheet, with a code that is a channel's: a run at its start.
 fn begin(text: &[u8], code: u32, words: &mut [u64]) -> MonitorAnswer
-    requires { ⌜ length (now words) ≡ 2 * messagesMost * width ⌝ }
-    ensures { λ r. ⌜ Begins (sheetOf (now (text .entry))) code (answerIn r) ⌝ }
+    requires { length words.old ≡ 2 * messages_most * width }
+    ensures { Begins (sheet_of text.now) code (answer_in result) }
 {
     let mut boards = [0u8; model::EVENTS_MOST];
     let outcome = scenario::scenario_of(text, &mut boards, words);
@@ -104,9 +103,9 @@ fn begin(text: &[u8], code: u32, words: &mut [u64]) -> MonitorAnswer
 impl Monitor {
     // The step told, by the rules of the scenario under the code in force.
     fn take(self, told: StepOrNone, words: &[u64], boards: &[u8], count: usize) -> MonitorAnswer
-        requires { ⌜ Fit count (now boards) (now words) ⌝ }
-        requires { ⌜ self .code < channels ⌝ }
-        ensures { λ r. ⌜ Takes (scenarioIn count (now (boards .entry)) (now (words .entry))) self (stepOrNone told) (answerIn r) ⌝ }
+        requires fit { Fit count boards.now words.now }
+        requires code_lt_channels { self.code < channels }
+        ensures { Takes (scenario_in count boards.now words.now) self (step_or_none told) (answer_in result) }
     {
         let StepOrNone::Step(step) = told else {
             return forbidden(self);
@@ -124,9 +123,9 @@ impl Monitor {
 
     // The step told, where the text is a sheet.
     fn judge_step(self, told: StepOrNone, text: &[u8], words: &mut [u64]) -> MonitorAnswer
-        requires { ⌜ length (now words) ≡ 2 * messagesMost * width ⌝ }
-        requires { ⌜ self .code < channels ⌝ }
-        ensures { λ r. ⌜ Steps (sheetOf (now (text .entry))) self (stepOrNone told) (answerIn r) ⌝ }
+        requires words_len { length words.old ≡ 2 * messages_most * width }
+        requires code_lt_channels { self.code < channels }
+        ensures { Steps (sheet_of text.now) self (step_or_none told) (answer_in result) }
     {
         let mut boards = [0u8; model::EVENTS_MOST];
         let outcome = scenario::scenario_of(text, &mut boards, words);
@@ -138,9 +137,9 @@ impl Monitor {
 
     // The switch to a channel's code, where the text is a sheet: the state passes over whole.
     fn judge_switch(self, code: u32, text: &[u8], words: &mut [u64]) -> MonitorAnswer
-        requires { ⌜ length (now words) ≡ 2 * messagesMost * width ⌝ }
-        requires { ⌜ code < channels ⌝ }
-        ensures { λ r. ⌜ Switches (sheetOf (now (text .entry))) self code (answerIn r) ⌝ }
+        requires words_len { length words.old ≡ 2 * messages_most * width }
+        requires code_lt_channels { code < channels }
+        ensures { Switches (sheet_of text.now) self code (answer_in result) }
     {
         let mut boards = [0u8; model::EVENTS_MOST];
         let outcome = scenario::scenario_of(text, &mut boards, words);
@@ -158,7 +157,7 @@ impl Monitor {
 
     // Opens a monitor for a sheet on a channel. Refusals 1 and 2 touch nothing; behind every other answer the scratch is cleared.
     pub fn open(text: &[u8], code: u32, scratch: &mut [u64]) -> MonitorAnswer
-        ensures { λ r. ⌜ Opened heldIn monitorOf zeros (now (text .entry)) code (now (scratch .entry)) (now (scratch .exit)) (answerIn r) × WholeLists heldIn monitorOf zeros ⌝ }
+        ensures { Opened held_in monitor_of zeros text.now code scratch.old scratch.new (answer_in result) × WholeLists held_in monitor_of zeros }
     {
         if model::CHANNELS <= code as usize {
             return refused(zero(), model::CHANNEL, 0);
@@ -174,7 +173,7 @@ impl Monitor {
 
     // A step, by its code and message, with the sheet's text again.
     pub fn step(self, kind: u32, message: u32, text: &[u8], scratch: &mut [u64]) -> MonitorAnswer
-        ensures { λ r. ⌜ Stepped heldIn monitorOf zeros self kind message (now (text .entry)) (now (scratch .entry)) (now (scratch .exit)) (answerIn r) × WholeLists heldIn monitorOf zeros ⌝ }
+        ensures { Stepped held_in monitor_of zeros self kind message text.now scratch.old scratch.new (answer_in result) × WholeLists held_in monitor_of zeros }
     {
         if model::CHANNELS <= self.code as usize {
             return refused(self, model::CHANNEL, 0);
@@ -191,7 +190,7 @@ impl Monitor {
 
     // A switch to a channel code, with the sheet's text again.
     pub fn switch(self, code: u32, text: &[u8], scratch: &mut [u64]) -> MonitorAnswer
-        ensures { λ r. ⌜ Switched heldIn monitorOf zeros self code (now (text .entry)) (now (scratch .entry)) (now (scratch .exit)) (answerIn r) × WholeLists heldIn monitorOf zeros ⌝ }
+        ensures { Switched held_in monitor_of zeros self code text.now scratch.old scratch.new (answer_in result) × WholeLists held_in monitor_of zeros }
     {
         if model::CHANNELS <= code as usize {
             return refused(self, model::CHANNEL, 0);

@@ -1,20 +1,18 @@
 // Where a monitored run stands: finished, stuck with what each board waits for, or open, by the step rules under the code in force.
-ghost use mathlib.Core.Path.{_≡_};
-ghost use Prim.Native.Nat.{_*_, _^_, _<_};
-ghost use lib.ListN.{length};
-ghost use Rattle·model.specs.Limits.{channels, messagesMost};
-ghost use Rattle·model.specs.Refusal.{ok};
-ghost use Rattle·model.specs.Answer.{sheetOf};
-ghost use Rattle·model.specs.Standing.{refusedWord, Stands};
-ghost use Rattle·relation.specs.Width.{width};
-ghost use Rattle·relation.specs.Scenario.{scenarioIn};
-ghost use Rattle·scenario.specs.Contract.{Fit};
-ghost use Rattle·monitor.specs.Bridge.{heldIn, monitorOf};
-ghost use Rattle·monitor_standing·specs.specs.Bridge.{numbersIn, unwaitedAs, Tells};
-use answer_words::stood::FINISHED;
-use answer_words::stood::OPEN;
-use answer_words::stood::REFUSED;
-use answer_words::stood::STUCK;
+#![tactic(auto)]
+
+ghost use Rattle.std.specs.Prelude.{◌≡◌, ◌*◌, ◌^◌, ◌<◌, length};
+ghost use Rattle.model.specs.Limits.{channels, messages_most};
+ghost use Rattle.model.specs.Refusal.{ok};
+ghost use Rattle.model.specs.Answer.{sheet_of};
+ghost use Rattle.model.specs.Standing.{refused_word, Stands};
+ghost use Rattle.relation.specs.Width.{width};
+ghost use Rattle.relation.specs.Scenario.{scenario_in};
+ghost use Rattle.scenario.specs.Contract.{Fit};
+ghost use Rattle.monitor.specs.Bridge.{held_in, monitor_of};
+ghost use Rattle.monitor_standing.specs.Bridge.{numbers_in, unwaited_as, Tells};
+
+use answer_words::stood::{FINISHED, OPEN, REFUSED, STUCK};
 use expansion::Expanded;
 use monitor::Monitor;
 use standing::Stand;
@@ -22,6 +20,7 @@ use standing::Stand;
 // word 0 finished, 1 stuck, 2 open, 3 refused (one is the number, two the line).
 // On stuck each board has in waits the event that it waits for; 65,535 if there is none, and on every other word.
 #[repr(C)]
+#[derive(Clone, Copy)]
 pub struct MonitorStandingAnswer {
     pub word: u32,
     pub one: u32,
@@ -31,8 +30,8 @@ pub struct MonitorStandingAnswer {
 
 // Refused, with number and line.
 fn refused(number: u8, line: usize) -> MonitorStandingAnswer
-    requires { ⌜ line < 2 ^ 32 ⌝ }
-    ensures { λ r. ⌜ r ≡ unwaitedAs refusedWord number line ⌝ }
+    requires { line < 2 ^ 32 }
+    ensures { result ≡ unwaited_as refused_word number line }
 {
     MonitorStandingAnswer {
         word: REFUSED,
@@ -44,7 +43,7 @@ fn refused(number: u8, line: usize) -> MonitorStandingAnswer
 
 // Finished or open: no board waits.
 fn unwaited(word: u32) -> MonitorStandingAnswer
-    ensures { λ r. ⌜ r ≡ unwaitedAs word 0 0 ⌝ }
+    ensures { result ≡ unwaited_as word 0 0 }
 {
     MonitorStandingAnswer {
         word,
@@ -56,9 +55,9 @@ fn unwaited(word: u32) -> MonitorStandingAnswer
 
 // Where the run stands in a scenario, under the code in force.
 fn stand_in(state: Monitor, words: &[u64], boards: &[u8], count: usize) -> MonitorStandingAnswer
-    requires { ⌜ Fit count (now boards) (now words) ⌝ }
-    requires { ⌜ state .code < channels ⌝ }
-    ensures { λ r. ⌜ Tells (ok (scenarioIn count (now (boards .entry)) (now (words .entry)))) (heldIn state) r ⌝ }
+    requires fit { Fit count boards.now words.now }
+    requires code_lt_channels { state.code < channels }
+    ensures { Tells (ok (scenario_in count boards.now words.now)) (held_in state) result }
 {
     let mut masks = [0u64; board::MASK_WORDS];
     board::board_masks(boards, count, &mut masks);
@@ -80,9 +79,9 @@ fn stand_in(state: Monitor, words: &[u64], boards: &[u8], count: usize) -> Monit
 
 // A text's scenario, and where the run stands in it.
 fn judge(state: Monitor, text: &[u8], words: &mut [u64]) -> MonitorStandingAnswer
-    requires { ⌜ length (now words) ≡ 2 * messagesMost * width ⌝ }
-    requires { ⌜ state .code < channels ⌝ }
-    ensures { λ r. ⌜ Tells (sheetOf (now (text .entry))) (heldIn state) r ⌝ }
+    requires words_len { length words.old ≡ 2 * messages_most * width }
+    requires code_lt_channels { state.code < channels }
+    ensures { Tells (sheet_of text.now) (held_in state) result }
 {
     let mut boards = [0u8; model::EVENTS_MOST];
     let outcome = scenario::scenario_of(text, &mut boards, words);
@@ -94,7 +93,7 @@ fn judge(state: Monitor, text: &[u8], words: &mut [u64]) -> MonitorStandingAnswe
 
 // The call: refusal 1 is for the state's own code. Refusals 1 and 2 touch nothing; after every other answer the scratch is cleared.
 pub fn standing_of(state: Monitor, text: &[u8], scratch: &mut [u64]) -> MonitorStandingAnswer
-    ensures { λ r. ⌜ Stands heldIn monitorOf state (now (text .entry)) (now (scratch .entry)) (now (scratch .exit)) (numbersIn r) (r .waits) ⌝ }
+    ensures { Stands held_in monitor_of state text.now scratch.old scratch.new (numbers_in result) result.waits }
 {
     if model::CHANNELS <= state.code as usize {
         return refused(model::CHANNEL, 0);

@@ -1,57 +1,57 @@
 -- What the loop between two blocks keeps, row by row, and where it leaves them. Each law has the premises of one place of the code.
 -- Assumes nothing.
-use Prim.Native.Nat.{ℕ, zero, suc, _+_, _-_, _<_, _≤_}
+use Prim.Native.Nat.{ℕ, zero, suc, ◌+◌, ◌-◌, ◌<◌, ◌≤◌}
 use native.Mathlib.Omega.{arith}
-use mathlib.Core.Path.{_≡_, refl, sym, _∙_, ap, subst}
-use mathlib.Core.Bool.{Bool, true, false, _||_}
-use mathlib.Core.List.{List, _∷_}
+use mathlib.Core.Path.{◌≡◌, refl, sym, ◌∙◌, ap, subst}
+use mathlib.Core.Bool.{Bool, true, false, ◌||◌}
+use mathlib.Core.List.{List, ◌∷◌}
 use lib.Dec.{eqb}
-use lib.ListN.{length, getD, set, length-set}
-use lib.Seq.{getD-set-same, getD-set-other}
+use lib.ListN.{length, get_or, set, length-set}
+use lib.Seq.{get_or-set_same, get_or-set_other}
 use mir.Syntax.{w64}
 use mir.Val.{Fits}
 use borrow.Author.Tests.{lt-ltb, eqb-true, eqb-false}
-use Rattle·model.specs.Limits.{rowsMost, levels, callsMost}
-use Rattle·model.specs.Refusal.{depthRefusal, callsRefusal, choicesRefusal}
-use Rattle·model.specs.Rows.{Row}
-use Rattle·model.specs.Place.{lineOf}
-use Rattle·model.specs.Expansion.{startOf}
-use Rattle·model.proofs.Bounded.{not-both}
-use Rattle·sheet.specs.Bridge.{rowFrom, rowsOf}
-use Rattle·sheet.proofs.Bridge.{row-call, row-choice, row-block}
-use Rattle·blocks.specs.Store.{Store}
-use Rattle·walk.specs.Block.{rowsFrom, inBlock, AllStand}
-use Rattle·walk.proofs.Meeting.{rows-next, not-in}
-use Rattle·levels.specs.Letters.{letterAt}
-use Rattle·levels.proofs.Letters.{row-there, row-letter, letter-inside}
-use Rattle·levels.specs.Options.{isCall, isNinth, sheetCalled, choicesBehind}
-use Rattle·next_block·specs.specs.Levels.{BehindBlocks, idle, rest, rank, Behind, Sheets, Between, Reaches}
-use Rattle·next_block·specs.specs.declared.Reached.{Reached}
-use Rattle·next_block·specs.specs.declared.Reached.the-variants as reached
-use Rattle·next_block·proofs.proofs.Steps.{rest-end, rest-back, rest-block, rest-deep, rest-calls, rest-ninth, rest-called}
-use Rattle·levels.proofs.Choosing.{either}
+use Rattle.model.specs.Limits.{rows_most, levels, calls_most}
+use Rattle.model.specs.Refusal.{depth_refusal, calls_refusal, choices_refusal}
+use Rattle.model.specs.Rows.{Row}
+use Rattle.model.specs.Place.{line_of}
+use Rattle.model.specs.Expansion.{start_of}
+use Rattle.model.proofs.Bounded.{not_both}
+use Rattle.sheet.specs.Bridge.{row_from, rows_of}
+use Rattle.sheet.proofs.Bridge.{row_call, row_choice, row_block}
+use Rattle.blocks.specs.Store.{Store}
+use Rattle.walk.specs.Block.{rows_from, in_block, AllStand}
+use Rattle.walk.proofs.Meeting.{rows_next, not_in}
+use Rattle.levels.specs.Letters.{letter_at}
+use Rattle.levels.proofs.Letters.{row_there, row_letter, letter_inside}
+use Rattle.levels.specs.Options.{is_call, is_ninth, sheet_called, choices_behind}
+use Rattle.next_block.specs.Levels.{BehindBlocks, idle, rest, rank, Behind, Sheets, Between, Reaches}
+use Rattle.next_block.specs.declared.Reached.{Reached}
+use Rattle.next_block.specs.declared.Reached.TheVariants as reached
+use Rattle.next_block.proofs.Steps.{rest_end, rest_back, rest_block, rest_deep, rest_calls, rest_ninth, rest_called}
+use Rattle.levels.proofs.Choosing.{either}
 
 -- where the walk came to, known by another name
-pub reaches-as : {options : ℕ} {kind one two : List ℕ} {count : ℕ} {from : List ℕ} {level i calls choices : ℕ} {r r′ : Reached} {from′ : List ℕ} → r ≡ r′
-    → Reaches options kind one two count from level i calls choices r from′
-    → Reaches options kind one two count from level i calls choices r′ from′
-reaches-as {options = options} {kind = kind} {one = one} {two = two} {count = count} {from = from} {level = level} {i = i} {calls = calls} {choices = choices} {from′ = from′} e h =
-    subst (λ (r : Reached). Reaches options kind one two count from level i calls choices r from′) e h
+pub reaches_as : {options : ℕ} {kind one two : List ℕ} {count : ℕ} {from : List ℕ} {level i calls choices : ℕ} {r r' : Reached} {from' : List ℕ} → r ≡ r'
+    → Reaches options kind one two count from level i calls choices r from'
+    → Reaches options kind one two count from level i calls choices r' from'
+reaches_as {options = options} {kind = kind} {one = one} {two = two} {count = count} {from = from} {level = level} {i = i} {calls = calls} {choices = choices} {from' = from'} e h =
+    subst (λ (r : Reached). Reaches options kind one two count from level i calls choices r from') e h
 
 -- a row that calls is no S row, and the rows behind it stand in a new block
-call-no-sheet : (letter : ℕ) → isCall letter ≡ true → letter ≡ 83 → ⊥
-unfolding isCall
-call-no-sheet letter e z = not-both (isCall letter) e (rw z)
+call_no_sheet : (letter : ℕ) → is_call letter ≡ true → letter ≡ 83 → ⊥
+unfolding is_call
+call_no_sheet letter e z = not_both (is_call letter) e (rw z)
 
-call-stand : (k a b : ℕ) (rs : List Row) → isCall k ≡ true → AllStand 0 (rowFrom k a b ∷ rs) → AllStand 0 rs
-unfolding isCall
-call-stand k a b rs e h = go (eqb k 65) refl
+call_stand : (k a b : ℕ) (rs : List Row) → is_call k ≡ true → AllStand 0 (row_from k a b ∷ rs) → AllStand 0 rs
+unfolding is_call
+call_stand k a b rs e h = go (eqb k 65) refl
   where
     go : (t : Bool) → eqb k 65 ≡ t → AllStand 0 rs
-    go true f = subst (λ (r : Row). AllStand 0 (r ∷ rs)) (row-choice k a b (eqb-true k 65 f)) h .1
+    go true f = (subst (λ (r : Row). AllStand 0 (r ∷ rs)) (row_choice k a b (eqb-true k 65 f)) h).1
     go false f =
         let c : k ≡ 67 = eqb-true k 67 (either (eqb k 67) (subst (λ (t : Bool). (eqb k 67 || t) ≡ true) f e)) in
-        subst (λ (r : Row). AllStand 0 (r ∷ rs)) (row-call k a b c) h .1
+        (subst (λ (r : Row). AllStand 0 (r ∷ rs)) (row_call k a b c) h).1
 
 module _ (options : ℕ) (kind one two : List ℕ) (count : ℕ) (from₀ : List ℕ) (level₀ row calls₀ choices₀ : ℕ) where
   abbrev Left : Reached → List ℕ → Type 0
@@ -63,189 +63,189 @@ module _ (options : ℕ) (kind one two : List ℕ) (count : ℕ) (from₀ : List
     pub between : Between options kind one two count from level i calls
     pub nearer : rank count level i calls ≤ rank count level₀ row calls₀
 
-  pub seeking-start : Between options kind one two count from₀ level₀ row calls₀ → Seeking from₀ level₀ row calls₀ choices₀
-  seeking-start b = record { exact = λ met t. refl; between = b; nearer = omega arith }
+  pub seeking_start : Between options kind one two count from₀ level₀ row calls₀ → Seeking from₀ level₀ row calls₀ choices₀
+  seeking_start b = record { exact = λ met t. refl; between = b; nearer = omega arith }
 
   module _ (from : List ℕ) (level i calls choices : ℕ) (j : Seeking from level i calls choices) where
     -- a block is reached
-    pub seeking-block : (r : Bool) → r ≡ inBlock kind count i → r ≡ true → Left (reached.Block level i calls choices) from
-    seeking-block r e t =
-        record { exact = j .exact; stands = record { between = j .between; row = sym e ∙ t; nearer = j .nearer } }
+    pub seeking_block : (r : Bool) → r ≡ in_block kind count i → r ≡ true → Left (reached.Block level i calls choices) from
+    seeking_block r e t =
+        record { exact = j.exact; stands = record { between = j.between; row = sym e ∙ t; nearer = j.nearer } }
 
-    module _ (letter : ℕ) (read : letter ≡ letterAt kind count i) where
+    module _ (letter : ℕ) (read : letter ≡ letter_at kind count i) where
       -- sheet 0 has ended
-      pub seeking-end : letter ≡ 83 → level ≡ 0 → Left (reached.End calls choices) from
-      seeking-end e z =
-          record { exact = λ met t. j .exact met t ∙ rest-end options kind one two count i letter read from level calls choices met t e z; stands = j .between .few }
+      pub seeking_end : letter ≡ 83 → level ≡ 0 → Left (reached.End calls choices) from
+      seeking_end e z =
+          record { exact = λ met t. j.exact met t ∙ rest_end options kind one two count i letter read from level calls choices met t e z; stands = j.between.few }
 
       -- a B row
-      module _ (r : Bool) (test : r ≡ inBlock kind count i) (out : r ≡ false) (q : Bool) (asks : q ≡ isCall letter) (no-call : q ≡ false) (b : letter ≡ 83 → ⊥) where
+      module _ (r : Bool) (test : r ≡ in_block kind count i) (out : r ≡ false) (q : Bool) (asks : q ≡ is_call letter) (no_call : q ≡ false) (b : letter ≡ 83 → ⊥) where
         a : letter ≡ 67 → ⊥
-        unfolding isCall
-        a e = not-both (isCall letter) (rw e) (sym asks ∙ no-call)
+        unfolding is_call
+        a e = not_both (is_call letter) (rw e) (sym asks ∙ no_call)
 
         x : letter ≡ 65 → ⊥
-        unfolding isCall
-        x e = not-both (isCall letter) (rw e) (sym asks ∙ no-call)
+        unfolding is_call
+        x e = not_both (is_call letter) (rw e) (sym asks ∙ no_call)
 
-        pub on-there : i < count
-        on-there = row-there kind count i letter read b
+        pub on_there : i < count
+        on_there = row_there kind count i letter read b
 
-        is : getD kind i 0 ≡ letter
-        is = row-letter kind count i letter read on-there
+        is : get_or kind i 0 ≡ letter
+        is = row_letter kind count i letter read on_there
 
         -- the row behind it, and some more, can be counted
-        pub on-next : (start : List ℕ) (k : ℕ) → Sheets options kind one two count start → k ≤ 2 → Fits w64 (i + k)
-        on-next start k lent few = omega (arith, on-there, lent .rows .few)
+        pub on_next : (start : List ℕ) (k : ℕ) → Sheets options kind one two count start → k ≤ 2 → Fits w64 (i + k)
+        on_next start k lent few = omega (arith, on_there, lent.rows.few)
 
-        pub on-inside : i + 1 ≤ count
-        on-inside = omega (arith, on-there)
+        pub on_inside : i + 1 ≤ count
+        on_inside = omega (arith, on_there)
 
-        pub seeking-on : Seeking from level (i + 1) calls choices
-        seeking-on =
-            let p = not-in kind count i r test out on-there in
+        pub seeking_on : Seeking from level (i + 1) calls choices
+        seeking_on =
+            let p = not_in kind count i r test out on_there in
             record {
-              exact = λ met t. j .exact met t
-                  ∙ rest-block options kind one two count i letter read from level calls choices met t b (λ e. p .0 (is ∙ e)) (λ e. p .1 (is ∙ e)) a x;
+              exact = λ met t. j.exact met t
+                  ∙ rest_block options kind one two count i letter read from level calls choices met t b (λ e. p.0 (is ∙ e)) (λ e. p.1 (is ∙ e)) a x;
               between = record {
-                deep = j .between .deep;
-                long = j .between .long;
-                few = j .between .few;
+                deep = j.between.deep;
+                long = j.between.long;
+                few = j.between.few;
                 stand =
-                    subst (AllStand 0) (rows-next kind one two count i on-there
-                    ∙ ap (λ r. r ∷ rowsFrom kind one two count (i + 1))
-                    (row-block (getD kind i 0) (getD one i 0) (getD two i 0) (λ e. b (sym is ∙ e)) (p .0) (p .1) (λ e. a (sym is ∙ e)) (λ e. x (sym is ∙ e))))
-                    (j .between .stand) .1;
-                behind = j .between .behind;
+                    (subst (AllStand 0) (rows_next kind one two count i on_there
+                    ∙ ap (λ r. r ∷ rows_from kind one two count (i + 1))
+                    (row_block (get_or kind i 0) (get_or one i 0) (get_or two i 0) (λ e. b (sym is ∙ e)) p.0 p.1 (λ e. a (sym is ∙ e)) (λ e. x (sym is ∙ e))))
+                    j.between.stand).1;
+                behind = j.between.behind;
               };
-              nearer = omega (arith, j .nearer, on-there);
+              nearer = omega (arith, j.nearer, on_there);
             }
 
       module _ (start : List ℕ) (lent : Sheets options kind one two count start) where
         -- a sheet that was called has ended
-        pub back-inside : (level ≡ 0 → ⊥) → getD from (level - 1) 0 < count
-        back-inside n = j .between .behind (level - 1) (omega arith) .inside
+        pub back_inside : (level ≡ 0 → ⊥) → get_or from (level - 1) 0 < count
+        back_inside n = (j.between.behind (level - 1) (omega arith)).inside
 
-        pub back-next : (k : ℕ) → (level ≡ 0 → ⊥) → k ≤ 2 → Fits w64 (getD from (level - 1) 0 + k)
-        back-next k n few = omega (arith, back-inside n, lent .rows .few)
+        pub back_next : (k : ℕ) → (level ≡ 0 → ⊥) → k ≤ 2 → Fits w64 (get_or from (level - 1) 0 + k)
+        back_next k n few = omega (arith, back_inside n, lent.rows.few)
 
-        pub back-less : (k : ℕ) → (level ≡ 0 → ⊥) → rank count (level - 1) (getD from (level - 1) 0 + k) calls < rank count level i calls
-        back-less k n = omega (arith, lent .rows .few)
+        pub back_less : (k : ℕ) → (level ≡ 0 → ⊥) → rank count (level - 1) (get_or from (level - 1) 0 + k) calls < rank count level i calls
+        back_less k n = omega (arith, lent.rows.few)
 
-        pub seeking-back : letter ≡ 83 → (level ≡ 0 → ⊥) → Seeking from (level - 1) (getD from (level - 1) 0 + 1) calls choices
-        seeking-back e n =
+        pub seeking_back : letter ≡ 83 → (level ≡ 0 → ⊥) → Seeking from (level - 1) (get_or from (level - 1) 0 + 1) calls choices
+        seeking_back e n =
             record {
-              exact = λ met t. j .exact met t ∙ rest-back options kind one two count i letter read from level calls choices met t e n;
+              exact = λ met t. j.exact met t ∙ rest_back options kind one two count i letter read from level calls choices met t e n;
               between = record {
-                deep = omega (arith, j .between .deep);
-                long = j .between .long;
-                few = j .between .few;
-                stand = j .between .behind (level - 1) (omega arith) .stand;
-                behind = λ k h. j .between .behind k (omega arith);
+                deep = omega (arith, j.between.deep);
+                long = j.between.long;
+                few = j.between.few;
+                stand = (j.between.behind (level - 1) (omega arith)).stand;
+                behind = λ k h. j.between.behind k (omega arith);
               };
-              nearer = omega (arith, j .nearer, back-less 1 n);
+              nearer = omega (arith, j.nearer, back_less 1 n);
             }
 
         -- a call
-        module _ (q : Bool) (asks : q ≡ isCall letter) (taken : q ≡ true) where
-          e : isCall letter ≡ true
+        module _ (q : Bool) (asks : q ≡ is_call letter) (taken : q ≡ true) where
+          e : is_call letter ≡ true
           e = sym asks ∙ taken
 
-          pub call-there : i < count
-          call-there = row-there kind count i letter read no-sheet
+          pub call_there : i < count
+          call_there = row_there kind count i letter read no_sheet
             where
-              no-sheet : letter ≡ 83 → ⊥
-              no-sheet z = call-no-sheet letter e z
+              no_sheet : letter ≡ 83 → ⊥
+              no_sheet z = call_no_sheet letter e z
 
           -- its line, and its two numbers, can be read
-          pub call-few : i < rowsMost
-          call-few = omega (arith, call-there, lent .rows .few)
+          pub call_few : i < rows_most
+          call_few = omega (arith, call_there, lent.rows.few)
 
-          pub call-one : i < length one
-          call-one = omega (arith, call-there, lent .rows .oneLong)
+          pub call_one : i < length one
+          call_one = omega (arith, call_there, lent.rows.one_long)
 
-          pub call-two : i < length two
-          call-two = omega (arith, call-there, lent .rows .twoLong)
+          pub call_two : i < length two
+          call_two = omega (arith, call_there, lent.rows.two_long)
 
-          pub call-line : Fits w64 (i + 2)
-          call-line = omega (arith, call-there, lent .rows .few)
+          pub call_line : Fits w64 (i + 2)
+          call_line = omega (arith, call_there, lent.rows.few)
 
-          letter-is : getD kind i 0 ≡ letter
-          letter-is = row-letter kind count i letter read call-there
+          letter_is : get_or kind i 0 ≡ letter
+          letter_is = row_letter kind count i letter read call_there
 
-          is-call : isCall (getD kind i 0) ≡ true
-          is-call = subst (λ (k : ℕ). isCall k ≡ true) (sym letter-is) e
+          is_call_holds : is_call (get_or kind i 0) ≡ true
+          is_call_holds = subst (λ (k : ℕ). is_call k ≡ true) (sym letter_is) e
 
-          pub call-sheet : (sheet : ℕ) → sheet ≡ sheetCalled letter (getD one i 0) (getD two i 0) options choices → sheet < length start
-          call-sheet sheet f =
+          pub call_sheet : (sheet : ℕ) → sheet ≡ sheet_called letter (get_or one i 0) (get_or two i 0) options choices → sheet < length start
+          call_sheet sheet f =
               subst (λ (n : ℕ). n < length start) (sym f)
-              (subst (λ (k : ℕ). sheetCalled k (getD one i 0) (getD two i 0) options choices < length start) letter-is (lent .known i choices call-there is-call))
+              (subst (λ (k : ℕ). sheet_called k (get_or one i 0) (get_or two i 0) options choices < length start) letter_is (lent.known i choices call_there is_call_holds))
 
-          pub seeking-deep : level ≡ levels → Left (reached.Stopped depthRefusal (lineOf i)) from
-          seeking-deep z =
-              record { exact = λ met t. j .exact met t ∙ rest-deep options kind one two count i letter read from level calls choices met t e z; stands = tt }
+          pub seeking_deep : level ≡ levels → Left (reached.Stopped depth_refusal (line_of i)) from
+          seeking_deep z =
+              record { exact = λ met t. j.exact met t ∙ rest_deep options kind one two count i letter read from level calls choices met t e z; stands = tt }
 
           module _ (n : level ≡ levels → ⊥) where
             pub deeper : level < levels
-            deeper = omega (arith, j .between .deep)
+            deeper = omega (arith, j.between.deep)
 
-            pub seeking-calls : callsMost ≤ calls → Left (reached.Stopped callsRefusal (lineOf i)) from
-            seeking-calls m =
-                record { exact = λ met t. j .exact met t ∙ rest-calls options kind one two count i letter read from level calls choices met t e deeper m; stands = tt }
+            pub seeking_calls : calls_most ≤ calls → Left (reached.Stopped calls_refusal (line_of i)) from
+            seeking_calls m =
+                record { exact = λ met t. j.exact met t ∙ rest_calls options kind one two count i letter read from level calls choices met t e deeper m; stands = tt }
 
-            module _ (m : calls < callsMost) (o : Bool) (ninth : o ≡ isNinth letter choices) where
-              pub seeking-ninth : o ≡ true → Left (reached.Stopped choicesRefusal (lineOf i)) from
-              seeking-ninth f =
+            module _ (m : calls < calls_most) (o : Bool) (ninth : o ≡ is_ninth letter choices) where
+              pub seeking_ninth : o ≡ true → Left (reached.Stopped choices_refusal (line_of i)) from
+              seeking_ninth f =
                   record {
-                    exact = λ met t. j .exact met t ∙ rest-ninth options kind one two count i letter read from level calls choices met t e deeper m (sym ninth ∙ f);
+                    exact = λ met t. j.exact met t ∙ rest_ninth options kind one two count i letter read from level calls choices met t e deeper m (sym ninth ∙ f);
                     stands = tt;
                   }
 
-              module _ (room : o ≡ false) (sheet : ℕ) (called : sheet ≡ sheetCalled letter (getD one i 0) (getD two i 0) options choices)
-                  (more : ℕ) (met-more : more ≡ choicesBehind letter choices) (first : ℕ) (starts : first ≡ getD start sheet 0) where
-                pub called-less : rank count (level + 1) first (calls + 1) < rank count level i calls
-                called-less = omega (arith, lent .rows .few)
+              module _ (room : o ≡ false) (sheet : ℕ) (called : sheet ≡ sheet_called letter (get_or one i 0) (get_or two i 0) options choices)
+                  (more : ℕ) (met-more : more ≡ choices_behind letter choices) (first : ℕ) (starts : first ≡ get_or start sheet 0) where
+                pub called_less : rank count (level + 1) first (calls + 1) < rank count level i calls
+                called_less = omega (arith, lent.rows.few)
 
-                begins : first ≡ startOf (sheetCalled letter (getD one i 0) (getD two i 0) options choices) (rowsOf kind one two count)
+                begins : first ≡ start_of (sheet_called letter (get_or one i 0) (get_or two i 0) options choices) (rows_of kind one two count)
                 begins =
-                    starts ∙ ap (λ (n : ℕ). getD start n 0) called
-                    ∙ subst (λ (k : ℕ). getD start (sheetCalled k (getD one i 0) (getD two i 0) options choices) 0
-                    ≡ startOf (sheetCalled k (getD one i 0) (getD two i 0) options choices) (rowsOf kind one two count)) letter-is
-                    (lent .starts i choices call-there is-call)
+                    starts ∙ ap (λ (n : ℕ). get_or start n 0) called
+                    ∙ subst (λ (k : ℕ). get_or start (sheet_called k (get_or one i 0) (get_or two i 0) options choices) 0
+                    ≡ start_of (sheet_called k (get_or one i 0) (get_or two i 0) options choices) (rows_of kind one two count)) letter_is
+                    (lent.starts i choices call_there is_call_holds)
 
-                behind-call : Behind options kind one two count i
-                behind-call =
+                behind_call : Behind options kind one two count i
+                behind_call =
                     record {
-                      inside = call-there;
-                      stand = call-stand (getD kind i 0) (getD one i 0) (getD two i 0) (rowsFrom kind one two count (i + 1)) is-call
-                          (subst (AllStand 0) (rows-next kind one two count i call-there) (j .between .stand));
+                      inside = call_there;
+                      stand = call_stand (get_or kind i 0) (get_or one i 0) (get_or two i 0) (rows_from kind one two count (i + 1)) is_call_holds
+                          (subst (AllStand 0) (rows_next kind one two count i call_there) j.between.stand);
                     }
 
-                noted : (k : ℕ) → k < level + 1 → (b : Bool) → eqb k level ≡ b → Behind options kind one two count (getD (set from level i) k 0)
+                noted : (k : ℕ) → k < level + 1 → (b : Bool) → eqb k level ≡ b → Behind options kind one two count (get_or (set from level i) k 0)
                 noted k h true e =
-                    let here : getD (set from level i) k 0 ≡ i = ap (λ (k : ℕ). getD (set from level i) k 0) (eqb-true k level e)
-                    ∙ getD-set-same from level i 0 (omega (arith, j .between .long, deeper)) in
-                    subst (Behind options kind one two count) (sym here) behind-call
+                    let here : get_or (set from level i) k 0 ≡ i = ap (λ (k : ℕ). get_or (set from level i) k 0) (eqb-true k level e)
+                    ∙ get_or-set_same from level i 0 (omega (arith, j.between.long, deeper)) in
+                    subst (Behind options kind one two count) (sym here) behind_call
                 noted k h false e =
                     let d : k ≡ level → ⊥ = eqb-false k level e in
-                    subst (Behind options kind one two count) (sym (getD-set-other from level k i 0 d)) (j .between .behind k (omega arith))
+                    subst (Behind options kind one two count) (sym (get_or-set_other from level k i 0 d)) (j.between.behind k (omega arith))
 
-                pub seeking-called : Seeking (set from level i) (level + 1) first (calls + 1) more
-                seeking-called =
+                pub seeking_called : Seeking (set from level i) (level + 1) first (calls + 1) more
+                seeking_called =
                     record {
-                      exact = λ met t. j .exact met t
-                          ∙ rest-called options kind one two count i letter read from level calls choices met t e deeper (j .between .long) first begins m
+                      exact = λ met t. j.exact met t
+                          ∙ rest_called options kind one two count i letter read from level calls choices met t e deeper j.between.long first begins m
                           (sym ninth ∙ room) more met-more;
                       between = record {
                         deep = omega (arith, deeper);
-                        long = length-set from level i ∙ j .between .long;
+                        long = length-set from level i ∙ j.between.long;
                         few = omega arith;
                         stand =
-                            subst (λ (k : ℕ). AllStand 0 (rowsFrom kind one two count k)) (sym begins)
-                            (lent .stand (sheetCalled letter (getD one i 0) (getD two i 0) options choices));
+                            subst (λ (k : ℕ). AllStand 0 (rows_from kind one two count k)) (sym begins)
+                            (lent.stand (sheet_called letter (get_or one i 0) (get_or two i 0) options choices));
                         behind = λ k h. noted k h (eqb k level) refl;
                       };
-                      nearer = omega (arith, j .nearer, called-less);
+                      nearer = omega (arith, j.nearer, called_less);
                     }
 
 module _ (options : ℕ) (kind one two : List ℕ) (count : ℕ) (from₀ : List ℕ) (level₀ row calls₀ choices₀ : ℕ) where
@@ -253,36 +253,36 @@ module _ (options : ℕ) (kind one two : List ℕ) (count : ℕ) (from₀ : List
   At from level i calls choices = Seeking options kind one two count from₀ level₀ row calls₀ choices₀ from level i calls choices
 
   -- a B row is no row of a block and no call
-  block-outside : (i : ℕ) → i < count → getD kind i 0 ≡ 66 → false ≡ inBlock kind count i
-  unfolding inBlock
-  block-outside i h e = rw (lt-ltb i count h, e)
+  block_outside : (i : ℕ) → i < count → get_or kind i 0 ≡ 66 → false ≡ in_block kind count i
+  unfolding in_block
+  block_outside i h e = rw (lt-ltb i count h, e)
 
-  block-no-call : false ≡ isCall 66
-  unfolding isCall
-  block-no-call = refl
+  block_no_call : false ≡ is_call 66
+  unfolding is_call
+  block_no_call = refl
 
   -- B rows, one after another: so many from row i on
-  blocks-on : (from : List ℕ) (level calls choices i n : ℕ) → i + n ≤ count → ((k : ℕ) → i ≤ k → k < i + n → getD kind k 0 ≡ 66)
+  blocks_on : (from : List ℕ) (level calls choices i n : ℕ) → i + n ≤ count → ((k : ℕ) → i ≤ k → k < i + n → get_or kind k 0 ≡ 66)
       → At from level i calls choices → At from level (i + n) calls choices
-  blocks-on from level calls choices i zero h b j = subst (λ (k : ℕ). At from level k calls choices) (omega arith) j
-  blocks-on from level calls choices i (suc n) h b j =
+  blocks_on from level calls choices i zero h b j = subst (λ (k : ℕ). At from level k calls choices) (omega arith) j
+  blocks_on from level calls choices i (suc n) h b j =
       let inside : i < count = omega arith in
-      let is : getD kind i 0 ≡ 66 = b i (omega arith) (omega arith) in
+      let is : get_or kind i 0 ≡ 66 = b i (omega arith) (omega arith) in
       subst (λ (k : ℕ). At from level k calls choices) (omega arith)
-      (blocks-on from level calls choices (i + 1) n (omega arith) (λ k l m. b k (omega (arith, l)) (omega (arith, m)))
-      (seeking-on options kind one two count from₀ level₀ row calls₀ choices₀ from level i calls choices j 66 (sym is ∙ letter-inside kind count i inside)
-      false (block-outside i inside is) refl false block-no-call refl (λ z. absurd (omega (arith, z)))))
+      (blocks_on from level calls choices (i + 1) n (omega arith) (λ k l m. b k (omega (arith, l)) (omega (arith, m)))
+      (seeking_on options kind one two count from₀ level₀ row calls₀ choices₀ from level i calls choices j 66 (sym is ∙ letter_inside kind count i inside)
+      false (block_outside i inside is) refl false block_no_call refl (λ z. absurd (omega (arith, z)))))
 
   -- behind a B row, the walk goes on at the first row that is none
-  module _ (from : List ℕ) (level i calls choices : ℕ) (j : At from level i calls choices) (letter : ℕ) (read : letter ≡ letterAt kind count i)
-      (r : Bool) (test : r ≡ inBlock kind count i) (out : r ≡ false) (q : Bool) (asks : q ≡ isCall letter) (no-call : q ≡ false) (b : letter ≡ 83 → ⊥)
+  module _ (from : List ℕ) (level i calls choices : ℕ) (j : At from level i calls choices) (letter : ℕ) (read : letter ≡ letter_at kind count i)
+      (r : Bool) (test : r ≡ in_block kind count i) (out : r ≡ false) (q : Bool) (asks : q ≡ is_call letter) (no_call : q ≡ false) (b : letter ≡ 83 → ⊥)
       (next : ℕ) (passed : BehindBlocks kind count (i + 1) next) where
-    pub behind-less : rank count level next calls < rank count level i calls
-    behind-less = omega (arith, passed .on, passed .inside)
+    pub behind_less : rank count level next calls < rank count level i calls
+    behind_less = omega (arith, passed.on, passed.inside)
 
-    pub seeking-behind : At from level next calls choices
-    seeking-behind =
-        let same : i + 1 + (next - (i + 1)) ≡ next = omega (arith, passed .on) in
+    pub seeking_behind : At from level next calls choices
+    seeking_behind =
+        let same : i + 1 + (next - (i + 1)) ≡ next = omega (arith, passed.on) in
         subst (λ (k : ℕ). At from level k calls choices) same
-        (blocks-on from level calls choices (i + 1) (next - (i + 1)) (omega (arith, passed .inside)) (λ k l m. passed .blocks k l (omega (arith, m, same)))
-        (seeking-on options kind one two count from₀ level₀ row calls₀ choices₀ from level i calls choices j letter read r test out q asks no-call b))
+        (blocks_on from level calls choices (i + 1) (next - (i + 1)) (omega (arith, passed.inside)) (λ k l m. passed.blocks k l (omega (arith, m, same)))
+        (seeking_on options kind one two count from₀ level₀ row calls₀ choices₀ from level i calls choices j letter read r test out q asks no_call b))

@@ -1,14 +1,16 @@
 // The levels of calls: the way from one block of a walk to the next. Refusals 8, 9 and 13.
+#![tactic(auto)]
+
+ghost use Rattle.std.specs.Prelude.{◌≡◌, ◌≤◌, length};
+ghost use Rattle.levels.specs.Options.{is_call};
+ghost use Rattle.next_block.specs.Levels.{BehindBlocks, Sheets, Between, Reaches};
+
 use model::FIRST_LINE;
 use walk::Walk;
-ghost use mathlib.Core.Path.{_≡_};
-ghost use Prim.Native.Nat.{_≤_};
-ghost use lib.ListN.{length};
-ghost use Rattle·levels.specs.Options.{isCall};
-ghost use Rattle·next_block·specs.specs.Levels.{BehindBlocks, Sheets, Between, Reaches};
 
 // Where the walk comes to between two blocks: the level and row of the next block, or the end of sheet 0, each with the calls made and
 // the A rows met; or a refusal's number and line.
+#[derive(Clone, Copy)]
 pub enum Reached {
     Block(usize, usize, usize, usize),
     End(usize, usize),
@@ -17,7 +19,7 @@ pub enum Reached {
 
 // A row that calls: C, or A.
 fn is_call(letter: u8) -> bool
-    ensures { λ r. ⌜ r ≡ isCall letter ⌝ }
+    ensures { result ≡ is_call letter }
 {
     if letter == b'C' {
         return true;
@@ -27,9 +29,9 @@ fn is_call(letter: u8) -> bool
 
 // The first row from `row` on that is no B row: an empty block costs its row alone.
 fn behind_blocks(kind: &[u8], rows: usize, row: usize) -> usize
-    requires { ⌜ rows ≤ length (now kind) ⌝ }
-    requires { ⌜ row ≤ rows ⌝ }
-    ensures { λ r. ⌜ BehindBlocks (now (kind .entry)) rows row r ⌝ }
+    requires rows_in_bounds { rows ≤ length kind.now }
+    requires row_le_rows { row ≤ rows }
+    ensures { BehindBlocks kind.now rows row result }
 {
     let mut at = row;
     while at < rows {
@@ -56,9 +58,9 @@ pub fn next_block(
     made: usize,
     met: usize,
 ) -> Reached
-    requires { ⌜ Sheets options (now kind) (now one) (now two) rows (now start) ⌝ }
-    requires { ⌜ Between options (now kind) (now one) (now two) rows (now from) depth row made ⌝ }
-    ensures { λ r. ⌜ Reaches options (now (kind .entry)) (now (one .entry)) (now (two .entry)) rows (now (from .entry)) depth row made met r (now (from .exit)) ⌝ }
+    requires sheets { Sheets options kind.now one.now two.now rows start.now }
+    requires between { Between options kind.now one.now two.now rows from.old depth row made }
+    ensures { Reaches options kind.now one.now two.now rows from.old depth row made met result from.new }
 {
     let mut level = depth;
     let mut at = row;

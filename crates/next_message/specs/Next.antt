@@ -1,17 +1,14 @@
 -- The next message in a row, from one on. Assumes nothing.
-use mathlib.Core.Bool.{Bool, _&&_, _||_}
-use mathlib.Core.List.{List}
-use mathlib.Core.Option.{none, some}
-use Prim.Native.Nat.{ℕ, _+_, _*_}
-use lib.Dec.{leb}
-use Rattle·model.specs.Limits.{messagesMost}
-use Rattle·model.specs.Bounded.{lowest}
-use Rattle·run.specs.State.{inRow}
+use Rattle.std.specs.Prelude.{Bool, ◌&&◌, ◌||◌, List, ℕ, ◌+◌, ◌*◌, leb}
+use Rattle.std.proofs.Math.Option.{none, some}
+use Rattle.model.specs.Limits.{messages_most}
+use Rattle.model.specs.Bounded.{lowest}
+use Rattle.run.specs.State.{in_row}
 
 -- message j is m or a later one, and has a bit in the row, its send's or its receive's
-abbrev pub standsFrom : List ℕ → ℕ → ℕ → Bool
-standsFrom row m j = leb m j && (inRow row (2 * j) || inRow row (2 * j + 1))
+abbrev pub stands_from : List ℕ → ℕ → ℕ → Bool
+stands_from row m j = leb m j && (in_row row (2 * j) || in_row row (2 * j + 1))
 
 -- the lowest such message; where there is none, the most messages
-unfoldable pub nextIn : List ℕ → ℕ → ℕ
-nextIn row m = elim (lowest messagesMost (standsFrom row m)) [ none ↦ messagesMost | some j ↦ j ]
+unfoldable pub next_in : List ℕ → ℕ → ℕ
+next_in row m = elim (lowest messages_most (stands_from row m)) [ none ↦ messages_most | some j ↦ j ]

@@ -1,17 +1,17 @@
 // The next message in a row of bits, word by word.
-ghost use mathlib.Core.Path.{_≡_};
-ghost use Prim.Native.Nat.{_<_, _≤_};
-ghost use lib.ListN.{length};
-ghost use Rattle·model.specs.Limits.{messagesMost};
-ghost use Rattle·relation.specs.Width.{width};
-ghost use Rattle·next_message·specs.specs.Next.{nextIn};
-use relation::WIDTH;
-use relation::WORD_BITS;
+#![tactic(auto)]
+
+ghost use Rattle.std.specs.Prelude.{◌≡◌, ◌<◌, ◌≤◌, length};
+ghost use Rattle.model.specs.Limits.{messages_most};
+ghost use Rattle.relation.specs.Width.{width};
+ghost use Rattle.next_message.specs.Next.{next_in};
+
+use relation::{WIDTH, WORD_BITS};
 
 // The lowest message from m on with a bit in the row, its send's or its receive's; where there is none, the most messages.
 pub fn next_in(row: &[u64], m: usize) -> usize
-    requires { ⌜ (m < messagesMost) × (width ≤ length (now row)) ⌝ }
-    ensures { λ r. ⌜ r ≡ nextIn (now (row .entry)) m ⌝ }
+    requires { (m < messages_most) × (width ≤ length row.now) }
+    ensures { result ≡ next_in row.now m }
 {
     let send = 2 * m;
     let at = send / WORD_BITS;

@@ -1,18 +1,20 @@
 // The state of a run behind a step: the events done, the messages under way, and what the receiver's buffer holds.
-ghost use Prim.Native.Nat.{_<_};
-ghost use Rattle·model.specs.Limits.{messagesMost};
-ghost use Rattle·step.specs.Steps.{stepIn, messageIn};
-ghost use Rattle·run.specs.State.{Reaches};
-ghost use Rattle·next_state·specs.specs.Behind.{DoneBehind, WayBehind, HeldBehind, NextRun};
+#![tactic(auto)]
+
+ghost use Rattle.std.specs.Prelude.{◌<◌};
+ghost use Rattle.model.specs.Limits.{messages_most};
+ghost use Rattle.step.specs.Steps.{step_in, message_in};
+ghost use Rattle.run.specs.State.{Reaches};
+ghost use Rattle.next_state.specs.Behind.{DoneBehind, WayBehind, HeldBehind, NextRun};
+
 use relation::WIDTH;
-use run::Run;
-use run::target_of;
+use run::{Run, target_of};
 use step::Step;
 
 // The events done, as a step leaves them: a send is done when sent, a receive when consumed.
 pub fn done_behind(done: &mut [u64; WIDTH], step: Step)
-    requires { ⌜ messageIn step < messagesMost ⌝ }
-    ensures { λ _. ⌜ DoneBehind (now (done .entry)) step (now (done .exit)) ⌝ }
+    requires { message_in step < messages_most }
+    ensures { DoneBehind done.old step done.new }
 {
     let send = 2 * step.message();
     let receive = send + 1;
@@ -25,8 +27,8 @@ pub fn done_behind(done: &mut [u64; WIDTH], step: Step)
 
 // The messages under way, as a step leaves them: one sent goes under way, and one delivered leaves the channel.
 pub fn way_behind(way: &mut [u64; WIDTH], step: Step)
-    requires { ⌜ messageIn step < messagesMost ⌝ }
-    ensures { λ _. ⌜ WayBehind (now (way .entry)) step (now (way .exit)) ⌝ }
+    requires { message_in step < messages_most }
+    ensures { WayBehind way.old step way.new }
 {
     let send = 2 * step.message();
     match step {
@@ -38,8 +40,8 @@ pub fn way_behind(way: &mut [u64; WIDTH], step: Step)
 
 // What the receiver's buffer holds, as a step leaves it: a message delivered enters it, and one consumed leaves it.
 pub fn held_behind(held: &mut [u64; WIDTH], step: Step)
-    requires { ⌜ messageIn step < messagesMost ⌝ }
-    ensures { λ _. ⌜ HeldBehind (now (held .entry)) step (now (held .exit)) ⌝ }
+    requires { message_in step < messages_most }
+    ensures { HeldBehind held.old step held.new }
 {
     let send = 2 * step.message();
     match step {
@@ -51,8 +53,8 @@ pub fn held_behind(held: &mut [u64; WIDTH], step: Step)
 
 // The run behind a step. For single use: each call copies the run. Where one step follows another, the same lines stand in place.
 pub fn next(mut run: Run, boards: &[u8], step: Step) -> Run
-    requires { ⌜ Reaches (now boards) step ⌝ }
-    ensures { λ r. ⌜ NextRun (now (boards .entry)) run (stepIn step) r ⌝ }
+    requires { Reaches boards.now step }
+    ensures { NextRun boards.now run (step_in step) result }
 {
     let target = target_of(boards, step);
     let mut buffer = run.buffers[target];

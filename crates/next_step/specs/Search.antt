@@ -1,36 +1,32 @@
 -- What the search for the next step says. Assumes nothing.
-use mathlib.Core.Path.{_≡_}
-use mathlib.Core.Bool.{Bool, _&&_}
-use mathlib.Core.List.{List, [], _∷_}
-use Prim.Native.Nat.{ℕ}
-use lib.ListN.{getD}
-use Rattle·model.specs.Run.{allowed}
-use Rattle·model.specs.Schedule.{choose, classesFor}
-use Rattle·relation.specs.Scenario.{scenarioIn}
-use Rattle·channel_table.specs.declared.Channel.{Channel}
-use Rattle·channel_table.specs.Table.{channelIn}
-use Rattle·run.specs.declared.Run.{Run}
-use Rattle·step.specs.declared.StepOrNone.{StepOrNone}
-use Rattle·step.specs.Steps.{stepOrNone}
-use Rattle·run.specs.State.{stateOf}
-use Rattle·buffers.specs.Held.{HeldIn}
-use Rattle·step_classes.specs.declared.Class.{Class}
-use Rattle·step_classes.specs.declared.Class.the-variants.{AnyConsume, DeliveryOf, NeededDelivery, NeededSend, AnyDelivery, AnySend}
-use Rattle·step_classes.specs.Classes.{classIn}
+use Rattle.std.specs.Prelude.{◌≡◌, Bool, ◌&&◌, List, [], ◌∷◌, ℕ, get_or}
+use Rattle.model.specs.Run.{allowed}
+use Rattle.model.specs.Schedule.{choose, classes_for}
+use Rattle.relation.specs.Scenario.{scenario_in}
+use Rattle.channel_table.specs.declared.Channel.{Channel}
+use Rattle.channel_table.specs.Table.{channel_in}
+use Rattle.run.specs.declared.Run.{Run}
+use Rattle.step.specs.declared.StepOrNone.{StepOrNone}
+use Rattle.step.specs.Steps.{step_or_none}
+use Rattle.run.specs.State.{state_of}
+use Rattle.buffers.specs.Held.{HeldIn}
+use Rattle.step_classes.specs.declared.Class.{Class}
+use Rattle.step_classes.specs.declared.Class.TheVariants.{AnyConsume, DeliveryOf, NeededDelivery, NeededSend, AnyDelivery, AnySend}
+use Rattle.step_classes.specs.Classes.{class_in}
 
 -- the classes, in the order in which they are tried
-abbrev pub classAt : ℕ → Class
-classAt k = getD (AnyConsume ∷ DeliveryOf ∷ NeededDelivery ∷ NeededSend ∷ AnyDelivery ∷ AnySend ∷ []) k AnySend
+abbrev pub class_at : ℕ → Class
+class_at k = get_or (AnyConsume ∷ DeliveryOf ∷ NeededDelivery ∷ NeededSend ∷ AnyDelivery ∷ AnySend ∷ []) k AnySend
 
 -- what holds of every run with these parts: what is done, what is under way, and the rows of the buffers
 abbrev pub OfRuns : List ℕ → List ℕ → List ℕ → (Run → Type 0) → Type 0
-OfRuns done way rows P = (run : Run) → run .done ≡ done → run .way ≡ way → HeldIn run rows → P run
+OfRuns done way rows P = (run : Run) → run.done ≡ done → run.way ≡ way → HeldIn run rows → P run
 
 -- message m is of the class, and its step is allowed
 abbrev pub fits : ℕ → List ℕ → List ℕ → Channel → Run → ℕ → Class → ℕ → Bool
 fits count boards words c run e class m =
-    (classIn (scenarioIn count boards words) e class) .takes m
-    && allowed (scenarioIn count boards words) (channelIn c) (stateOf run) ((classIn (scenarioIn count boards words) e class) .step m)
+    (class_in (scenario_in count boards words) e class).takes m
+    && allowed (scenario_in count boards words) (channel_in c) (state_of run) ((class_in (scenario_in count boards words) e class).step m)
 
 module _ (count : ℕ) (boards words : List ℕ) (c : Channel) where
   -- message m is of the class and its step is allowed, in every run with these parts
@@ -41,12 +37,12 @@ module _ (count : ℕ) (boards words : List ℕ) (c : Channel) where
   abbrev pub Lowest : List ℕ → List ℕ → List ℕ → ℕ → Class → StepOrNone → Type 0
   Lowest done way rows e class r =
       OfRuns done way rows (λ run.
-      stepOrNone r ≡ choose (scenarioIn count boards words) (channelIn c) (classIn (scenarioIn count boards words) e class ∷ []) (stateOf run))
+      step_or_none r ≡ choose (scenario_in count boards words) (channel_in c) (class_in (scenario_in count boards words) e class ∷ []) (state_of run))
 
   -- what the schedule for e takes next, in the run's state
   abbrev pub Chosen : Run → ℕ → StepOrNone → Type 0
   Chosen run e r =
-      stepOrNone r ≡ choose (scenarioIn count boards words) (channelIn c) (classesFor (scenarioIn count boards words) e) (stateOf run)
+      step_or_none r ≡ choose (scenario_in count boards words) (channel_in c) (classes_for (scenario_in count boards words) e) (state_of run)
 
   -- the same of every run with these parts
   abbrev pub ChosenIn : List ℕ → List ℕ → List ℕ → ℕ → StepOrNone → Type 0

@@ -1,9 +1,11 @@
 // The search for the next step of the schedule: class by class, the lowest message first.
-ghost use mathlib.Core.Path.{_≡_};
-ghost use Prim.Native.Nat.{_<_};
-ghost use Rattle·board.specs.Masks.{Standing};
-ghost use Rattle·buffers.specs.Held.{HeldAnywhere};
-ghost use Rattle·next_step·specs.specs.Search.{classAt, Fits, Lowest, ChosenIn};
+#![tactic(auto)]
+
+ghost use Rattle.std.specs.Prelude.{◌≡◌, ◌<◌};
+ghost use Rattle.board.specs.Masks.{Standing};
+ghost use Rattle.buffers.specs.Held.{HeldAnywhere};
+ghost use Rattle.next_step.specs.Search.{class_at, Fits, Lowest, ChosenIn};
+
 use buffers::HELD_WORDS;
 use channel::may_step;
 use channel_table::Channel;
@@ -26,9 +28,9 @@ fn fits_class<'a>(
     class: Class,
     m: usize,
 ) -> bool
-    requires { ⌜ Standing count (now boards) (now words) (now masks) ⌝ }
-    requires { ⌜ (e < count) × (m < count) ⌝ }
-    ensures { λ r. ⌜ Fits count (now (boards .entry)) (now (words .entry)) c (now (done .entry)) (now (way .entry)) (now (rows .entry)) e class m r ⌝ }
+    requires standing { Standing count boards.now words.now masks.now }
+    requires e_lt_count { (e < count) × (m < count) }
+    ensures { Fits count boards.now words.now c done.now way.now rows.now e class m result }
 {
     if !step_classes::takes(words, boards, count, e, class, m) {
         return false;
@@ -51,10 +53,10 @@ fn lowest<'a>(
     e: usize,
     class: Class,
 ) -> StepOrNone
-    requires { ⌜ Standing count (now boards) (now words) (now masks) ⌝ }
-    requires { ⌜ HeldAnywhere (now rows) (now held) ⌝ }
-    requires { ⌜ e < count ⌝ }
-    ensures { λ r. ⌜ Lowest count (now (boards .entry)) (now (words .entry)) c (now (done .entry)) (now (way .entry)) (now (rows .entry)) e class r ⌝ }
+    requires standing { Standing count boards.now words.now masks.now }
+    requires held_anywhere { HeldAnywhere rows.now held.now }
+    requires e_lt_count { e < count }
+    ensures { Lowest count boards.now words.now c done.now way.now rows.now e class result }
 {
     let among = candidates::candidates(words, done, way, held, e, class);
     let mut m = next_message::next_in(&among, 0);
@@ -74,7 +76,7 @@ const CLASS_COUNT: usize = 6;
 
 // The classes in the order in which they are tried.
 fn class_at(k: usize) -> Class
-    ensures { λ r. ⌜ r ≡ classAt k ⌝ }
+    ensures { result ≡ class_at k }
 {
     match k {
         0 => Class::AnyConsume,
@@ -99,25 +101,15 @@ pub fn choose<'a>(
     held: &'a [u64; WIDTH],
     e: usize,
 ) -> StepOrNone
-    requires { ⌜ Standing count (now boards) (now words) (now masks) ⌝ }
-    requires { ⌜ HeldAnywhere (now rows) (now held) ⌝ }
-    requires { ⌜ e < count ⌝ }
-    ensures { λ r. ⌜ ChosenIn count (now (boards .entry)) (now (words .entry)) c (now (done .entry)) (now (way .entry)) (now (rows .entry)) e r ⌝ }
+    requires standing { Standing count boards.now words.now masks.now }
+    requires held_anywhere { HeldAnywhere rows.now held.now }
+    requires e_lt_count { e < count }
+    ensures { ChosenIn count boards.now words.now c done.now way.now rows.now e result }
 {
     for k in 0..CLASS_COUNT {
         let class = class_at(k);
         let found = lowest(
-            words,
-            masks,
-            boards,
-            count,
-            c,
-            done,
-            way,
-            rows,
-            held,
-            e,
-            class,
+            words, masks, boards, count, c, done, way, rows, held, e, class,
         );
         match found {
             StepOrNone::Step(_) => return found,

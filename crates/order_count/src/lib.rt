@@ -1,45 +1,45 @@
 // The P rows of a cured sheet, counted by words.
-ghost use mathlib.Core.Path.{_≡_};
-ghost use Prim.Native.Nat.{_+_, _*_, _<_, _≤_};
-ghost use lib.ListN.{length};
-ghost use Rattle·model.specs.Limits.{messagesMost};
-ghost use Rattle·model.specs.Bounded.{howMany};
-ghost use Rattle·relation.specs.Width.{width, wordBits};
-ghost use Rattle·relation.specs.Rows.{has, holds};
-ghost use Rattle·order_count·specs.specs.Orders.{ordersTo};
-use relation::WIDTH;
-use relation::WORD_BITS;
+#![tactic(auto)]
+
+ghost use Rattle.std.specs.Prelude.{◌≡◌, ◌+◌, ◌*◌, ◌<◌, ◌≤◌, length};
+ghost use Rattle.model.specs.Limits.{messages_most};
+ghost use Rattle.model.specs.Bounded.{how_many};
+ghost use Rattle.relation.specs.Width.{width, word_bits};
+ghost use Rattle.relation.specs.Rows.{has, holds};
+ghost use Rattle.order_count.specs.Orders.{orders_to};
+
+use relation::{WIDTH, WORD_BITS};
 
 // A count of bits, as a number of rows.
 fn wide(bits: u32) -> usize
-    ensures { λ r. ⌜ r ≡ bits ⌝ }
+    ensures { result ≡ bits }
 {
     bits as usize
 }
 
 // How many events a word has.
 fn count_word(word: u64) -> usize
-    ensures { λ r. ⌜ r ≡ howMany wordBits (has word) ⌝ }
-    ensures { λ r. ⌜ r ≤ wordBits ⌝ }
+    ensures value { result ≡ how_many word_bits (has word) }
+    ensures upper_bound { result ≤ word_bits }
 {
     wide(u64::count_ones(word))
 }
 
 // How many events it has among its first few.
 fn count_first(word: u64, few: usize) -> usize
-    requires { ⌜ few < wordBits ⌝ }
-    ensures { λ r. ⌜ r ≡ howMany few (has word) ⌝ }
-    ensures { λ r. ⌜ r ≤ few ⌝ }
+    requires { few < word_bits }
+    ensures value { result ≡ how_many few (has word) }
+    ensures upper_bound { result ≤ few }
 {
     wide(u64::count_ones(word & ((1 << few) - 1)))
 }
 
 // How many events stand directly before e's send: the row of its receive holds them. No bit behind the last event counts.
 fn count_before(words: &[u64], count: usize, e: usize) -> usize
-    requires { ⌜ (e < count) × (count ≤ messagesMost) ⌝ }
-    requires { ⌜ 2 * count * width ≤ length (now words) ⌝ }
-    ensures { λ r. ⌜ r ≡ howMany (2 * count) (holds width (now (words .entry)) (2 * e + 1)) ⌝ }
-    ensures { λ r. ⌜ r ≤ 2 * count ⌝ }
+    requires e_lt_count { (e < count) × (count ≤ messages_most) }
+    requires width_in_bounds { 2 * count * width ≤ length words.now }
+    ensures value { result ≡ how_many (2 * count) (holds width words.now (2 * e + 1)) }
+    ensures upper_bound { result ≤ 2 * count }
 {
     let events = 2 * count;
     let receive = 2 * e + 1;
@@ -60,10 +60,10 @@ fn count_before(words: &[u64], count: usize, e: usize) -> usize
 
 // The P rows of a cured sheet, counted: the rows of the receives hold what stands directly before the sends.
 pub fn count_orders(words: &[u64], count: usize) -> usize
-    requires { ⌜ count ≤ messagesMost ⌝ }
-    requires { ⌜ 2 * count * width ≤ length (now words) ⌝ }
-    ensures { λ r. ⌜ r ≡ length (ordersTo (now (words .entry)) count (2 * count)) ⌝ }
-    ensures { λ r. ⌜ r ≤ messagesMost * (2 * count) ⌝ }
+    requires count_le_messages_most { count ≤ messages_most }
+    requires width_in_bounds { 2 * count * width ≤ length words.now }
+    ensures value { result ≡ length (orders_to words.now count (2 * count)) }
+    ensures upper_bound { result ≤ messages_most * (2 * count) }
 {
     let mut found = 0;
     for e in 0..count {

@@ -1,70 +1,70 @@
 -- The whole promise, from what the parts of the call hand on. Assumes nothing.
-use mathlib.Core.Path.{_≡_, refl, sym, _∙_, ap}
+use mathlib.Core.Path.{◌≡◌, refl, sym, ◌∙◌, ap}
 use mathlib.Core.Bool.{or-true}
-use mathlib.Core.List.{List, _++_}
-use Prim.Native.Nat.{ℕ, _<_, _≤_}
+use mathlib.Core.List.{List, ◌++◌}
+use Prim.Native.Nat.{ℕ, ◌<◌, ◌≤◌}
 use native.Mathlib.Omega.{arith}
 use borrow.Author.Tests.{lt-ltb, le-ltb, le-leb, lt-leb}
 use lib.Dec.{ltb}
 use lib.ListN.{length, drop}
-use Rattle·model.specs.Limits.{channels, scratchLeast, traceLeast}
-use Rattle·model.specs.Refusal.{Out, ok, refusal, channelRefusal, benchRefusal}
-use Rattle·model.specs.Order.{Scenario}
-use Rattle·model.specs.Answer.{refusedWord, answerFor, numbersOf, scratchBehind, traceAfter}
-use Rattle·model.specs.Senders.{permittedOf, PermittedCheck}
-use Rattle·model.proofs.Permitted.{permitted-check}
-use Rattle·relation.specs.Rows.{cleared}
-use Rattle·relation.proofs.Cleared.{cleared-behind, cleared-all}
-use Rattle·verdict.specs.declared.Answer.{Answer}
-use Rattle·verdict.specs.Parts.{numbersFor, Decides}
-use Rattle·permitted·specs.specs.Parts.{sheetWith}
-use Rattle·permitted·proofs.proofs.Well.{WellNamed, with-well}
+use Rattle.model.specs.Limits.{channels, scratch_least, trace_least}
+use Rattle.model.specs.Refusal.{Out, ok, refusal, channel_refusal, bench_refusal}
+use Rattle.model.specs.Order.{Scenario}
+use Rattle.model.specs.Answer.{refused_word, answer_for, numbers_of, scratch_behind, trace_after}
+use Rattle.model.specs.Senders.{permitted_of, PermittedCheck}
+use Rattle.model.proofs.Permitted.{permitted_check}
+use Rattle.relation.specs.Rows.{cleared}
+use Rattle.relation.proofs.Cleared.{cleared_behind, cleared_all}
+use Rattle.verdict.specs.declared.Answer.{Answer}
+use Rattle.verdict.specs.Parts.{numbers_for, Decides}
+use Rattle.permitted.specs.Parts.{sheet_with}
+use Rattle.permitted.proofs.Well.{WellNamed, with_well}
 
--- the first words of the scratch were used and the rest not, and then the first `scratchLeast` cleared
-scratch-left : (text table scratch used : List ℕ) (n : ℕ) → length used ≡ n → n ≤ scratchLeast
-    → cleared scratchLeast (used ++ drop n scratch) ≡ scratchBehind (sheetWith text table) scratch
-unfolding scratchBehind cleared
-scratch-left text table scratch used n e l = cleared-behind scratchLeast used scratch n e l ∙ go (sheetWith text table) (with-well text table)
+-- the first words of the scratch were used and the rest not, and then the first `scratch_least` cleared
+scratch_left : (text table scratch used : List ℕ) (n : ℕ) → length used ≡ n → n ≤ scratch_least
+    → cleared scratch_least (used ++ drop n scratch) ≡ scratch_behind (sheet_with text table) scratch
+unfolding scratch_behind cleared
+scratch_left text table scratch used n e l = cleared_behind scratch_least used scratch n e l ∙ go (sheet_with text table) (with_well text table)
   where
-    go : (o : Out Scenario) → WellNamed o → cleared scratchLeast scratch ≡ scratchBehind o scratch
-    go (refusal number line) w = rw (lt-leb number benchRefusal (w .behind))
+    go : (o : Out Scenario) → WellNamed o → cleared scratch_least scratch ≡ scratch_behind o scratch
+    go (refusal number line) w = rw (lt-leb number bench_refusal w.behind)
     go (ok S) w = refl
 
 -- What each return of `check` is to show: refusal 1 for a code above 5, refusal 2 for a short buffer, else what sheet and table decide.
 module _ (text : List ℕ) (code : ℕ) (scratch trace table : List ℕ) where
   abbrev outcome : Out Scenario
-  outcome = permittedOf text code (length scratch) (length trace) table
+  outcome = permitted_of text code (length scratch) (length trace) table
 
-  refuses : (number : ℕ) → number ≤ benchRefusal → outcome ≡ refusal number 0
-      → PermittedCheck text code scratch scratch trace trace table (record { word = refusedWord; one = number; two = 0; three = 0 })
-  unfolding scratchBehind answerFor traceAfter
-  refuses number l e = permitted-check text code scratch scratch trace trace table _ (rw e) (rw (e, le-leb number benchRefusal l)) (rw e)
+  refuses : (number : ℕ) → number ≤ bench_refusal → outcome ≡ refusal number 0
+      → PermittedCheck text code scratch scratch trace trace table (record { word = refused_word; one = number; two = 0; three = 0 })
+  unfolding scratch_behind answer_for trace_after
+  refuses number l e = permitted_check text code scratch scratch trace trace table _ (rw e) (rw (e, le-leb number bench_refusal l)) (rw e)
 
-  pub refuses-channel : channels ≤ code
-      → PermittedCheck text code scratch scratch trace trace table (record { word = refusedWord; one = channelRefusal; two = 0; three = 0 })
-  unfolding permittedOf
-  refuses-channel h = refuses channelRefusal (omega arith) (rw (le-ltb code channels h))
+  pub refuses_channel : channels ≤ code
+      → PermittedCheck text code scratch scratch trace trace table (record { word = refused_word; one = channel_refusal; two = 0; three = 0 })
+  unfolding permitted_of
+  refuses_channel h = refuses channel_refusal (omega arith) (rw (le-ltb code channels h))
 
-  pub refuses-scratch : code < channels → length scratch < scratchLeast
-      → PermittedCheck text code scratch scratch trace trace table (record { word = refusedWord; one = benchRefusal; two = 0; three = 0 })
-  unfolding permittedOf
-  refuses-scratch h l = refuses benchRefusal (omega arith) (rw (lt-ltb code channels h, lt-ltb (length scratch) scratchLeast l))
+  pub refuses_scratch : code < channels → length scratch < scratch_least
+      → PermittedCheck text code scratch scratch trace trace table (record { word = refused_word; one = bench_refusal; two = 0; three = 0 })
+  unfolding permitted_of
+  refuses_scratch h l = refuses bench_refusal (omega arith) (rw (lt-ltb code channels h, lt-ltb (length scratch) scratch_least l))
 
-  pub refuses-trace : code < channels → length trace < traceLeast
-      → PermittedCheck text code scratch scratch trace trace table (record { word = refusedWord; one = benchRefusal; two = 0; three = 0 })
-  unfolding permittedOf
-  refuses-trace h l =
-      refuses benchRefusal (omega arith)
-      (rw (lt-ltb code channels h, lt-ltb (length trace) traceLeast l, or-true (ltb (length scratch) scratchLeast)))
+  pub refuses_trace : code < channels → length trace < trace_least
+      → PermittedCheck text code scratch scratch trace trace table (record { word = refused_word; one = bench_refusal; two = 0; three = 0 })
+  unfolding permitted_of
+  refuses_trace h l =
+      refuses bench_refusal (omega arith)
+      (rw (lt-ltb code channels h, lt-ltb (length trace) trace_least l, or-true (ltb (length scratch) scratch_least)))
 
-  pub answers : (scratchExit traceExit used : List ℕ) (n : ℕ) (r : Answer) (w : ℕ) → code < channels → scratchLeast ≤ length scratch → traceLeast ≤ length trace
-      → length used ≡ n → n ≤ scratchLeast → scratchExit ≡ cleared w (used ++ drop n scratch) → w ≡ scratchLeast → Decides (sheetWith text table) code trace traceExit r
-      → PermittedCheck text code scratch scratchExit trace traceExit table (numbersFor r)
-  unfolding permittedOf sheetWith
-  answers scratchExit traceExit used n r w h l k e m s all d =
-      let same : outcome ≡ sheetWith text table =
-      rw (lt-ltb code channels h, le-ltb (length scratch) scratchLeast l, le-ltb (length trace) traceLeast k) in
-      permitted-check text code scratch scratchExit trace traceExit table (numbersFor r)
-      (d .answer ∙ ap (λ (o : Out Scenario). numbersOf (answerFor o code)) (sym same))
-      (cleared-all scratchLeast w (used ++ drop n scratch) scratchExit s all ∙ scratch-left text table scratch used n e m ∙ ap (λ (o : Out Scenario). scratchBehind o scratch) (sym same))
-      (d .traceLeft ∙ ap (λ (o : Out Scenario). traceAfter (answerFor o code) trace) (sym same))
+  pub answers : (scratch_exit trace_exit used : List ℕ) (n : ℕ) (r : Answer) (w : ℕ) → code < channels → scratch_least ≤ length scratch → trace_least ≤ length trace
+      → length used ≡ n → n ≤ scratch_least → scratch_exit ≡ cleared w (used ++ drop n scratch) → w ≡ scratch_least → Decides (sheet_with text table) code trace trace_exit r
+      → PermittedCheck text code scratch scratch_exit trace trace_exit table (numbers_for r)
+  unfolding permitted_of sheet_with
+  answers scratch_exit trace_exit used n r w h l k e m s all d =
+      let same : outcome ≡ sheet_with text table =
+      rw (lt-ltb code channels h, le-ltb (length scratch) scratch_least l, le-ltb (length trace) trace_least k) in
+      permitted_check text code scratch scratch_exit trace trace_exit table (numbers_for r)
+      (d.answer ∙ ap (λ (o : Out Scenario). numbers_of (answer_for o code)) (sym same))
+      (cleared_all scratch_least w (used ++ drop n scratch) scratch_exit s all ∙ scratch_left text table scratch used n e m ∙ ap (λ (o : Out Scenario). scratch_behind o scratch) (sym same))
+      (d.trace_left ∙ ap (λ (o : Out Scenario). trace_after (answer_for o code) trace) (sym same))

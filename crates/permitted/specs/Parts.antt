@@ -1,15 +1,11 @@
 -- The scenario of a text with a table, behind refusals 1 and 2, or the refusal. Assumes nothing.
-use Prim.Native.Nat.{ℕ}
-use mathlib.Core.Bool.{cond, _&&_}
-use mathlib.Core.List.{List}
-use lib.Dec.{leb, ltb}
-use lib.ListN.{length}
-use Rattle·model.specs.Limits.{textMost}
-use Rattle·model.specs.Refusal.{Out, refusal, andThen, lengthRefusal}
-use Rattle·model.specs.Order.{Scenario}
-use Rattle·model.specs.Senders.{soundTable}
-use Rattle·permitted_sheet.specs.Sheet.{sheetBy}
+use Rattle.std.specs.Prelude.{ℕ, cond, ◌&&◌, List, leb, ltb, length}
+use Rattle.model.specs.Limits.{text_most}
+use Rattle.model.specs.Refusal.{Out, refusal, and_then, length_refusal}
+use Rattle.model.specs.Order.{Scenario}
+use Rattle.model.specs.Senders.{sound_table}
+use Rattle.permitted_sheet.specs.Sheet.{sheet_by}
 
-unfoldable pub sheetWith : List ℕ → List ℕ → Out Scenario
-sheetWith text table =
-    cond (ltb 0 (length text) && leb (length text) textMost) (andThen (soundTable table) (sheetBy text)) (refusal lengthRefusal 0)
+unfoldable pub sheet_with : List ℕ → List ℕ → Out Scenario
+sheet_with text table =
+    cond (ltb 0 (length text) && leb (length text) text_most) (and_then (sound_table table) (sheet_by text)) (refusal length_refusal 0)

@@ -1,20 +1,21 @@
 // The check of a sheet with a table of permitted senders: a text, a channel code, scratch words, trace bytes and a table in; free, locked or
 // refused out. 18 for the table comes directly behind 3, and 19 for a forbidden message once the walk has ended.
+#![tactic(auto)]
+
+ghost use Rattle.std.specs.Prelude.{◌*◌, ◌<◌, ◌≤◌, ◌≡◌, length, take};
+ghost use Rattle.model.specs.Limits.{channels, messages_most, rules_most, trace_least};
+ghost use Rattle.model.specs.Refusal.{and_then};
+ghost use Rattle.model.specs.Senders.{sound_rules, PermittedCheck};
+ghost use Rattle.relation.specs.Width.{width};
+ghost use Rattle.coverage.specs.Rules.{rules_as};
+ghost use Rattle.verdict.specs.Parts.{numbers_for, Decides};
+ghost use Rattle.permitted_sheet.specs.Sheet.{sheet_by};
+ghost use Rattle.permitted.specs.Parts.{sheet_with};
+
 use coverage::Rule;
 use model::RULES_MOST;
 use senders::Judgement;
 use verdict::Answer;
-ghost use Prim.Native.Nat.{_*_, _<_, _≤_};
-ghost use mathlib.Core.Path.{_≡_};
-ghost use lib.ListN.{length, take};
-ghost use Rattle·model.specs.Limits.{channels, messagesMost, rulesMost, traceLeast};
-ghost use Rattle·model.specs.Refusal.{andThen};
-ghost use Rattle·model.specs.Senders.{soundRules, PermittedCheck};
-ghost use Rattle·relation.specs.Width.{width};
-ghost use Rattle·coverage.specs.Rules.{rulesAs};
-ghost use Rattle·verdict.specs.Parts.{numbersFor, Decides};
-ghost use Rattle·permitted_sheet.specs.Sheet.{sheetBy};
-ghost use Rattle·permitted·specs.specs.Parts.{sheetWith};
 
 // A text with the rules of a table: one that is not sound is refused, without a line.
 fn judge_rules(
@@ -25,10 +26,10 @@ fn judge_rules(
     words: &mut [u64],
     trace: &mut [u8],
 ) -> Answer
-    requires { ⌜ length (now words) ≡ 2 * messagesMost * width ⌝ }
-    requires { ⌜ (code < channels) × (traceLeast ≤ length (now trace)) ⌝ }
-    requires { ⌜ count ≤ rulesMost ⌝ }
-    ensures { λ r. ⌜ Decides (andThen (soundRules (rulesAs (take count rules))) (sheetBy (now (text .entry)))) code (now (trace .entry)) (now (trace .exit)) r ⌝ }
+    requires words_len { length words.old ≡ 2 * messages_most * width }
+    requires code_lt_channels { (code < channels) × (trace_least ≤ length trace.old) }
+    requires count_le_rules_most { count ≤ rules_most }
+    ensures { Decides (and_then (sound_rules (rules_as (take count rules))) (sheet_by text.now)) code trace.old trace.new result }
 {
     let judgement = senders::judge(rules, count);
     match judgement {
@@ -41,9 +42,9 @@ fn judge_rules(
 
 // A text with a table: the text's length is judged ahead of the table, and the table ahead of the rest of the text.
 fn judge(text: &[u8], table: &[u8], code: usize, words: &mut [u64], trace: &mut [u8]) -> Answer
-    requires { ⌜ length (now words) ≡ 2 * messagesMost * width ⌝ }
-    requires { ⌜ (code < channels) × (traceLeast ≤ length (now trace)) ⌝ }
-    ensures { λ r. ⌜ Decides (sheetWith (now (text .entry)) (now (table .entry))) code (now (trace .entry)) (now (trace .exit)) r ⌝ }
+    requires words_len { length words.old ≡ 2 * messages_most * width }
+    requires code_lt_channels { (code < channels) × (trace_least ≤ length trace.old) }
+    ensures { Decides (sheet_with text.now table.now) code trace.old trace.new result }
 {
     if text.len() == 0 {
         return Answer::Refused(model::LENGTH, 0);
@@ -62,7 +63,7 @@ fn judge(text: &[u8], table: &[u8], code: usize, words: &mut [u64], trace: &mut 
 
 // The call: refusals 1 and 2 touch nothing; behind every other answer the scratch is cleared.
 pub fn check(text: &[u8], code: u32, scratch: &mut [u64], trace: &mut [u8], table: &[u8]) -> Answer
-    ensures { λ r. ⌜ PermittedCheck (now (text .entry)) code (now (scratch .entry)) (now (scratch .exit)) (now (trace .entry)) (now (trace .exit)) (now (table .entry)) (numbersFor r) ⌝ }
+    ensures { PermittedCheck text.now code scratch.old scratch.new trace.old trace.new table.now (numbers_for result) }
 {
     let channel = code as usize;
     if model::CHANNELS <= channel {

@@ -1,100 +1,100 @@
 -- The messages that the sets forbid are those that the rules forbid, and what is decided of a sheet by them. Assumes nothing.
-use Prim.Native.Nat.{ℕ, _+_, _*_, _<_, _≤_}
+use Prim.Native.Nat.{ℕ, ◌+◌, ◌*◌, ◌<◌, ◌≤◌}
 use native.Mathlib.Omega.{arith}
-use mathlib.Core.Path.{_≡_, refl, sym, _∙_, ap, subst⁻¹}
+use mathlib.Core.Path.{◌≡◌, refl, sym, ◌∙◌, ap, subst⁻¹}
 use mathlib.Core.Bool.{not}
 use mathlib.Core.List.{List}
 use mathlib.Core.Option.{none, some}
-use lib.ListN.{length, getD}
-use Rattle·model.specs.Limits.{messagesMost}
-use Rattle·model.specs.Bounded.{lowest}
-use Rattle·model.specs.Refusal.{Out, ok, refusal, andThen, forbiddenRefusal}
-use Rattle·model.specs.Order.{Scenario}
-use Rattle·model.specs.Answer.{sheetOf, answerFor, traceAfter}
-use Rattle·model.specs.Senders.{Rule, isForbidden, linesMet, permitted}
-use Rattle·model.proofs.Bounded.{lowest-within, lowest-some}
-use Rattle·relation.specs.Scenario.{scenarioIn}
-use Rattle·board.specs.Boards.{BoardsBelow}
-use Rattle·expansion.specs.declared.Expanded.{Expanded}
-use Rattle·expansion.specs.declared.Expanded.the-variants as expanded
-use Rattle·scenario.specs.Contract.{Fit, SheetIn}
-use Rattle·scenario.proofs.Laws.{sheet-refused, sheet-is, sheet-fits}
-use Rattle·message_lines.proofs.Counted.{lines-count}
-use Rattle·receivers.specs.Permitted.{PermittedBy, forbiddenIn, isForbiddenIn}
-use Rattle·receivers.specs.declared.Forbidden.{Forbidden}
-use Rattle·receivers.specs.declared.Forbidden.the-variants.{Message, Nothing}
-use Rattle·verdict.specs.declared.Answer.{Answer}
-use Rattle·verdict.specs.declared.Answer.the-variants.{Refused}
-use Rattle·verdict.specs.Parts.{Decides}
-use Rattle·permitted_sheet·specs.specs.Sheet.{sheetBy}
+use lib.ListN.{length, get_or}
+use Rattle.model.specs.Limits.{messages_most}
+use Rattle.model.specs.Bounded.{lowest}
+use Rattle.model.specs.Refusal.{Out, ok, refusal, and_then, forbidden_refusal}
+use Rattle.model.specs.Order.{Scenario}
+use Rattle.model.specs.Answer.{answer_for, trace_after}
+use Rattle.model.specs.Senders.{Rule, is_forbidden, lines_met, permitted}
+use Rattle.model.proofs.Bounded.{lowest_within, lowest_some}
+use Rattle.relation.specs.Scenario.{scenario_in}
+use Rattle.board.specs.Boards.{BoardsBelow}
+use Rattle.expansion.specs.declared.Expanded.{Expanded}
+use Rattle.expansion.specs.declared.Expanded.TheVariants as expanded
+use Rattle.scenario.specs.Contract.{Fit, SheetIn}
+use Rattle.scenario.proofs.Laws.{sheet_refused, sheet_is, sheet_fits}
+use Rattle.message_lines.proofs.Counted.{lines_count}
+use Rattle.receivers.specs.Permitted.{PermittedBy, forbidden_in, is_forbidden_in}
+use Rattle.receivers.specs.declared.Forbidden.{Forbidden}
+use Rattle.receivers.specs.declared.Forbidden.TheVariants.{Message, Nothing}
+use Rattle.verdict.specs.declared.Answer.{Answer}
+use Rattle.verdict.specs.declared.Answer.TheVariants.{Refused}
+use Rattle.verdict.specs.Parts.{Decides}
+use Rattle.permitted_sheet.specs.Sheet.{sheet_by}
 
 -- a refusal handed on
 pub refuses : (o : Out Scenario) (number line code : ℕ) (trace : List ℕ) → o ≡ refusal number line → Decides o code trace trace (Refused number line)
-unfolding answerFor traceAfter
-refuses o number line code trace e = subst⁻¹ (λ (p : Out Scenario). Decides p code trace trace (Refused number line)) e (record { answer = refl; traceLeft = refl })
+unfolding answer_for trace_after
+refuses o number line code trace e = subst⁻¹ (λ (p : Out Scenario). Decides p code trace trace (Refused number line)) e (record { answer = refl; trace_left = refl })
 
 -- What the way to the scenario hands on.
 module _ (text boards words : List ℕ) (v : Expanded) (p : SheetIn text boards words v) where
-  pub sheet-not-read : (rules : List Rule) (number line code : ℕ) (trace : List ℕ) → v ≡ expanded.Refused number line
-      → Decides (sheetBy text rules) code trace trace (Refused number line)
-  unfolding andThen
-  sheet-not-read rules number line code trace i =
-      refuses (sheetBy text rules) number line code trace
-      (ap (λ (o : Out Scenario). andThen o (permitted rules (linesMet text))) (sheet-refused text boards words v p number line i))
+  pub sheet_not_read : (rules : List Rule) (number line code : ℕ) (trace : List ℕ) → v ≡ expanded.Refused number line
+      → Decides (sheet_by text rules) code trace trace (Refused number line)
+  unfolding and_then
+  sheet_not_read rules number line code trace i =
+      refuses (sheet_by text rules) number line code trace
+      (ap (λ (o : Out Scenario). and_then o (permitted rules (lines_met text))) (sheet_refused text boards words v p number line i))
 
   module _ (count : ℕ) (i : v ≡ expanded.Messages count) where
     abbrev S : Scenario
-    S = scenarioIn count boards words
+    S = scenario_in count boards words
 
     fit : Fit count boards words
-    fit = sheet-fits text boards words v p count i
+    fit = sheet_fits text boards words v p count i
 
-    pub messages-few : count ≤ messagesMost
-    messages-few = fit .few
+    pub messages_few : count ≤ messages_most
+    messages_few = fit.few
 
-    pub boards-enough : 2 * count ≤ length boards
-    boards-enough = omega (arith, fit .few, fit .boardsLong)
+    pub boards_enough : 2 * count ≤ length boards
+    boards_enough = omega (arith, fit.few, fit.boards_long)
 
-    pub boards-below : BoardsBelow count boards
-    boards-below = fit .boardsBelow
+    pub boards_below_holds : BoardsBelow count boards
+    boards_below_holds = fit.boards_below
 
-    module _ (rules : List Rule) (sets : List ℕ) (b : PermittedBy rules sets) (f : Forbidden) (g : forbiddenIn f ≡ lowest count (isForbiddenIn sets boards)) where
-      by-rules : sheetBy text rules ≡ permitted rules (linesMet text) S
-      unfolding andThen
-      by-rules = ap (λ (o : Out Scenario). andThen o (permitted rules (linesMet text))) (sheet-is text boards words v p count i)
+    module _ (rules : List Rule) (sets : List ℕ) (b : PermittedBy rules sets) (f : Forbidden) (g : forbidden_in f ≡ lowest count (is_forbidden_in sets boards)) where
+      by_rules : sheet_by text rules ≡ permitted rules (lines_met text) S
+      unfolding and_then
+      by_rules = ap (λ (o : Out Scenario). and_then o (permitted rules (lines_met text))) (sheet_is text boards words v p count i)
 
-      same : (m : ℕ) → m < count → isForbidden rules S m ≡ isForbiddenIn sets boards m
-      unfolding isForbiddenIn
+      same : (m : ℕ) → m < count → is_forbidden rules S m ≡ is_forbidden_in sets boards m
+      unfolding is_forbidden_in
       same m l =
-          ap not (sym (b .each (getD boards (2 * m) 0) (fit .boardsBelow (2 * m) (omega arith)) .says (getD boards (2 * m + 1) 0) (fit .boardsBelow (2 * m + 1) (omega arith))))
+          ap not (sym ((b.each (get_or boards (2 * m) 0) (fit.boards_below (2 * m) (omega arith))).says (get_or boards (2 * m + 1) 0) (fit.boards_below (2 * m + 1) (omega arith))))
 
-      first : lowest count (isForbidden rules S) ≡ forbiddenIn f
-      first = lowest-within count count (isForbidden rules S) (isForbiddenIn sets boards) (omega arith) same (λ k l h. absurd (omega arith)) ∙ sym g
+      first : lowest count (is_forbidden rules S) ≡ forbidden_in f
+      first = lowest_within count count (is_forbidden rules S) (is_forbidden_in sets boards) (omega arith) same (λ k l h. absurd (omega arith)) ∙ sym g
 
       -- no message is forbidden
-      pub nothing-forbidden : f ≡ Nothing → (code : ℕ) (trace traceExit : List ℕ) (r : Answer) → Decides (ok S) code trace traceExit r
-          → Decides (sheetBy text rules) code trace traceExit r
+      pub nothing_forbidden : f ≡ Nothing → (code : ℕ) (trace trace_exit : List ℕ) (r : Answer) → Decides (ok S) code trace trace_exit r
+          → Decides (sheet_by text rules) code trace trace_exit r
       unfolding permitted
-      nothing-forbidden e code trace traceExit r d =
-          let n : lowest count (isForbidden rules S) ≡ none = first ∙ ap forbiddenIn e in
-          subst⁻¹ (λ (o : Out Scenario). Decides o code trace traceExit r) (by-rules ∙ rw (n, permitted)) d
+      nothing_forbidden e code trace trace_exit r d =
+          let n : lowest count (is_forbidden rules S) ≡ none = first ∙ ap forbidden_in e in
+          subst⁻¹ (λ (o : Out Scenario). Decides o code trace trace_exit r) (by_rules ∙ rw (n, permitted)) d
 
       -- message m is the first that is forbidden
       module _ (m : ℕ) (e : f ≡ Message m) where
-        is : lowest count (isForbidden rules S) ≡ some m
-        is = first ∙ ap forbiddenIn e
+        is : lowest count (is_forbidden rules S) ≡ some m
+        is = first ∙ ap forbidden_in e
 
-        pub forbidden-met : m < length (linesMet text)
-        forbidden-met =
-            let l : m < count = lowest-some count (isForbidden rules S) m is .below in
-            omega (arith, lines-count text S (sheet-is text boards words v p count i))
+        pub forbidden_met : m < length (lines_met text)
+        forbidden_met =
+            let l : m < count = (lowest_some count (is_forbidden rules S) m is).below in
+            omega (arith, lines_count text S (sheet_is text boards words v p count i))
 
-        pub forbidden-few : m < messagesMost
-        forbidden-few = let l : m < count = lowest-some count (isForbidden rules S) m is .below in omega (arith, fit .few)
+        pub forbidden_few : m < messages_most
+        forbidden_few = let l : m < count = (lowest_some count (is_forbidden rules S) m is).below in omega (arith, fit.few)
 
-        pub message-refused : (line code : ℕ) (trace : List ℕ) → line ≡ getD (linesMet text) m 0
-            → Decides (sheetBy text rules) code trace trace (Refused forbiddenRefusal line)
+        pub message_refused : (line code : ℕ) (trace : List ℕ) → line ≡ get_or (lines_met text) m 0
+            → Decides (sheet_by text rules) code trace trace (Refused forbidden_refusal line)
         unfolding permitted
-        message-refused line code trace l =
-            let o : permitted rules (linesMet text) S ≡ refusal forbiddenRefusal (getD (linesMet text) m 0) = rw (is, permitted) in
-            refuses (sheetBy text rules) forbiddenRefusal line code trace (by-rules ∙ o ∙ ap (refusal forbiddenRefusal) (sym l))
+        message_refused line code trace l =
+            let o : permitted rules (lines_met text) S ≡ refusal forbidden_refusal (get_or (lines_met text) m 0) = rw (is, permitted) in
+            refuses (sheet_by text rules) forbidden_refusal line code trace (by_rules ∙ o ∙ ap (refusal forbidden_refusal) (sym l))

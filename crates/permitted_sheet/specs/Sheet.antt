@@ -1,10 +1,9 @@
 -- The scenario of a text by the rules of a sound table, or the refusal. Assumes nothing.
-use Prim.Native.Nat.{ℕ}
-use mathlib.Core.List.{List}
-use Rattle·model.specs.Refusal.{Out, andThen}
-use Rattle·model.specs.Order.{Scenario}
-use Rattle·model.specs.Answer.{sheetOf}
-use Rattle·model.specs.Senders.{Rule, linesMet, permitted}
+use Rattle.std.specs.Prelude.{ℕ, List}
+use Rattle.model.specs.Refusal.{Out, and_then}
+use Rattle.model.specs.Order.{Scenario}
+use Rattle.model.specs.Answer.{sheet_of}
+use Rattle.model.specs.Senders.{Rule, lines_met, permitted}
 
-abbrev pub sheetBy : List ℕ → List Rule → Out Scenario
-sheetBy text rules = andThen (sheetOf text) (permitted rules (linesMet text))
+abbrev pub sheet_by : List ℕ → List Rule → Out Scenario
+sheet_by text rules = and_then (sheet_of text) (permitted rules (lines_met text))

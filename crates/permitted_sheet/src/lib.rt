@@ -1,17 +1,18 @@
 // A sheet by the rules of a sound table: the check, unless a message that the walk meets is forbidden, 19.
+#![tactic(auto)]
+
+ghost use Rattle.std.specs.Prelude.{◌*◌, ◌<◌, ◌≤◌, ◌≡◌, length, take};
+ghost use Rattle.model.specs.Limits.{channels, messages_most, rules_most, trace_least};
+ghost use Rattle.relation.specs.Width.{width};
+ghost use Rattle.coverage.specs.Rules.{rules_as};
+ghost use Rattle.verdict.specs.Parts.{Decides};
+ghost use Rattle.permitted_sheet.specs.Sheet.{sheet_by};
+
 use coverage::Rule;
 use expansion::Expanded;
 use model::RULES_MOST;
 use receivers::Forbidden;
 use verdict::Answer;
-ghost use Prim.Native.Nat.{_*_, _<_, _≤_};
-ghost use mathlib.Core.Path.{_≡_};
-ghost use lib.ListN.{length, take};
-ghost use Rattle·model.specs.Limits.{channels, messagesMost, rulesMost, traceLeast};
-ghost use Rattle·relation.specs.Width.{width};
-ghost use Rattle·coverage.specs.Rules.{rulesAs};
-ghost use Rattle·verdict.specs.Parts.{Decides};
-ghost use Rattle·permitted_sheet·specs.specs.Sheet.{sheetBy};
 
 // A text with the rules of a sound table: the first message that is forbidden is refused, with its line, else the sheet is decided.
 pub fn judge_sheet(
@@ -22,10 +23,10 @@ pub fn judge_sheet(
     words: &mut [u64],
     trace: &mut [u8],
 ) -> Answer
-    requires { ⌜ length (now words) ≡ 2 * messagesMost * width ⌝ }
-    requires { ⌜ (code < channels) × (traceLeast ≤ length (now trace)) ⌝ }
-    requires { ⌜ count ≤ rulesMost ⌝ }
-    ensures { λ r. ⌜ Decides (sheetBy (now (text .entry)) (rulesAs (take count rules))) code (now (trace .entry)) (now (trace .exit)) r ⌝ }
+    requires words_len { length words.old ≡ 2 * messages_most * width }
+    requires code_lt_channels { (code < channels) × (trace_least ≤ length trace.old) }
+    requires count_le_rules_most { count ≤ rules_most }
+    ensures { Decides (sheet_by text.now (rules_as (take count rules))) code trace.old trace.new result }
 {
     let mut boards = [0u8; model::EVENTS_MOST];
     let outcome = scenario::scenario_of(text, &mut boards, words);

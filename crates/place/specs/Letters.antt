@@ -1,13 +1,11 @@
 -- A row's kind, given by its letter, and its numbers, as the model's row. Assumes nothing.
-use Prim.Native.Nat.{ℕ}
+use Rattle.std.specs.Prelude.{ℕ, cond, eqb}
 use Prim.Native.Char.{code}
-use mathlib.Core.Bool.{cond}
-use lib.Dec.{eqb}
-use Rattle·model.specs.Rows.{Row, sheet, message, order, block, call, choice}
+use Rattle.model.specs.Rows.{Row, sheet, message, order, block, call, choice}
 
 -- the row of a kind, given by its letter, and two numbers; with no other letter it is a B row
-unfoldable pub rowFrom : ℕ → ℕ → ℕ → Row
-rowFrom kind one two =
+unfoldable pub row_from : ℕ → ℕ → ℕ → Row
+row_from kind one two =
     cond (eqb kind (code "S")) (sheet one)
     (cond (eqb kind (code "M")) (message one two)
     (cond (eqb kind (code "P")) (order one two)

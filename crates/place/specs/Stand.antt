@@ -1,18 +1,13 @@
 -- The model's place as the code keeps it: the sheets opened are those with a start in the table.
 -- Assumes nothing.
-use Prim.Native.Nat.{ℕ, _+_, _*_, _≤_}
+use Rattle.std.specs.Prelude.{ℕ, ◌+◌, ◌*◌, ◌≤◌, ◌≡◌, Bool, not, cond, ◌&&◌, ◌||◌, List, [], eqb, ltb, length, get_or, take, set}
 use Prim.Native.Char.{code}
-use mathlib.Core.Path.{_≡_}
-use mathlib.Core.Bool.{Bool, not, cond, _&&_, _||_}
-use mathlib.Core.List.{List, []}
-use mathlib.Core.Option.{Option, none, some}
-use lib.Dec.{eqb, ltb}
-use lib.ListN.{length, getD, take, set}
-use Rattle·model.specs.Limits.{sheets, messagesMost}
-use Rattle·model.specs.Rows.{Row, sheet, message, order, block, call, choice}
-use Rattle·model.specs.Place.{withMessage, messageFits, orderFits, isSheet}
-use Rattle·place·specs.specs.declared.Placed.{Placed}
-use Rattle·place·specs.specs.declared.Placed.the-variants.{Messages, Nowhere}
+use Rattle.std.proofs.Math.Option.{Option, none, some}
+use Rattle.model.specs.Limits.{sheets, messages_most}
+use Rattle.model.specs.Rows.{Row, sheet, message, order, block, call, choice}
+use Rattle.model.specs.Place.{with_message, message_fits, order_fits, is_sheet}
+use Rattle.place.specs.declared.Placed.{Placed}
+use Rattle.place.specs.declared.Placed.TheVariants.{Messages, Nowhere}
 
 -- Where the reader stands: the table of starts, and the board of each event of the open block.
 pub record Stand : Type 0 where
@@ -20,40 +15,40 @@ pub record Stand : Type 0 where
   pub events : List ℕ
 
 -- sheet n has a start
-unfoldable pub isOpen : List ℕ → ℕ → Bool
-isOpen starts n = not (eqb (getD starts n 0) 0)
+unfoldable pub is_open : List ℕ → ℕ → Bool
+is_open starts n = not (eqb (get_or starts n 0) 0)
 
 -- sheet n may be opened
-unfoldable pub mayOpen : List ℕ → ℕ → Bool
-mayOpen starts n = ltb n sheets && not (isOpen starts n)
+unfoldable pub may_open : List ℕ → ℕ → Bool
+may_open starts n = ltb n sheets && not (is_open starts n)
 
 -- where the reader stands behind row i, if it has a place
-unfoldable pub movedTo : ℕ → Stand → Row → Option Stand
-movedTo i s (sheet n) = cond (mayOpen (s .starts) n) (some (record { starts = set (s .starts) n (i + 1); events = [] })) none
-movedTo i s (message a b) =
-    cond (messageFits (s .events) a b) (some (record { starts = s .starts; events = withMessage (s .events) a b })) none
-movedTo i s (order x y) = cond (orderFits (s .events) x y) (some s) none
-movedTo i s block = some (record { starts = s .starts; events = [] })
-movedTo i s (call n) = cond (ltb n sheets) (some (record { starts = s .starts; events = [] })) none
-movedTo i s (choice m n) = cond (ltb m sheets && ltb n sheets) (some (record { starts = s .starts; events = [] })) none
+unfoldable pub moved_to : ℕ → Stand → Row → Option Stand
+moved_to i s (sheet n) = cond (may_open s.starts n) (some (record { starts = set s.starts n (i + 1); events = [] })) none
+moved_to i s (message a b) =
+    cond (message_fits s.events a b) (some (record { starts = s.starts; events = with_message s.events a b })) none
+moved_to i s (order x y) = cond (order_fits s.events x y) (some s) none
+moved_to i s block = some (record { starts = s.starts; events = [] })
+moved_to i s (call n) = cond (ltb n sheets) (some (record { starts = s.starts; events = [] })) none
+moved_to i s (choice m n) = cond (ltb m sheets && ltb n sheets) (some (record { starts = s.starts; events = [] })) none
 
 -- the first row opens a sheet, so that every later row stands behind an S row
-unfoldable pub stoodAt : ℕ → Stand → Row → Option Stand
-stoodAt i s r = cond (isSheet r || ltb 0 i) (movedTo i s r) none
+unfoldable pub stood_at : ℕ → Stand → Row → Option Stand
+stood_at i s r = cond (is_sheet r || ltb 0 i) (moved_to i s r) none
 
 -- the reader's table and boards, with so many messages in the open block
-abbrev pub standOf : List ℕ → List ℕ → ℕ → Stand
-standOf starts boards messages = record { starts = starts; events = take (2 * messages) boards }
+abbrev pub stand_of : List ℕ → List ℕ → ℕ → Stand
+stand_of starts boards messages = record { starts = starts; events = take (2 * messages) boards }
 
-abbrev pub placedFor : Bool → ℕ → Placed
-placedFor fits messages = cond fits (Messages messages) Nowhere
+abbrev pub placed_for : Bool → ℕ → Placed
+placed_for fits messages = cond fits (Messages messages) Nowhere
 
-abbrev pub placedAs : Placed → List ℕ → List ℕ → Option Stand
-placedAs (Messages m) starts boards = some (standOf starts boards m)
-placedAs Nowhere starts boards = none
+abbrev pub placed_as : Placed → List ℕ → List ℕ → Option Stand
+placed_as (Messages m) starts boards = some (stand_of starts boards m)
+placed_as Nowhere starts boards = none
 
 abbrev pub FewMessages : Placed → Type 0
-FewMessages (Messages m) = m ≤ messagesMost
+FewMessages (Messages m) = m ≤ messages_most
 FewMessages Nowhere = Unit {0}
 
 -- a kind that is not an S row's
@@ -61,14 +56,14 @@ abbrev pub OtherThanS : ℕ → Type 0
 OtherThanS kind = kind ≡ code "S" → ⊥
 
 -- a row that is no S row, in a block of m messages: whatever the table of starts holds, it stays as it is
-pub record BlockAs (m : ℕ) (r : Row) (boards boards′ : List ℕ) (p : Placed) : Type 0 where
-  pub stand : (starts : List ℕ) (i : ℕ) → placedAs p starts boards′ ≡ movedTo i (standOf starts boards m) r
+pub record BlockAs (m : ℕ) (r : Row) (boards boards' : List ℕ) (p : Placed) : Type 0 where
+  pub stand : (starts : List ℕ) (i : ℕ) → placed_as p starts boards' ≡ moved_to i (stand_of starts boards m) r
   pub few : FewMessages p
-  pub allBoards : length boards′ ≡ 2 * messagesMost
+  pub all_boards : length boards' ≡ 2 * messages_most
 
 -- any row, as row `row`
 pub record PlaceAs (row : ℕ) (s : Stand) (r : Row) (starts boards : List ℕ) (p : Placed) : Type 0 where
-  pub stand : placedAs p starts boards ≡ stoodAt row s r
+  pub stand : placed_as p starts boards ≡ stood_at row s r
   pub few : FewMessages p
-  pub allStarts : length starts ≡ sheets
-  pub allBoards : length boards ≡ 2 * messagesMost
+  pub all_starts : length starts ≡ sheets
+  pub all_boards : length boards ≡ 2 * messages_most

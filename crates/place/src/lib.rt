@@ -1,21 +1,19 @@
 // Where a row may stand (refusal 6). The table of starts says which sheets are open, the boards those of the open block's events.
-use model::EVENTS_MOST;
-use model::MESSAGES_MOST;
-use model::SHEETS;
-ghost use mathlib.Core.Path.{_≡_};
-ghost use mathlib.Core.Bool.{cond, _&&_};
-ghost use Prim.Native.Nat.{_+_, _*_, _≤_, _<_};
-ghost use lib.Dec.{ltb};
-ghost use lib.ListN.{length, take, set};
-ghost use Rattle·model.specs.Limits.{sheets, rowsMost, messagesMost};
-ghost use Rattle·model.specs.Place.{messageFits, orderFits};
-ghost use Rattle·place·specs.specs.Letters.{rowFrom};
-ghost use Rattle·place·specs.specs.Stand.{mayOpen, standOf, placedFor, OtherThanS, BlockAs, PlaceAs};
+#![tactic(auto)]
+
+ghost use Rattle.std.specs.Prelude.{◌≡◌, cond, ◌&&◌, ◌+◌, ◌*◌, ◌≤◌, ◌<◌, ltb, length, take, set};
+ghost use Rattle.model.specs.Limits.{sheets, rows_most, messages_most};
+ghost use Rattle.model.specs.Place.{message_fits, order_fits};
+ghost use Rattle.place.specs.Letters.{row_from};
+ghost use Rattle.place.specs.Stand.{may_open, stand_of, placed_for, OtherThanS, BlockAs, PlaceAs};
+
+use model::{EVENTS_MOST, MESSAGES_MOST, SHEETS};
 
 // Boards are 0 to 15, in the type of a field.
 const BOARDS: u16 = model::BOARDS as u16;
 
 // The messages of the open block behind the row; nothing where a rule is broken.
+#[derive(Clone, Copy)]
 pub enum Placed {
     Messages(usize),
     Nowhere,
@@ -23,9 +21,9 @@ pub enum Placed {
 
 // `S n`, as row `row`: sheets 0 to 31, each at most once.
 fn open_sheet(row: usize, n: u16, start: &mut [u16; SHEETS]) -> bool
-    requires { ⌜ (row < rowsMost) × (length (now start) ≡ sheets) ⌝ }
-    ensures { λ r. ⌜ r ≡ mayOpen (now (start .entry)) n ⌝ }
-    ensures { λ r. ⌜ now (start .exit) ≡ cond r (set (now (start .entry)) n (row + 1)) (now (start .entry)) ⌝ }
+    requires { (row < rows_most) × (length start.old ≡ sheets) }
+    ensures value { result ≡ may_open start.old n }
+    ensures start_after { start.new ≡ cond result (set start.old n (row + 1)) start.old }
 {
     let k = n as usize;
     if SHEETS <= k {
@@ -40,9 +38,9 @@ fn open_sheet(row: usize, n: u16, start: &mut [u16; SHEETS]) -> bool
 
 // `M a b`: boards 0 to 15, and no message too many for the block.
 fn add_message(messages: usize, boards: &mut [u8; EVENTS_MOST], a: u16, b: u16) -> bool
-    requires { ⌜ (messages ≤ messagesMost) × (length (now boards) ≡ 2 * messagesMost) ⌝ }
-    ensures { λ r. ⌜ r ≡ messageFits (take (2 * messages) (now (boards .entry))) a b ⌝ }
-    ensures { λ r. ⌜ now (boards .exit) ≡ cond r (set (set (now (boards .entry)) (2 * messages) a) (2 * messages + 1) b) (now (boards .entry)) ⌝ }
+    requires { (messages ≤ messages_most) × (length boards.old ≡ 2 * messages_most) }
+    ensures value { result ≡ message_fits (take (2 * messages) boards.old) a b }
+    ensures boards_after { boards.new ≡ cond result (set (set boards.old (2 * messages) a) (2 * messages + 1) b) boards.old }
 {
     if BOARDS <= a {
         return false;
@@ -62,8 +60,8 @@ fn add_message(messages: usize, boards: &mut [u8; EVENTS_MOST], a: u16, b: u16) 
 
 // `P x y`: both events are there, differ, and are on one board.
 fn may_order(messages: usize, boards: &[u8; EVENTS_MOST], x: u16, y: u16) -> bool
-    requires { ⌜ (messages ≤ messagesMost) × (length (now boards) ≡ 2 * messagesMost) ⌝ }
-    ensures { λ r. ⌜ r ≡ orderFits (take (2 * messages) (now (boards .entry))) x y ⌝ }
+    requires { (messages ≤ messages_most) × (length boards.now ≡ 2 * messages_most) }
+    ensures { result ≡ order_fits (take (2 * messages) boards.now) x y }
 {
     let i = x as usize;
     let j = y as usize;
@@ -82,7 +80,7 @@ fn may_order(messages: usize, boards: &[u8; EVENTS_MOST], x: u16, y: u16) -> boo
 
 // So many messages, if the row fits.
 fn placed_if(fits: bool, messages: usize) -> Placed
-    ensures { λ r. ⌜ r ≡ placedFor fits messages ⌝ }
+    ensures { result ≡ placed_for fits messages }
 {
     if fits {
         Placed::Messages(messages)
@@ -93,7 +91,7 @@ fn placed_if(fits: bool, messages: usize) -> Placed
 
 // The two sheets of an A row: 0 to 31, as a call's.
 fn are_sheets(m: u16, n: u16) -> bool
-    ensures { λ r. ⌜ r ≡ (ltb m sheets && ltb n sheets) ⌝ }
+    ensures { result ≡ (ltb m sheets && ltb n sheets) }
 {
     let first = m as usize;
     let second = n as usize;
@@ -105,8 +103,8 @@ fn are_sheets(m: u16, n: u16) -> bool
 
 // A row that is no S row, in a block of so many messages: a message joins the block, an order is within it, any other opens the next.
 fn in_block(kind: u8, one: u16, two: u16, messages: usize, boards: &mut [u8; EVENTS_MOST]) -> Placed
-    requires { ⌜ OtherThanS kind × (messages ≤ messagesMost) × (length (now boards) ≡ 2 * messagesMost) ⌝ }
-    ensures { λ r. ⌜ BlockAs messages (rowFrom kind one two) (now (boards .entry)) (now (boards .exit)) r ⌝ }
+    requires { OtherThanS kind × (messages ≤ messages_most) × (length boards.old ≡ 2 * messages_most) }
+    ensures { BlockAs messages (row_from kind one two) boards.old boards.new result }
 {
     if kind == b'M' {
         return placed_if(add_message(messages, boards, one, two), messages + 1);
@@ -134,8 +132,8 @@ pub fn place(
     start: &mut [u16; SHEETS],
     boards: &mut [u8; EVENTS_MOST],
 ) -> Placed
-    requires { ⌜ (row < rowsMost) × (messages ≤ messagesMost) × (length (now start) ≡ sheets) × (length (now boards) ≡ 2 * messagesMost) ⌝ }
-    ensures { λ r. ⌜ PlaceAs row (standOf (now (start .entry)) (now (boards .entry)) messages) (rowFrom kind one two) (now (start .exit)) (now (boards .exit)) r ⌝ }
+    requires { (row < rows_most) × (messages ≤ messages_most) × (length start.old ≡ sheets) × (length boards.old ≡ 2 * messages_most) }
+    ensures { PlaceAs row (stand_of start.old boards.old messages) (row_from kind one two) start.new boards.new result }
 {
     if kind == b'S' {
         return placed_if(open_sheet(row, one, start), 0);

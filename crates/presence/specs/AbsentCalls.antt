@@ -1,31 +1,27 @@
 -- Calls of sheets that have no start in the table, by the columns. Assumes nothing.
-use Prim.Native.Nat.{ℕ, zero, suc}
+use Rattle.std.specs.Prelude.{ℕ, zero, suc, Bool, not, cond, ◌&&◌, ◌||◌, List, eqb, get_or}
 use Prim.Native.Char.{code}
-use mathlib.Core.Bool.{Bool, not, cond, _&&_, _||_}
-use mathlib.Core.List.{List}
-use mathlib.Core.Option.{Option, none, some}
-use lib.Dec.{eqb}
-use lib.ListN.{getD}
-use Rattle·model.specs.Place.{lineOf}
-use Rattle·place.specs.Stand.{isOpen}
-use Rattle·presence·specs.specs.declared.Presence.{Presence}
-use Rattle·presence·specs.specs.declared.Presence.the-variants.{Complete, Absent}
+use Rattle.std.proofs.Math.Option.{Option, none, some}
+use Rattle.model.specs.Place.{line_of}
+use Rattle.place.specs.Stand.{is_open}
+use Rattle.presence.specs.declared.Presence.{Presence}
+use Rattle.presence.specs.declared.Presence.TheVariants.{Complete, Absent}
 
 -- a row of the given kind and numbers calls a sheet that has no start; an A row names two calls
-unfoldable pub callsAbsent : ℕ → ℕ → ℕ → List ℕ → Bool
-callsAbsent kind m n starts =
-    (eqb kind (code "C") && not (isOpen starts m)) || (eqb kind (code "A") && not (isOpen starts m && isOpen starts n))
+unfoldable pub calls_absent : ℕ → ℕ → ℕ → List ℕ → Bool
+calls_absent kind m n starts =
+    (eqb kind (code "C") && not (is_open starts m)) || (eqb kind (code "A") && not (is_open starts m && is_open starts n))
 
 -- the line of the first such row of so many, from row i on
-unfoldable pub absentIn : List ℕ → List ℕ → List ℕ → List ℕ → ℕ → ℕ → Option ℕ
-absentIn kind one two starts i zero = none
-absentIn kind one two starts i (suc n) =
-    cond (callsAbsent (getD kind i 0) (getD one i 0) (getD two i 0) starts) (some (lineOf i)) (absentIn kind one two starts (suc i) n)
+unfoldable pub absent_in : List ℕ → List ℕ → List ℕ → List ℕ → ℕ → ℕ → Option ℕ
+absent_in kind one two starts i zero = none
+absent_in kind one two starts i (suc n) =
+    cond (calls_absent (get_or kind i 0) (get_or one i 0) (get_or two i 0) starts) (some (line_of i)) (absent_in kind one two starts (suc i) n)
 
-unfoldable pub absentAt : Option ℕ → Presence
-absentAt none = Complete
-absentAt (some line) = Absent line
+unfoldable pub absent_at : Option ℕ → Presence
+absent_at none = Complete
+absent_at (some line) = Absent line
 
 -- sheet 0 has a start, and so has every sheet that so many rows call
-unfoldable pub presenceIn : List ℕ → List ℕ → List ℕ → List ℕ → ℕ → Presence
-presenceIn kind one two starts count = cond (isOpen starts 0) (absentAt (absentIn kind one two starts 0 count)) (Absent 0)
+unfoldable pub presence_in : List ℕ → List ℕ → List ℕ → List ℕ → ℕ → Presence
+presence_in kind one two starts count = cond (is_open starts 0) (absent_at (absent_in kind one two starts 0 count)) (Absent 0)

@@ -1,14 +1,15 @@
 // The sheets that a file needs are in it (refusal 7): the table of starts says which are.
-use model::ROWS_MOST;
-use model::SHEETS;
-ghost use mathlib.Core.Path.{_≡_};
-ghost use Prim.Native.Nat.{_≤_, _<_};
-ghost use lib.ListN.{length, getD};
-ghost use Rattle·model.specs.Limits.{sheets, rowsMost};
-ghost use Rattle·place.specs.Stand.{isOpen};
-ghost use Rattle·presence·specs.specs.AbsentCalls.{callsAbsent, presenceIn};
+#![tactic(auto)]
+
+ghost use Rattle.std.specs.Prelude.{◌≡◌, ◌≤◌, ◌<◌, length, get_or};
+ghost use Rattle.model.specs.Limits.{sheets, rows_most};
+ghost use Rattle.place.specs.Stand.{is_open};
+ghost use Rattle.presence.specs.AbsentCalls.{calls_absent, presence_in};
+
+use model::{ROWS_MOST, SHEETS};
 
 // Every sheet is there; or the line to report.
+#[derive(Clone, Copy)]
 pub enum Presence {
     Complete,
     Absent(usize),
@@ -22,8 +23,8 @@ fn calls_absent(
     start: &[u16; SHEETS],
     i: usize,
 ) -> bool
-    requires { ⌜ (i < rowsMost) × (length (now start) ≡ sheets) ⌝ }
-    ensures { λ r. ⌜ r ≡ callsAbsent (getD (now (kind .entry)) i 0) (getD (now (one .entry)) i 0) (getD (now (two .entry)) i 0) (now (start .entry)) ⌝ }
+    requires { (i < rows_most) × (length start.now ≡ sheets) }
+    ensures { result ≡ calls_absent (get_or kind.now i 0) (get_or one.now i 0) (get_or two.now i 0) start.now }
 {
     if kind[i] == b'C' {
         return !is_open(start, one[i]);
@@ -45,8 +46,8 @@ pub fn complete(
     two: &[u16; ROWS_MOST],
     start: &[u16; SHEETS],
 ) -> Presence
-    requires { ⌜ (count ≤ rowsMost) × (length (now start) ≡ sheets) ⌝ }
-    ensures { λ r. ⌜ r ≡ presenceIn (now (kind .entry)) (now (one .entry)) (now (two .entry)) (now (start .entry)) count ⌝ }
+    requires { (count ≤ rows_most) × (length start.now ≡ sheets) }
+    ensures { result ≡ presence_in kind.now one.now two.now start.now count }
 {
     if !is_open(start, 0) {
         return Presence::Absent(0);
@@ -63,8 +64,8 @@ pub fn complete(
 
 // Sheet n is there.
 fn is_open(start: &[u16; SHEETS], n: u16) -> bool
-    requires { ⌜ length (now start) ≡ sheets ⌝ }
-    ensures { λ r. ⌜ r ≡ isOpen (now (start .entry)) n ⌝ }
+    requires { length start.now ≡ sheets }
+    ensures { result ≡ is_open start.now n }
 {
     let k = n as usize;
     if k < SHEETS { start[k] != 0 } else { false }

@@ -1,11 +1,15 @@
 // The queue of a dispatcher's jobs, the head first.
-ghost use mathlib.Core.Path.{_≡_};
-ghost use Rattle·model.specs.Dispatcher.{isLast};
-ghost use Rattle·queue·specs.specs.Bridge.{jobIn, emptyQueue, queueIn, Counted, headIn, headOf, FirstPlace};
+#![tactic(auto)]
+
+ghost use Rattle.std.specs.Prelude.{◌≡◌};
+ghost use Rattle.model.specs.Dispatcher.{is_last};
+ghost use Rattle.queue.specs.Bridge.{job_in, empty_queue, queue_in, Counted, head_in, head_of, FirstPlace};
+
 use model::JOBS_MOST;
 
 // A job held: its number and place, the code that it was admitted with, the messages that its walk meets, and the turns that it had.
 #[repr(C)]
+#[derive(Clone, Copy)]
 pub struct Job {
     pub number: u32,
     pub turns: u32,
@@ -17,18 +21,21 @@ pub struct Job {
 // The jobs held, in the order of their turns: the first `held` of the array. Of a value that no call made they are read as far as each has a
 // place of its own, so that there is always room for one more where a place is free.
 #[repr(C)]
+#[derive(Clone, Copy)]
 pub struct Queue {
     pub jobs: [Job; JOBS_MOST],
     pub held: u32,
 }
 
 // How many jobs are held, and their places: bit p is place p.
+#[derive(Clone, Copy)]
 pub struct Taken {
     pub count: usize,
     pub places: u64,
 }
 
 // The job that a turn takes, if one is held.
+#[derive(Clone, Copy)]
 pub enum Head {
     Job(Job),
     Nothing,
@@ -37,7 +44,7 @@ pub enum Head {
 impl Job {
     // A job of n messages is answered on its own turn number 2n + 1.
     pub fn is_last(self) -> bool
-        ensures { λ r. ⌜ r ≡ isLast (jobIn self) ⌝ }
+        ensures { result ≡ is_last (job_in self) }
     {
         2 * self.count as u32 <= self.turns
     }
@@ -46,7 +53,7 @@ impl Job {
 impl Queue {
     // No job is held.
     pub fn empty() -> Self
-        ensures { λ r. ⌜ r ≡ emptyQueue ⌝ }
+        ensures { result ≡ empty_queue }
     {
         let none = Job {
             number: 0,
@@ -63,8 +70,8 @@ impl Queue {
 
     // The head of the queue.
     pub fn head(self, count: usize) -> Head
-        requires { ⌜ Counted self count ⌝ }
-        ensures { λ r. ⌜ headIn r ≡ headOf (queueIn self) ⌝ }
+        requires { Counted self count }
+        ensures { head_in result ≡ head_of (queue_in self) }
     {
         if count == 0 {
             return Head::Nothing;
@@ -75,7 +82,7 @@ impl Queue {
 
     // The place of the head, where a job is held: one of the eight in any case.
     pub fn first_place(self) -> usize
-        ensures { λ r. ⌜ FirstPlace (queueIn self) r ⌝ }
+        ensures { FirstPlace (queue_in self) result }
     {
         let first = self.jobs[0];
         first.place as usize % JOBS_MOST

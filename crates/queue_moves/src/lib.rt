@@ -1,21 +1,19 @@
 // A job goes behind the last of a queue, a job leaves it, and the queue behind a turn.
-ghost use mathlib.Core.Path.{_≡_};
-ghost use mathlib.Core.Bool.{true};
-ghost use mathlib.Core.List.{[], _∷_, _++_};
-ghost use mathlib.Core.Option.{some};
-ghost use Prim.Native.Nat.{_+_, _-_, _<_};
-ghost use lib.ListN.{length, take, drop};
-ghost use Rattle·model.specs.Limits.{jobsMost};
-ghost use Rattle·model.specs.Dispatcher.{turned};
-ghost use Rattle·queue.specs.Bridge.{jobIn, queueIn, Counted, isFreeIn, headOf};
-use queue::Job;
-use queue::Queue;
+#![tactic(auto)]
+
+ghost use Rattle.std.specs.Prelude.{◌≡◌, true, [], ◌∷◌, ◌++◌, ◌+◌, ◌-◌, ◌<◌, length, take, drop};
+ghost use Rattle.std.proofs.Math.Option.{some};
+ghost use Rattle.model.specs.Limits.{jobs_most};
+ghost use Rattle.model.specs.Dispatcher.{turned};
+ghost use Rattle.queue.specs.Bridge.{job_in, queue_in, Counted, is_free_in, head_of};
+
+use queue::{Job, Queue};
 
 // A job goes behind the last, into a free place.
 pub fn behind_last(mut queue: Queue, job: Job, count: usize) -> Queue
-    requires { ⌜ Counted queue count ⌝ }
-    requires { ⌜ (job .place < jobsMost) × (isFreeIn (queueIn queue) (job .place) ≡ true) ⌝ }
-    ensures { λ r. ⌜ queueIn r ≡ queueIn queue ++ (jobIn job ∷ []) ⌝ }
+    requires counted { Counted queue count }
+    requires place_lt_jobs_most { (job.place < jobs_most) × (is_free_in (queue_in queue) job.place ≡ true) }
+    ensures { queue_in result ≡ queue_in queue ++ (job_in job ∷ []) }
 {
     queue.jobs[count] = job;
     queue.held = (count + 1) as u32;
@@ -24,9 +22,9 @@ pub fn behind_last(mut queue: Queue, job: Job, count: usize) -> Queue
 
 // The job at `at` leaves, and those behind it move up.
 pub fn closed_up(mut queue: Queue, at: usize, count: usize) -> Queue
-    requires { ⌜ Counted queue count ⌝ }
-    requires { ⌜ at < length (queueIn queue) ⌝ }
-    ensures { λ r. ⌜ (queueIn r ≡ take at (queueIn queue) ++ drop (at + 1) (queueIn queue)) × Counted r (count - 1) ⌝ }
+    requires counted { Counted queue count }
+    requires at_in_bounds { at < length (queue_in queue) }
+    ensures { (queue_in result ≡ take at (queue_in queue) ++ drop (at + 1) (queue_in queue)) × Counted result (count - 1) }
 {
     let last = count - 1;
     for i in at..last {
@@ -39,8 +37,8 @@ pub fn closed_up(mut queue: Queue, at: usize, count: usize) -> Queue
 
 // The queue behind a turn: its head leaves on its last turn, and else goes behind the last with one turn more.
 pub fn turned(queue: Queue, head: Job, count: usize) -> Queue
-    requires { ⌜ (headOf (queueIn queue) ≡ some (jobIn head)) × Counted queue count ⌝ }
-    ensures { λ r. ⌜ queueIn r ≡ turned (queueIn queue) ⌝ }
+    requires { (head_of (queue_in queue) ≡ some (job_in head)) × Counted queue count }
+    ensures { queue_in result ≡ turned (queue_in queue) }
 {
     let mut rest = closed_up(queue, 0, count);
     if head.is_last() {

@@ -1,21 +1,19 @@
 // The races of a scenario: the test of a message, a word of events at once.
-ghost use mathlib.Core.Path.{_≡_};
-ghost use mathlib.Core.Bool.{cond};
-ghost use Prim.Native.Nat.{_+_, _*_, _<_, _≤_};
-ghost use lib.Dec.{eqb};
-ghost use lib.ListN.{length};
-ghost use Rattle·model.specs.Limits.{channels, messagesMost};
-ghost use Rattle·model.specs.Race.{raceRuleOf};
-ghost use Rattle·relation.specs.Width.{width, wordBits};
-ghost use Rattle·board.specs.Masks.{Standing};
-ghost use Rattle·race·specs.specs.Bridge.{ruleIn};
-ghost use Rattle·race·specs.specs.Word.{OutsideWord, OnBoard, Within, BitsOn, RaceWord};
+#![tactic(auto)]
+
+ghost use Rattle.std.specs.Prelude.{◌≡◌, cond, ◌+◌, ◌*◌, ◌<◌, ◌≤◌, eqb, length};
+ghost use Rattle.model.specs.Limits.{channels, messages_most};
+ghost use Rattle.model.specs.Race.{race_rule_of};
+ghost use Rattle.relation.specs.Width.{width, word_bits};
+ghost use Rattle.board.specs.Masks.{Standing};
+ghost use Rattle.race.specs.Bridge.{rule_in};
+ghost use Rattle.race.specs.Word.{OutsideWord, OnBoard, Within, BitsOn, RaceWord};
+
 use at_or_before::reached_word;
-use relation::SENDS;
-use relation::WIDTH;
-use relation::WORD_BITS;
+use relation::{SENDS, WIDTH, WORD_BITS};
 
 // What must not be at or before e's send: the event itself, or its origin; on the lazy channels there are no races.
+#[derive(Clone, Copy)]
 pub enum Rule {
     ByEvent,
     ByOrigin,
@@ -33,23 +31,23 @@ const TABLE: [Rule; model::CHANNELS] = [
 ];
 
 fn wide(bits: u32) -> usize
-    ensures { λ r. ⌜ r ≡ bits ⌝ }
+    ensures { result ≡ bits }
 {
     bits as usize
 }
 
 pub fn rule_of(code: usize) -> Rule
-    requires { ⌜ code < channels ⌝ }
-    ensures { λ r. ⌜ ruleIn r ≡ raceRuleOf code ⌝ }
+    requires { code < channels }
+    ensures { rule_in result ≡ race_rule_of code }
 {
     TABLE[code]
 }
 
 // Word w of the events that the rule does not find at or before e's send. By origin a receive is outside with its send.
 fn outside_word(words: &[u64], rule: Rule, e: usize, w: usize) -> u64
-    requires { ⌜ 2 * e * width + width ≤ length (now words) ⌝ }
-    requires { ⌜ (2 * e < wordBits * width) × (w < width) ⌝ }
-    ensures { λ r. ⌜ OutsideWord (now (words .entry)) (ruleIn rule) e w r ⌝ }
+    requires width_in_bounds { 2 * e * width + width ≤ length words.now }
+    requires e_bound { (2 * e < word_bits * width) × (w < width) }
+    ensures { OutsideWord words.now (rule_in rule) e w result }
 {
     match rule {
         Rule::ByEvent => !reached_word(words, e, w),
@@ -63,15 +61,15 @@ fn outside_word(words: &[u64], rule: Rule, e: usize, w: usize) -> u64
 
 // 1 where two boards are the same.
 fn same(a: usize, b: usize) -> u64
-    ensures { λ r. ⌜ r ≡ cond (eqb a b) 1 0 ⌝ }
+    ensures { result ≡ cond (eqb a b) 1 0 }
 {
     if a == b { 1 } else { 0 }
 }
 
 // The events from .. to - 1 that are on a board: bit b stands for event from + b.
 fn on_board(boards: &[u8], board: usize, from: usize, to: usize) -> u64
-    requires { ⌜ to ≤ length (now boards) ⌝ }
-    ensures { λ r. ⌜ OnBoard (now (boards .entry)) board from to r ⌝ }
+    requires { to ≤ length boards.now }
+    ensures { OnBoard boards.now board from to result }
 {
     let mut on: u64 = 0;
     let mut x = to;
@@ -85,8 +83,8 @@ fn on_board(boards: &[u8], board: usize, from: usize, to: usize) -> u64
 
 // A word without the bits of events after the last.
 fn within(word: u64, w: usize, events: usize) -> u64
-    requires { ⌜ w < width ⌝ }
-    ensures { λ r. ⌜ Within word w events r ⌝ }
+    requires { w < width }
+    ensures { Within word w events result }
 {
     let start = WORD_BITS * w;
     let end = start + WORD_BITS;
@@ -102,8 +100,8 @@ fn within(word: u64, w: usize, events: usize) -> u64
 
 // The bits of a word whose events are on a board. Of the boards only those from the lowest bit to the highest are looked at.
 fn bits_on(word: u64, w: usize, boards: &[u8], events: usize, board: usize) -> u64
-    requires { ⌜ (w < width) × (wordBits * width ≤ length (now boards)) ⌝ }
-    ensures { λ r. ⌜ BitsOn word w (now (boards .entry)) events board r ⌝ }
+    requires { (w < width) × (word_bits * width ≤ length boards.now) }
+    ensures { BitsOn word w boards.now events board result }
 {
     let left = within(word, w, events);
     if left == 0 {
@@ -127,9 +125,9 @@ pub fn race_word_unmasked(
     e: usize,
     w: usize,
 ) -> u64
-    requires { ⌜ (wordBits * width ≤ length (now boards)) × (2 * count * width ≤ length (now words)) ⌝ }
-    requires { ⌜ (e < count) × (count ≤ messagesMost) × (w < width) ⌝ }
-    ensures { λ r. ⌜ RaceWord count (now (boards .entry)) (now (words .entry)) (ruleIn rule) e w r ⌝ }
+    requires width_in_bounds { (word_bits * width ≤ length boards.now) × (2 * count * width ≤ length words.now) }
+    requires e_lt_count { (e < count) × (count ≤ messages_most) × (w < width) }
+    ensures { RaceWord count boards.now words.now (rule_in rule) e w result }
 {
     let receive = 2 * e + 1;
     let at = receive * WIDTH + w;
@@ -152,9 +150,9 @@ pub fn race_word(
     e: usize,
     w: usize,
 ) -> u64
-    requires { ⌜ Standing count (now boards) (now words) (now masks) ⌝ }
-    requires { ⌜ (e < count) × (w < width) ⌝ }
-    ensures { λ r. ⌜ RaceWord count (now (boards .entry)) (now (words .entry)) (ruleIn rule) e w r ⌝ }
+    requires standing { Standing count boards.now words.now masks.now }
+    requires e_lt_count { (e < count) × (w < width) }
+    ensures { RaceWord count boards.now words.now (rule_in rule) e w result }
 {
     let send = 2 * e;
     let receive = send + 1;

@@ -1,45 +1,46 @@
 // All races of a scenario, by e and then x: counted, and as many of them as an output holds written there, two numbers each.
-ghost use mathlib.Core.Path.{_≡_};
-ghost use Prim.Native.Nat.{_+_, _*_, _<_, _≤_, min};
-ghost use lib.Count.{ones, trailingZeros};
-ghost use lib.ListN.{length, set};
-ghost use Rattle·model.specs.Holdings.{racesOf, racesBelow};
-ghost use Rattle·relation.specs.Width.{wordBits};
-ghost use Rattle·relation.specs.Scenario.{scenarioIn};
-ghost use Rattle·board.specs.Masks.{Standing};
-ghost use Rattle·at_or_before.specs.Lent.{Lent};
-ghost use Rattle·race.specs.Bridge.{ruleIn};
-ghost use Rattle·race_list·specs.specs.Listing.{rowBits, racesMost, bitsListed, Adds, Tells};
-use race::Rule;
-use race::race_word;
+#![tactic(auto)]
+
+ghost use Rattle.std.specs.Prelude.{◌≡◌, ◌+◌, ◌*◌, ◌<◌, ◌≤◌, min, length, set};
+ghost use Rattle.std.specs.Int.Count.{ones, count_trailing_zeros};
+ghost use Rattle.model.specs.Holdings.{races_of, races_below};
+ghost use Rattle.relation.specs.Width.{word_bits};
+ghost use Rattle.relation.specs.Scenario.{scenario_in};
+ghost use Rattle.board.specs.Masks.{Standing};
+ghost use Rattle.at_or_before.specs.Lent.{Lent};
+ghost use Rattle.race.specs.Bridge.{rule_in};
+ghost use Rattle.race_list.specs.Listing.{row_bits, races_most, bits_listed, Adds, Tells};
+
+use race::{Rule, race_word};
 use relation::WORD_BITS;
 
 // The numbers of a race.
 const NUMBERS: usize = 2;
 
 // How many races there are, and how many of them stand in the output.
+#[derive(Clone, Copy)]
 pub struct Told {
     pub all: usize,
     pub listed: usize,
 }
 
 fn wide(bits: u32) -> usize
-    ensures { λ r. ⌜ r ≡ bits ⌝ }
+    ensures { result ≡ bits }
 {
     bits as usize
 }
 
 fn count_bits(word: u64) -> usize
-    ensures { λ r. ⌜ r ≡ ones word ⌝ }
-    ensures { λ r. ⌜ r ≤ wordBits ⌝ }
+    ensures value { result ≡ ones word }
+    ensures upper_bound { result ≤ word_bits }
 {
     wide(u64::count_ones(word))
 }
 
 // The event of a word's lowest bit.
 fn lowest_event(word: u64, first: usize) -> u16
-    requires { ⌜ first ≤ rowBits ⌝ }
-    ensures { λ r. ⌜ r ≡ first + trailingZeros wordBits word ⌝ }
+    requires { first ≤ row_bits }
+    ensures { result ≡ first + count_trailing_zeros word_bits word }
 {
     let bit = wide(u64::trailing_zeros(word));
     (first + bit) as u16
@@ -47,8 +48,8 @@ fn lowest_event(word: u64, first: usize) -> u16
 
 // A race at its place.
 fn put_race(output: &mut [u16], at: usize, e: u16, x: u16)
-    requires { ⌜ 2 * at + 1 < length (now output) ⌝ }
-    ensures { λ _. ⌜ now (output .exit) ≡ set (set (now (output .entry)) (2 * at) e) (2 * at + 1) x ⌝ }
+    requires { 2 * at + 1 < length output.old }
+    ensures { output.new ≡ set (set output.old (2 * at) e) (2 * at + 1) x }
 {
     let message = NUMBERS * at;
     let event = message + 1;
@@ -58,8 +59,8 @@ fn put_race(output: &mut [u16], at: usize, e: u16, x: u16)
 
 // The races of message e in one word, whose lowest bit is event `first`. Where the output is full they are only counted.
 fn list_word(word: u64, e: u16, first: usize, output: &mut [u16], found: usize) -> usize
-    requires { ⌜ (first ≤ rowBits) × (found ≤ racesMost) ⌝ }
-    ensures { λ r. ⌜ Adds (bitsListed word e first wordBits) (now (output .entry)) found (now (output .exit)) r ⌝ }
+    requires { (first ≤ row_bits) × (found ≤ races_most) }
+    ensures { Adds (bits_listed word e first word_bits) output.old found output.new result }
 {
     let room = output.len() / NUMBERS;
     let mut rest = word;
@@ -87,9 +88,9 @@ fn list_message(
     output: &mut [u16],
     found: usize,
 ) -> usize
-    requires { ⌜ Standing count (now boards) (now words) (now masks) ⌝ }
-    requires { ⌜ (e < count) × (found ≤ rowBits * e) ⌝ }
-    ensures { λ r. ⌜ Adds (racesOf (scenarioIn count (now (boards .entry)) (now (words .entry))) (ruleIn rule) e (2 * count)) (now (output .entry)) found (now (output .exit)) r ⌝ }
+    requires standing { Standing count boards.now words.now masks.now }
+    requires e_lt_count { (e < count) × (found ≤ row_bits * e) }
+    ensures { Adds (races_of (scenario_in count boards.now words.now) (rule_in rule) e (2 * count)) output.old found output.new result }
 {
     let number = e as u16;
     let used = (2 * count + WORD_BITS - 1) / WORD_BITS;
@@ -110,8 +111,8 @@ fn list_messages(
     rule: Rule,
     output: &mut [u16],
 ) -> usize
-    requires { ⌜ Standing count (now boards) (now words) (now masks) ⌝ }
-    ensures { λ r. ⌜ Adds (racesBelow (scenarioIn count (now (boards .entry)) (now (words .entry))) (ruleIn rule) count) (now (output .entry)) 0 (now (output .exit)) r ⌝ }
+    requires { Standing count boards.now words.now masks.now }
+    ensures { Adds (races_below (scenario_in count boards.now words.now) (rule_in rule) count) output.old 0 output.new result }
 {
     let mut found = 0;
     for e in 0..count {
@@ -121,7 +122,7 @@ fn list_messages(
 }
 
 fn smaller(a: usize, b: usize) -> usize
-    ensures { λ r. ⌜ r ≡ min a b ⌝ }
+    ensures { result ≡ min a b }
 {
     if a < b { a } else { b }
 }
@@ -134,8 +135,8 @@ pub fn list_races(
     rule: Rule,
     output: &mut [u16],
 ) -> Told
-    requires { ⌜ Lent count (now boards) (now words) ⌝ }
-    ensures { λ r. ⌜ Tells (racesBelow (scenarioIn count (now (boards .entry)) (now (words .entry))) (ruleIn rule) count) (now (output .entry)) (now (output .exit)) r ⌝ }
+    requires { Lent count boards.now words.now }
+    ensures { Tells (races_below (scenario_in count boards.now words.now) (rule_in rule) count) output.old output.new result }
 {
     if let Rule::Never = rule {
         return Told { all: 0, listed: 0 };

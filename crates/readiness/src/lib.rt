@@ -1,13 +1,16 @@
 // The readiness of an event: whether every event before it on its board is done, and if not, which it waits for.
-ghost use Prim.Native.Nat.{_*_, _<_};
-ghost use Rattle·board.specs.Masks.{Standing};
-ghost use Rattle·readiness·specs.specs.Says.{SaysReadiness};
+#![tactic(auto)]
+
+ghost use Rattle.std.specs.Prelude.{◌*◌, ◌<◌};
+ghost use Rattle.board.specs.Masks.{Standing};
+ghost use Rattle.readiness.specs.Says.{SaysReadiness};
+
 use board::board_of;
 use first_left::first_left;
-use relation::Found;
-use relation::WIDTH;
+use relation::{Found, WIDTH};
 
 // An event is ready; or done already; or it waits for the lowest event before it on its board that is not yet done.
+#[derive(Clone, Copy)]
 pub enum Readiness {
     Ready,
     Done,
@@ -23,9 +26,9 @@ pub fn readiness_of(
     done: &[u64; WIDTH],
     x: usize,
 ) -> Readiness
-    requires { ⌜ Standing count (now boards) (now words) (now masks) ⌝ }
-    requires { ⌜ x < 2 * count ⌝ }
-    ensures { λ r. ⌜ SaysReadiness count (now (boards .entry)) (now (words .entry)) (now (done .entry)) x r ⌝ }
+    requires standing { Standing count boards.now words.now masks.now }
+    requires x_bound { x < 2 * count }
+    ensures { SaysReadiness count boards.now words.now done.now x result }
 {
     if relation::test(done, 0, x) {
         return Readiness::Done;

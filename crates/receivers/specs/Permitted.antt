@@ -1,32 +1,27 @@
 -- The receivers permitted to a sender, as a set: bit b is board b. Assumes nothing.
-use Prim.Native.Nat.{ℕ, _+_, _*_, _<_}
-use mathlib.Core.Path.{_≡_}
-use mathlib.Core.Bool.{Bool, not, cond, _&&_}
-use mathlib.Core.List.{List}
-use mathlib.Core.Option.{Option, none, some}
-use lib.Dec.{eqb}
-use lib.ListN.{getD}
-use Rattle·model.specs.Limits.{boards}
-use Rattle·model.specs.Senders.{Rule, pairOf, inSet, permits}
-use Rattle·receivers·specs.specs.declared.Forbidden.{Forbidden}
-use Rattle·receivers·specs.specs.declared.Forbidden.the-variants.{Message, Nothing}
+use Rattle.std.specs.Prelude.{ℕ, ◌+◌, ◌*◌, ◌<◌, ◌≡◌, Bool, not, cond, ◌&&◌, List, eqb, get_or}
+use Rattle.std.proofs.Math.Option.{Option, none, some}
+use Rattle.model.specs.Limits.{boards}
+use Rattle.model.specs.Senders.{Rule, pair_of, in_set, permits}
+use Rattle.receivers.specs.declared.Forbidden.{Forbidden}
+use Rattle.receivers.specs.declared.Forbidden.TheVariants.{Message, Nothing}
 
 -- one rule more: of a pair that it has its verdict decides, and any other stays as it was
 pub record Decided (receivers from to verdict sender r : ℕ) : Type 0 where
-  pub says : (b : ℕ) → b < boards → inSet r b ≡ cond (inSet from sender && inSet to b) (eqb verdict 1) (inSet receivers b)
+  pub says : (b : ℕ) → b < boards → in_set r b ≡ cond (in_set from sender && in_set to b) (eqb verdict 1) (in_set receivers b)
 
 -- the set is that of the receivers that the rules permit the sender
 pub record PermittedTo (rules : List Rule) (sender set : ℕ) : Type 0 where
-  pub says : (b : ℕ) → b < boards → inSet set b ≡ permits rules (pairOf sender b)
+  pub says : (b : ℕ) → b < boards → in_set set b ≡ permits rules (pair_of sender b)
 
 -- and so for each sender
 pub record PermittedBy (rules : List Rule) (sets : List ℕ) : Type 0 where
-  pub each : (a : ℕ) → a < boards → PermittedTo rules a (getD sets a 0)
+  pub each : (a : ℕ) → a < boards → PermittedTo rules a (get_or sets a 0)
 
-abbrev pub forbiddenIn : Forbidden → Option ℕ
-forbiddenIn (Message m) = some m
-forbiddenIn Nothing = none
+abbrev pub forbidden_in : Forbidden → Option ℕ
+forbidden_in (Message m) = some m
+forbidden_in Nothing = none
 
 -- message m goes to a receiver that its sender is not permitted
-unfoldable pub isForbiddenIn : List ℕ → List ℕ → ℕ → Bool
-isForbiddenIn sets on m = not (inSet (getD sets (getD on (2 * m) 0) 0) (getD on (2 * m + 1) 0))
+unfoldable pub is_forbidden_in : List ℕ → List ℕ → ℕ → Bool
+is_forbidden_in sets on m = not (in_set (get_or sets (get_or on (2 * m) 0) 0) (get_or on (2 * m + 1) 0))

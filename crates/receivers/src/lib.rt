@@ -1,17 +1,18 @@
 // The receivers that a table permits each sender, 16 bits a sender, and the first message of a walk that is forbidden: one look a message.
+#![tactic(auto)]
+
+ghost use Rattle.std.specs.Prelude.{◌≡◌, ◌*◌, ◌≤◌, length, take};
+ghost use Rattle.model.specs.Limits.{rules_most, messages_most};
+ghost use Rattle.model.specs.Bounded.{lowest};
+ghost use Rattle.board.specs.Boards.{BoardsBelow};
+ghost use Rattle.coverage.specs.Rules.{rules_as};
+ghost use Rattle.receivers.specs.Permitted.{Decided, PermittedTo, PermittedBy, forbidden_in, is_forbidden_in};
+
 use coverage::Rule;
-use model::BOARDS;
-use model::RULES_MOST;
-ghost use mathlib.Core.Path.{_≡_};
-ghost use Prim.Native.Nat.{_*_, _≤_};
-ghost use lib.ListN.{length, take};
-ghost use Rattle·model.specs.Limits.{rulesMost, messagesMost};
-ghost use Rattle·model.specs.Bounded.{lowest};
-ghost use Rattle·board.specs.Boards.{BoardsBelow};
-ghost use Rattle·coverage.specs.Rules.{rulesAs};
-ghost use Rattle·receivers·specs.specs.Permitted.{Decided, PermittedTo, PermittedBy, forbiddenIn, isForbiddenIn};
+use model::{BOARDS, RULES_MOST};
 
 // The first message that is forbidden, if there is one.
+#[derive(Clone, Copy)]
 pub enum Forbidden {
     Message(usize),
     Nothing,
@@ -19,7 +20,7 @@ pub enum Forbidden {
 
 // A sender's permitted receivers with one rule more, ahead of those that gave them: of its own pairs the rule decides.
 fn decided(receivers: u16, from: u16, to: u16, verdict: u8, sender: usize) -> u16
-    ensures { λ r. ⌜ Decided receivers from to verdict sender r ⌝ }
+    ensures { Decided receivers from to verdict sender result }
 {
     if !board_set::in_set(from, sender) {
         return receivers;
@@ -33,8 +34,8 @@ fn decided(receivers: u16, from: u16, to: u16, verdict: u8, sender: usize) -> u1
 
 // The receivers that the first `count` rules permit a sender. The last rule comes first, since the first one that has a pair decides.
 fn receivers_of(rules: [Rule; RULES_MOST], count: usize, sender: usize) -> u16
-    requires { ⌜ count ≤ rulesMost ⌝ }
-    ensures { λ r. ⌜ PermittedTo (rulesAs (take count rules)) sender r ⌝ }
+    requires { count ≤ rules_most }
+    ensures { PermittedTo (rules_as (take count rules)) sender result }
 {
     let mut receivers = 0u16;
     let mut i = count;
@@ -48,8 +49,8 @@ fn receivers_of(rules: [Rule; RULES_MOST], count: usize, sender: usize) -> u16
 
 // The receivers that the first `count` rules permit each sender.
 pub fn permitted_by(rules: [Rule; RULES_MOST], count: usize) -> [u16; BOARDS]
-    requires { ⌜ count ≤ rulesMost ⌝ }
-    ensures { λ r. ⌜ PermittedBy (rulesAs (take count rules)) r ⌝ }
+    requires { count ≤ rules_most }
+    ensures { PermittedBy (rules_as (take count rules)) result }
 {
     let mut permitted = [0u16; BOARDS];
     for sender in 0..BOARDS {
@@ -60,9 +61,9 @@ pub fn permitted_by(rules: [Rule; RULES_MOST], count: usize) -> [u16; BOARDS]
 
 // The first of so many messages, in walk order, whose receiver is not permitted to its sender.
 pub fn first_forbidden(permitted: [u16; BOARDS], boards: &[u8], count: usize) -> Forbidden
-    requires { ⌜ (count ≤ messagesMost) × (2 * count ≤ length (now boards)) ⌝ }
-    requires { ⌜ BoardsBelow count (now boards) ⌝ }
-    ensures { λ r. ⌜ forbiddenIn r ≡ lowest count (isForbiddenIn permitted (now (boards .entry))) ⌝ }
+    requires count_le_messages_most { (count ≤ messages_most) × (2 * count ≤ length boards.now) }
+    requires boards_below { BoardsBelow count boards.now }
+    ensures { forbidden_in result ≡ lowest count (is_forbidden_in permitted boards.now) }
 {
     for m in 0..count {
         let send = 2 * m;

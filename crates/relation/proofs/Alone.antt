@@ -1,55 +1,55 @@
 -- A row that stands by itself, with one event marked or unmarked, for any width and every event. Assumes nothing.
-use mathlib.Core.Path.{_≡_, ap, _∙_}
-use mathlib.Core.Bool.{not, _&&_, _||_}
+use mathlib.Core.Path.{◌≡◌, ap, ◌∙◌}
+use mathlib.Core.Bool.{not, ◌&&◌, ◌||◌}
 use mathlib.Core.List.{List}
-use Prim.Native.Nat.{ℕ, _-_, _/_, _%_, _^_, _<_}
+use Prim.Native.Nat.{ℕ, ◌-◌, ◌/◌, ◌%◌, ◌^◌, ◌<◌}
 use native.Mathlib.Nat.{zero-mul, zero-add}
 use native.Mathlib.Omega.{arith}
-use lib.Bits.{bitAnd, bitOr}
+use lib.Bits.{bit_and, bit_or}
 use lib.Dec.{eqb}
-use lib.ListN.{length, getD, set}
+use lib.ListN.{length, get_or, set}
 use borrow.Author.Tests.{eq-eqb, eqb-true}
-use Rattle·model.proofs.Bounded.{and-left, and-right, and-both}
-use Rattle·relation·specs.specs.Width.{wordBits}
-use Rattle·relation·specs.specs.Rows.{holds, marked, unmarked}
-use Rattle·relation·proofs.proofs.Tests.{both-ways}
-use Rattle·relation·proofs.proofs.Words.{alone-row}
-use Rattle·relation·proofs.proofs.OneBit.{bit-set, bit-cleared}
+use Rattle.model.proofs.Bounded.{and_left, and_right, and_both}
+use Rattle.relation.specs.Width.{word_bits}
+use Rattle.relation.specs.Rows.{holds, marked, unmarked}
+use Rattle.relation.proofs.Tests.{both_ways}
+use Rattle.relation.proofs.Words.{alone_row}
+use Rattle.relation.proofs.OneBit.{bit_set, bit_cleared}
 
-module _ (W : ℕ) (row : List ℕ) (x : ℕ) (inside : x / wordBits < length row) where
+module _ (W : ℕ) (row : List ℕ) (x : ℕ) (inside : x / word_bits < length row) where
   -- in one word and one bit of it, they are one event
-  one-event : (k : ℕ) → (eqb (k / wordBits) (x / wordBits) && eqb (k % wordBits) (x % wordBits)) ≡ eqb k x
-  one-event k =
-      both-ways (eqb (k / wordBits) (x / wordBits) && eqb (k % wordBits) (x % wordBits)) (eqb k x)
+  one_event : (k : ℕ) → (eqb (k / word_bits) (x / word_bits) && eqb (k % word_bits) (x % word_bits)) ≡ eqb k x
+  one_event k =
+      both_ways (eqb (k / word_bits) (x / word_bits) && eqb (k % word_bits) (x % word_bits)) (eqb k x)
       (λ t.
-      let word : k / wordBits ≡ x / wordBits = eqb-true _ _ (and-left (eqb (k / wordBits) (x / wordBits)) (eqb (k % wordBits) (x % wordBits)) t) in
-      let bit : k % wordBits ≡ x % wordBits = eqb-true _ _ (and-right (eqb (k / wordBits) (x / wordBits)) (eqb (k % wordBits) (x % wordBits)) t) in
+      let word : k / word_bits ≡ x / word_bits = eqb-true _ _ (and_left (eqb (k / word_bits) (x / word_bits)) (eqb (k % word_bits) (x % word_bits)) t) in
+      let bit : k % word_bits ≡ x % word_bits = eqb-true _ _ (and_right (eqb (k / word_bits) (x / word_bits)) (eqb (k % word_bits) (x % word_bits)) t) in
       eq-eqb k x (omega arith))
       (λ t.
       let same : k ≡ x = eqb-true k x t in
-      and-both (eqb (k / wordBits) (x / wordBits)) (eqb (k % wordBits) (x % wordBits)) (eq-eqb _ _ (ap (λ (n : ℕ). n / wordBits) same))
-      (eq-eqb _ _ (ap (λ (n : ℕ). n % wordBits) same)))
+      and_both (eqb (k / word_bits) (x / word_bits)) (eqb (k % word_bits) (x % word_bits)) (eq-eqb _ _ (ap (λ (n : ℕ). n / word_bits) same))
+      (eq-eqb _ _ (ap (λ (n : ℕ). n % word_bits) same)))
 
-  pub with-bit : (k : ℕ) → holds W (set row (x / wordBits) (bitOr (getD row (x / wordBits) 0) (2 ^ (x % wordBits)))) 0 k
+  pub with_bit : (k : ℕ) → holds W (set row (x / word_bits) (bit_or (get_or row (x / word_bits) 0) (2 ^ (x % word_bits)))) 0 k
       ≡ (holds W row 0 k || eqb k x)
-  with-bit k =
-      alone-row W (set row (x / wordBits) (bitOr (getD row (x / wordBits) 0) (2 ^ (x % wordBits)))) k
-      ∙ bit-set row (x / wordBits) (x % wordBits) inside (k / wordBits) (k % wordBits)
-      ∙ rw (one-event k, alone-row W row k)
+  with_bit k =
+      alone_row W (set row (x / word_bits) (bit_or (get_or row (x / word_bits) 0) (2 ^ (x % word_bits)))) k
+      ∙ bit_set row (x / word_bits) (x % word_bits) inside (k / word_bits) (k % word_bits)
+      ∙ rw (one_event k, alone_row W row k)
 
-  pub without-bit : (k : ℕ)
-      → holds W (set row (x / wordBits) (bitAnd (getD row (x / wordBits) 0) (2 ^ wordBits - 1 - 2 ^ (x % wordBits)))) 0 k
+  pub without_bit : (k : ℕ)
+      → holds W (set row (x / word_bits) (bit_and (get_or row (x / word_bits) 0) (2 ^ word_bits - 1 - 2 ^ (x % word_bits)))) 0 k
       ≡ (holds W row 0 k && not (eqb k x))
-  without-bit k =
-      alone-row W (set row (x / wordBits) (bitAnd (getD row (x / wordBits) 0) (2 ^ wordBits - 1 - 2 ^ (x % wordBits)))) k
-      ∙ bit-cleared row (x / wordBits) (x % wordBits) inside (omega arith) (k / wordBits) (k % wordBits) (omega arith)
-      ∙ rw (one-event k, alone-row W row k)
+  without_bit k =
+      alone_row W (set row (x / word_bits) (bit_and (get_or row (x / word_bits) 0) (2 ^ word_bits - 1 - 2 ^ (x % word_bits)))) k
+      ∙ bit_cleared row (x / word_bits) (x % word_bits) inside (omega arith) (k / word_bits) (k % word_bits) (omega arith)
+      ∙ rw (one_event k, alone_row W row k)
 
   -- as rows of the relation: it is row 0
-  pub marked-alone : (k : ℕ) → holds W (marked W row 0 x) 0 k ≡ (holds W row 0 k || eqb k x)
+  pub marked_alone : (k : ℕ) → holds W (marked W row 0 x) 0 k ≡ (holds W row 0 k || eqb k x)
   unfolding marked
-  marked-alone k = rw (zero-mul, zero-add) (with-bit k)
+  marked_alone k = rw (zero-mul, zero-add) (with_bit k)
 
-  pub unmarked-alone : (k : ℕ) → holds W (unmarked W row 0 x) 0 k ≡ (holds W row 0 k && not (eqb k x))
+  pub unmarked_alone : (k : ℕ) → holds W (unmarked W row 0 x) 0 k ≡ (holds W row 0 k && not (eqb k x))
   unfolding unmarked
-  unmarked-alone k = rw (zero-mul, zero-add) (without-bit k)
+  unmarked_alone k = rw (zero-mul, zero-add) (without_bit k)

@@ -1,52 +1,52 @@
 -- What `cleared` means: the first words are zero, so the rows there hold nothing, and the rest is as it was.
 -- Assumes nothing.
-use mathlib.Core.Path.{_≡_, ap, sym, _∙_}
-use mathlib.Core.Bool.{_&&_}
-use mathlib.Core.List.{List, _++_}
-use Prim.Native.Nat.{ℕ, suc, _+_, _-_, _*_, _<_, _≤_}
-use native.Mathlib.Nat.{mul-le-mul-right}
-use native.Mathlib.Decide.{decLe}
+use mathlib.Core.Path.{◌≡◌, ap, sym, ◌∙◌}
+use mathlib.Core.Bool.{◌&&◌}
+use mathlib.Core.List.{List, ◌++◌}
+use Prim.Native.Nat.{ℕ, suc, ◌+◌, ◌-◌, ◌*◌, ◌<◌, ◌≤◌}
+use native.Mathlib.Nat.{mul-le-mul_right}
+use native.Mathlib.Decide.{dec_le}
 use native.Mathlib.Omega.{arith}
 use lib.Dec.{leb}
-use lib.ListN.{length, getD, drop, replicate, length-replicate, getD-replicate, List·getD-append}
-use lib.Seq.{getD-append-add, getD-drop, drop-append-add, drop-drop}
+use lib.ListN.{length, get_or, drop, replicate, length-replicate, get_or-replicate, get_or-append}
+use lib.Seq.{get_or-append-add, get_or-drop, drop-append-add, drop-drop}
 use borrow.Author.Tests.{le-leb, lt-leb}
-use Rattle·relation·specs.specs.Width.{wordBits}
-use Rattle·relation·specs.specs.Rows.{holds, cleared, wordOf, bitOf}
-use Rattle·relation·proofs.proofs.Bits.{has-zero}
-use Rattle·relation·proofs.proofs.Place.{column-lt}
+use Rattle.relation.specs.Width.{word_bits}
+use Rattle.relation.specs.Rows.{holds, cleared, word_of, bit_of}
+use Rattle.relation.proofs.Bits.{has_zero}
+use Rattle.relation.proofs.Place.{column_lt}
 
-cleared-at : (n : ℕ) (l : List ℕ) (k : ℕ) → k < n → getD (cleared n l) k 0 ≡ 0
+cleared_at : (n : ℕ) (l : List ℕ) (k : ℕ) → k < n → get_or (cleared n l) k 0 ≡ 0
 unfolding cleared
-cleared-at n l k h =
-    List·getD-append (replicate n 0) (drop n l) 0 k (rw (length-replicate n) h) ∙ getD-replicate n k 0 0 h
+cleared_at n l k h =
+    get_or-append (replicate n 0) (drop n l) 0 k (rw (length-replicate n) h) ∙ get_or-replicate n k 0 0 h
 
-cleared-beyond : (n : ℕ) (l : List ℕ) (k : ℕ) → n ≤ k → getD (cleared n l) k 0 ≡ getD l k 0
+cleared_beyond : (n : ℕ) (l : List ℕ) (k : ℕ) → n ≤ k → get_or (cleared n l) k 0 ≡ get_or l k 0
 unfolding cleared
-cleared-beyond n l k h =
-    ap (λ (i : ℕ). getD (replicate n 0 ++ drop n l) i 0) at ∙ getD-append-add (replicate n 0) (drop n l) (k - n) 0 ∙ getD-drop n l (k - n) 0
-    ∙ ap (λ (i : ℕ). getD l i 0) (omega arith)
+cleared_beyond n l k h =
+    ap (λ (i : ℕ). get_or (replicate n 0 ++ drop n l) i 0) at ∙ get_or-append-add (replicate n 0) (drop n l) (k - n) 0 ∙ get_or-drop n l (k - n) 0
+    ∙ ap (λ (i : ℕ). get_or l i 0) (omega arith)
   where
     at : k ≡ length {A = ℕ} (replicate n 0) + (k - n)
     at = rw (length-replicate n) (omega arith)
 
-pub holds-cleared : (W : ℕ) (l : List ℕ) (rows y x : ℕ) → x < wordBits * W
+pub holds_cleared : (W : ℕ) (l : List ℕ) (rows y x : ℕ) → x < word_bits * W
     → holds W (cleared (rows * W) l) y x ≡ (leb rows y && holds W l y x)
 unfolding holds
-holds-cleared W l rows y x hx = go (decLe rows y)
+holds_cleared W l rows y x hx = go (dec_le rows y)
   where
     go : Dec (rows ≤ y) → holds W (cleared (rows * W) l) y x ≡ (leb rows y && holds W l y x)
     go (yes h) =
-        rw (cleared-beyond (rows * W) l (wordOf W y x) (omega (arith, mul-le-mul-right W h)), le-leb rows y h)
+        rw (cleared_beyond (rows * W) l (word_of W y x) (omega (arith, mul-le-mul_right W h)), le-leb rows y h)
     go (no n) =
         let h : suc y ≤ rows = omega arith in
-        rw (cleared-at (rows * W) l (wordOf W y x) (omega (arith, column-lt W x hx, mul-le-mul-right W h)), lt-leb rows y h)
-        (has-zero (bitOf x))
+        rw (cleared_at (rows * W) l (word_of W y x) (omega (arith, column_lt W x hx, mul-le-mul_right W h)), lt-leb rows y h)
+        (has_zero (bit_of x))
 
 -- the first n words were changed and the rest not: with the first k zero, k at least n, that is forgotten
-pub cleared-behind : (k : ℕ) (used l : List ℕ) (n : ℕ) → length used ≡ n → n ≤ k → cleared k (used ++ drop n l) ≡ cleared k l
+pub cleared_behind : (k : ℕ) (used l : List ℕ) (n : ℕ) → length used ≡ n → n ≤ k → cleared k (used ++ drop n l) ≡ cleared k l
 unfolding cleared
-cleared-behind k used l n e h =
+cleared_behind k used l n e h =
     let rest = k - n in
     let at : length used + rest ≡ k = omega arith in
     let back : n + rest ≡ k = omega arith in
@@ -55,5 +55,5 @@ cleared-behind k used l n e h =
     ap (λ t. replicate k 0 ++ t) same
 
 -- So many words were cleared. That they are k is asked apart, so that another number is refused at that equation.
-pub cleared-all : (k m : ℕ) (l exit : List ℕ) → exit ≡ cleared m l → m ≡ k → exit ≡ cleared k l
-cleared-all k m l exit s all = s ∙ ap (λ i. cleared i l) all
+pub cleared_all : (k m : ℕ) (l exit : List ℕ) → exit ≡ cleared m l → m ≡ k → exit ≡ cleared k l
+cleared_all k m l exit s all = s ∙ ap (λ i. cleared i l) all

@@ -1,11 +1,11 @@
 -- The order with one pair more, orders within each other, and the rows that such a pair can change.
 -- Assumes nothing.
-use mathlib.Core.Path.{_≡_}
-use mathlib.Core.Bool.{Bool, true, false, _&&_, _||_}
+use mathlib.Core.Path.{◌≡◌}
+use mathlib.Core.Bool.{Bool, true, false, ◌&&◌, ◌||◌}
 use mathlib.Core.List.{List}
-use Prim.Native.Nat.{ℕ, _<_, _≤_}
+use Prim.Native.Nat.{ℕ, ◌<◌, ◌≤◌}
 use lib.Dec.{eqb}
-use Rattle·relation·specs.specs.Rows.{holds}
+use Rattle.relation.specs.Rows.{holds}
 
 -- Each pair of R, among the first n events, is one of S.
 abbrev pub Within : ℕ → (ℕ → ℕ → Bool) → (ℕ → ℕ → Bool) → Type 0

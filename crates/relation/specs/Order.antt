@@ -1,10 +1,7 @@
 -- The rows as an order, and what it is to be transitive.
 -- Assumes nothing.
-use mathlib.Core.Path.{_≡_}
-use mathlib.Core.Bool.{Bool, true}
-use mathlib.Core.List.{List}
-use Prim.Native.Nat.{ℕ, _<_}
-use Rattle·relation·specs.specs.Rows.{holds}
+use Rattle.std.specs.Prelude.{◌≡◌, Bool, true, List, ℕ, ◌<◌}
+use Rattle.relation.specs.Rows.{holds}
 
 -- Event a is before event b: it is in b's row.
 abbrev pub before : ℕ → List ℕ → ℕ → ℕ → Bool

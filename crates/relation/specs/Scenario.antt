@@ -1,20 +1,16 @@
 -- From the code's data to the model: the scenario that a number of messages, the board of each event and the relation's words
 -- hold. Assumes nothing.
-use mathlib.Core.Bool.{_&&_}
-use mathlib.Core.List.{List}
-use Prim.Native.Nat.{ℕ, _+_, _*_}
-use lib.Dec.{ltb}
-use lib.ListN.{getD}
-use Rattle·model.specs.Order.{Scenario, number, messageOf}
-use Rattle·relation·specs.specs.Width.{width}
-use Rattle·relation·specs.specs.Rows.{holds}
+use Rattle.std.specs.Prelude.{◌&&◌, List, ℕ, ◌+◌, ◌*◌, ltb, get_or}
+use Rattle.model.specs.Order.{Scenario, number, message_of}
+use Rattle.relation.specs.Width.{width}
+use Rattle.relation.specs.Rows.{holds}
 
 -- event 2m is message m's send, on its source; event 2m + 1 its receive, on its target
-abbrev pub scenarioIn : ℕ → List ℕ → List ℕ → Scenario
-scenarioIn count boards words =
+abbrev pub scenario_in : ℕ → List ℕ → List ℕ → Scenario
+scenario_in count boards words =
     record {
       count = count;
-      source = λ m. getD boards (2 * m) 0;
-      target = λ m. getD boards (2 * m + 1) 0;
-      before = λ x y. ltb (messageOf x) count && ltb (messageOf y) count && holds width words (number y) (number x);
+      source = λ m. get_or boards (2 * m) 0;
+      target = λ m. get_or boards (2 * m + 1) 0;
+      before = λ x y. ltb (message_of x) count && ltb (message_of y) count && holds width words (number y) (number x);
     }

@@ -1,12 +1,12 @@
 -- How wide a row of the relation is. The laws are proved for any width; only the code has this one.
 -- Assumes nothing.
-use Prim.Native.Nat.{ℕ}
-use Rattle·model.specs.Limits.{rowWords}
+use Rattle.std.specs.Prelude.{ℕ}
+use Rattle.model.specs.Limits.{row_words}
 
 -- The words of a row.
 abbrev pub width : ℕ
-width = rowWords
+width = row_words
 
 -- The bits of a word.
-abbrev pub wordBits : ℕ
-wordBits = 64
+abbrev pub word_bits : ℕ
+word_bits = 64

@@ -1,9 +1,9 @@
 // Rows of words: row y holds the predecessors of event y, WIDTH words a row, an event a bit.
-ghost use mathlib.Core.Path.{_≡_};
-ghost use Prim.Native.Nat.{_+_, _*_, _<_, _≤_};
-ghost use lib.ListN.{length};
-ghost use Rattle·relation·specs.specs.Width.{width, wordBits};
-ghost use Rattle·relation·specs.specs.Rows.{holds, marked, unmarked, cleared};
+#![tactic(auto)]
+
+ghost use Rattle.std.specs.Prelude.{◌≡◌, ◌+◌, ◌*◌, ◌<◌, ◌≤◌, length};
+ghost use Rattle.relation.specs.Width.{width, word_bits};
+ghost use Rattle.relation.specs.Rows.{holds, marked, unmarked, cleared};
 
 // The words of a row: the model's limit, as the specs' `width` is.
 pub const WIDTH: usize = model::ROW_WORDS;
@@ -16,9 +16,9 @@ pub const SENDS: u64 = 0x5555555555555555;
 
 // Event x is a predecessor of event y.
 pub fn test(words: &[u64], y: usize, x: usize) -> bool
-    requires { ⌜ y * width + width ≤ length (now words) ⌝ }
-    requires { ⌜ x < wordBits * width ⌝ }
-    ensures { λ r. ⌜ r ≡ holds width (now (words .entry)) y x ⌝ }
+    requires width_in_bounds { y * width + width ≤ length words.now }
+    requires x_bound { x < word_bits * width }
+    ensures { result ≡ holds width words.now y x }
 {
     let at = y * WIDTH + x / WORD_BITS;
     (words[at] >> (x % WORD_BITS)) & 1 == 1
@@ -26,9 +26,9 @@ pub fn test(words: &[u64], y: usize, x: usize) -> bool
 
 // Event x becomes a predecessor of event y.
 pub fn mark(words: &mut [u64], y: usize, x: usize)
-    requires { ⌜ y * width + width ≤ length (now words) ⌝ }
-    requires { ⌜ x < wordBits * width ⌝ }
-    ensures { λ _. ⌜ now (words .exit) ≡ marked width (now (words .entry)) y x ⌝ }
+    requires width_in_bounds { y * width + width ≤ length words.old }
+    requires x_bound { x < word_bits * width }
+    ensures { words.new ≡ marked width words.old y x }
 {
     let at = y * WIDTH + x / WORD_BITS;
     words[at] = words[at] | (1 << (x % WORD_BITS));
@@ -36,9 +36,9 @@ pub fn mark(words: &mut [u64], y: usize, x: usize)
 
 // Event x is no longer a predecessor of event y.
 pub fn unmark(words: &mut [u64], y: usize, x: usize)
-    requires { ⌜ y * width + width ≤ length (now words) ⌝ }
-    requires { ⌜ x < wordBits * width ⌝ }
-    ensures { λ _. ⌜ now (words .exit) ≡ unmarked width (now (words .entry)) y x ⌝ }
+    requires width_in_bounds { y * width + width ≤ length words.old }
+    requires x_bound { x < word_bits * width }
+    ensures { words.new ≡ unmarked width words.old y x }
 {
     let at = y * WIDTH + x / WORD_BITS;
     words[at] = words[at] & !(1 << (x % WORD_BITS));
@@ -46,8 +46,8 @@ pub fn unmark(words: &mut [u64], y: usize, x: usize)
 
 // The first `count` words become zero.
 pub fn clear(words: &mut [u64], count: usize)
-    requires { ⌜ count ≤ length (now words) ⌝ }
-    ensures { λ _. ⌜ now (words .exit) ≡ cleared count (now (words .entry)) ⌝ }
+    requires { count ≤ length words.old }
+    ensures { words.new ≡ cleared count words.old }
 {
     for i in 0..count {
         words[i] = 0;
@@ -55,6 +55,7 @@ pub fn clear(words: &mut [u64], count: usize)
 }
 
 // What a search for an event found: the lowest one, if there is one.
+#[derive(Clone, Copy)]
 pub enum Found {
     Event(usize),
     Nothing,

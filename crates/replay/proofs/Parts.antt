@@ -1,54 +1,54 @@
 -- What the parts of the call are to show, from what its own parts handed on. Assumes nothing.
-use mathlib.Core.Path.{_≡_, subst, subst⁻¹}
+use mathlib.Core.Path.{◌≡◌, subst, subst⁻¹}
 use mathlib.Core.List.{List}
-use Prim.Native.Nat.{ℕ, _*_, _≤_}
+use Prim.Native.Nat.{ℕ, ◌*◌, ◌≤◌}
 use native.Mathlib.Omega.{arith}
 use lib.ListN.{length}
-use Rattle·model.specs.Refusal.{Out}
-use Rattle·model.specs.Order.{Scenario}
-use Rattle·model.specs.Channel as model
-use Rattle·model.specs.Channel.{channelOf}
-use Rattle·model.specs.Answer.{sheetOf}
-use Rattle·model.specs.Replay.{replayFor}
-use Rattle·model.specs.Waits.{waitFor}
-use Rattle·relation.specs.Width.{width}
-use Rattle·relation.specs.Scenario.{scenarioIn}
-use Rattle·expansion.specs.declared.Expanded.{Expanded}
-use Rattle·expansion.specs.declared.Expanded.the-variants as expanded
-use Rattle·scenario.specs.Contract.{SheetIn}
-use Rattle·scenario.proofs.Laws.{sheet-refused, sheet-is, sheet-fits}
-use Rattle·channel_table.specs.declared.Channel.{Channel}
-use Rattle·channel_table.specs.Table.{channelIn}
-use Rattle·board.specs.Masks.{maskRows, MasksOf, Standing}
-use Rattle·trace_steps.specs.declared.Replay.the-variants.{Refused}
-use Rattle·trace_steps.specs.declared.Outcome.{Outcome}
-use Rattle·trace_steps.specs.Bridge.{Unwaited, Taken}
-use Rattle·replay·specs.specs.Bridge.{Judged}
+use Rattle.model.specs.Refusal.{Out}
+use Rattle.model.specs.Order.{Scenario}
+use Rattle.model.specs.Channel as model
+use Rattle.model.specs.Channel.{channel_of}
+use Rattle.model.specs.Answer.{sheet_of}
+use Rattle.model.specs.Replay.{replay_for}
+use Rattle.model.specs.Waits.{wait_for}
+use Rattle.relation.specs.Width.{width}
+use Rattle.relation.specs.Scenario.{scenario_in}
+use Rattle.expansion.specs.declared.Expanded.{Expanded}
+use Rattle.expansion.specs.declared.Expanded.TheVariants as expanded
+use Rattle.scenario.specs.Contract.{SheetIn}
+use Rattle.scenario.proofs.Laws.{sheet_refused, sheet_is, sheet_fits}
+use Rattle.channel_table.specs.declared.Channel.{Channel}
+use Rattle.channel_table.specs.Table.{channel_in}
+use Rattle.board.specs.Masks.{mask_rows, MasksOf, Standing}
+use Rattle.trace_steps.specs.declared.Replay.TheVariants.{Refused}
+use Rattle.trace_steps.specs.declared.Outcome.{Outcome}
+use Rattle.trace_steps.specs.Bridge.{Unwaited, Taken}
+use Rattle.replay.specs.Bridge.{Judged}
 
 -- What the way to the scenario hands on.
 module _ (text boards words : List ℕ) (v : Expanded) (p : SheetIn text boards words v) where
-  pub scenario-refused : (number line code : ℕ) (trace : List ℕ) (r : Outcome) → Unwaited (Refused number line) r → v ≡ expanded.Refused number line
-      → Judged (sheetOf text) code trace r
-  unfolding replayFor waitFor
-  scenario-refused number line code trace r T i =
-      subst⁻¹ (λ (o : Out Scenario). Judged o code trace r) (sheet-refused text boards words v p number line i) T
+  pub scenario_refused : (number line code : ℕ) (trace : List ℕ) (r : Outcome) → Unwaited (Refused number line) r → v ≡ expanded.Refused number line
+      → Judged (sheet_of text) code trace r
+  unfolding replay_for wait_for
+  scenario_refused number line code trace r T i =
+      subst⁻¹ (λ (o : Out Scenario). Judged o code trace r) (sheet_refused text boards words v p number line i) T
 
   module _ (count : ℕ) (i : v ≡ expanded.Messages count) where
-    pub scenario-replayed : (code : ℕ) (trace : List ℕ) (c : Channel) (r : Outcome) → Taken (scenarioIn count boards words) (channelIn c) trace r
-        → channelIn c ≡ channelOf code → Judged (sheetOf text) code trace r
-    unfolding replayFor waitFor
-    scenario-replayed code trace c r h k =
-        subst⁻¹ (λ (o : Out Scenario). Judged o code trace r) (sheet-is text boards words v p count i)
-        (subst (λ (q : model.Channel). Taken (scenarioIn count boards words) q trace r) k h)
+    pub scenario_replayed : (code : ℕ) (trace : List ℕ) (c : Channel) (r : Outcome) → Taken (scenario_in count boards words) (channel_in c) trace r
+        → channel_in c ≡ channel_of code → Judged (sheet_of text) code trace r
+    unfolding replay_for wait_for
+    scenario_replayed code trace c r h k =
+        subst⁻¹ (λ (o : Out Scenario). Judged o code trace r) (sheet_is text boards words v p count i)
+        (subst (λ (q : model.Channel). Taken (scenario_in count boards words) q trace r) k h)
 
-    pub scenario-stands : (masks : List ℕ) → maskRows * width ≤ length masks → MasksOf count boards masks → Standing count boards words masks
-    scenario-stands masks l m =
-        let f = sheet-fits text boards words v p count i in
+    pub scenario_stands : (masks : List ℕ) → mask_rows * width ≤ length masks → MasksOf count boards masks → Standing count boards words masks
+    scenario_stands masks l m =
+        let f = sheet_fits text boards words v p count i in
         record {
-          few = f .few;
-          boardsLong = omega (arith, f .boardsLong, f .few);
-          wordsLong = omega (arith, f .wordsLong, f .few);
-          masksLong = l;
-          boardsBelow = f .boardsBelow;
-          masksOf = m;
+          few = f.few;
+          boards_long = omega (arith, f.boards_long, f.few);
+          words_long = omega (arith, f.words_long, f.few);
+          masks_long = l;
+          boards_below = f.boards_below;
+          masks_of = m;
         }

@@ -1,27 +1,25 @@
 // A trace from another tool: a sheet, a channel and a trace in, the verdict of the step rules out.
-ghost use mathlib.Core.Path.{_≡_};
-ghost use Prim.Native.Nat.{_*_, _%_, _<_, _≤_};
-ghost use lib.ListN.{length};
-ghost use Rattle·model.specs.Limits.{channels, messagesMost, traceLeast};
-ghost use Rattle·model.specs.Answer.{sheetOf};
-ghost use Rattle·model.specs.Replay.{replayNumbers};
-ghost use Rattle·model.specs.Waits.{TraceChecked};
-ghost use Rattle·relation.specs.Width.{width};
-ghost use Rattle·trace_steps.specs.Bridge.{replayIn};
-ghost use Rattle·trace_answer.specs.Numbers.{numbersIn};
-ghost use Rattle·replay·specs.specs.Bridge.{Judged};
+#![tactic(auto)]
+
+ghost use Rattle.std.specs.Prelude.{◌≡◌, ◌*◌, ◌%◌, ◌<◌, ◌≤◌, length};
+ghost use Rattle.model.specs.Limits.{channels, messages_most, trace_least};
+ghost use Rattle.model.specs.Answer.{sheet_of};
+ghost use Rattle.model.specs.Replay.{replay_numbers};
+ghost use Rattle.model.specs.Waits.{TraceChecked};
+ghost use Rattle.relation.specs.Width.{width};
+ghost use Rattle.trace_steps.specs.Bridge.{replay_in};
+ghost use Rattle.trace_answer.specs.Numbers.{numbers_in};
+ghost use Rattle.replay.specs.Bridge.{Judged};
+
 use expansion::Expanded;
 use trace_answer::TraceCheckAnswer;
-use trace_steps::Outcome;
-use trace_steps::Replay;
-use trace_steps::take_steps;
-use trace_steps::unwaited;
+use trace_steps::{Outcome, Replay, take_steps, unwaited};
 
 // A text's scenario, in the words of the relation, and the verdict on the trace.
 fn judge(text: &[u8], code: usize, words: &mut [u64], trace: &[u8]) -> Outcome
-    requires { ⌜ length (now words) ≡ 2 * messagesMost * width ⌝ }
-    requires { ⌜ (code < channels) × (length (now trace) % 2 ≡ 0) × (length (now trace) ≤ traceLeast) ⌝ }
-    ensures { λ r. ⌜ Judged (sheetOf (now (text .entry))) code (now (trace .entry)) r ⌝ }
+    requires words_len { length words.old ≡ 2 * messages_most * width }
+    requires code_lt_channels { (code < channels) × (length trace.now % 2 ≡ 0) × (length trace.now ≤ trace_least) }
+    ensures { Judged (sheet_of text.now) code trace.now result }
 {
     let mut boards = [0u8; model::EVENTS_MOST];
     let outcome = scenario::scenario_of(text, &mut boards, words);
@@ -38,7 +36,7 @@ fn judge(text: &[u8], code: usize, words: &mut [u64], trace: &[u8]) -> Outcome
 
 // Refusals 1 and 2 touch nothing; behind every other verdict the scratch is cleared.
 fn judge_trace(text: &[u8], code: u32, scratch: &mut [u64], trace: &[u8]) -> Outcome
-    ensures { λ r. ⌜ TraceChecked (now (text .entry)) code (now (scratch .entry)) (now (scratch .exit)) (now (trace .entry)) (replayNumbers (replayIn (r .verdict))) (r .waits) ⌝ }
+    ensures { TraceChecked text.now code scratch.old scratch.new trace.now (replay_numbers (replay_in result.verdict)) result.waits }
 {
     let channel = code as usize;
     if model::CHANNELS <= channel {
@@ -60,7 +58,7 @@ fn judge_trace(text: &[u8], code: u32, scratch: &mut [u64], trace: &[u8]) -> Out
 
 // The call, with the numbers for C.
 pub fn trace_check(text: &[u8], code: u32, scratch: &mut [u64], trace: &[u8]) -> TraceCheckAnswer
-    ensures { λ r. ⌜ TraceChecked (now (text .entry)) code (now (scratch .entry)) (now (scratch .exit)) (now (trace .entry)) (numbersIn r) (r .waits) ⌝ }
+    ensures { TraceChecked text.now code scratch.old scratch.new trace.now (numbers_in result) result.waits }
 {
     trace_answer::numbers(judge_trace(text, code, scratch, trace))
 }

@@ -1,159 +1,159 @@
 -- Refusals of a repeated sheet are named well, and the numbers of its answer fit 32 bits. Assumes nothing.
-use Prim.Native.Nat.{ℕ, _*_, _<_, _≤_}
-use native.Mathlib.Nat.{mul-le-mul-right}
+use Prim.Native.Nat.{ℕ, ◌*◌, ◌≤◌}
+use native.Mathlib.Nat.{mul-le-mul_right}
 use native.Mathlib.Omega.{arith}
-use mathlib.Core.Path.{_≡_, refl, sym, _∙_, ap, subst, subst⁻¹}
-use mathlib.Core.Logic.{_⊎_, ⊎-elim}
-use mathlib.Core.Bool.{Bool, true, false, cond, _||_}
+use mathlib.Core.Path.{◌≡◌, refl, ◌∙◌, ap, subst, subst⁻¹}
+use mathlib.Core.Logic.{◌⊎◌, ⊎_elim}
+use mathlib.Core.Bool.{Bool, true, false, cond, ◌||◌}
 use mathlib.Core.List.{List, []}
 use lib.Dec.{ltb}
 use lib.ListN.{length}
-use Rattle·model.specs.Limits.{channels, messagesMost, rowsMost, scratchLeast, traceLeast}
-use Rattle·model.specs.Refusal.{Out, ok, refusal, andThen, channelRefusal, benchRefusal, choicesRefusal}
-use Rattle·model.specs.Rows.{Row}
-use Rattle·model.specs.Place.{lineOf, readOf}
-use Rattle·model.specs.Expansion.{Progress, blockOpened, expand}
-use Rattle·model.specs.Order.{Exchange, scenarioOf, Met, nothingMet, metOps, exchangeOf}
-use Rattle·model.specs.Answer as model
-use Rattle·model.specs.Answer.{Numbers, freeWord, lockedWord, refusedWord, exchangeWith, exchangeMet, expandedWith, sheetOf, verdictOf, numbersOf}
-use Rattle·model.specs.Channel.{channelOf}
-use Rattle·model.specs.Schedule.{schedule}
-use Rattle·model.specs.Rounds.{rounds, scenarioIn, walkedAgain, walkedTwice, repeatable, firstVerdict, secondVerdict, roundsVerdict, roundsAnswer, RoundsJudged, RoundsChecked}
-use Rattle·model.proofs.Accepted.{sheet-count}
-use Rattle·model.proofs.Lines.{Well, Reads, read-well, expand-well}
-use Rattle·model.proofs.WithoutChoices.{read-plain}
-use Rattle·second_walk.specs.Walks.{rowsRepeatable}
-use Rattle·second_walk.proofs.Plain.{walked-well}
-use Rattle·rounds·specs.specs.Numbers.{Small, textRepeatable}
+use Rattle.model.specs.Limits.{channels, messages_most, rows_most, scratch_least, trace_least}
+use Rattle.model.specs.Refusal.{Out, ok, refusal, and_then, channel_refusal, bench_refusal, choices_refusal}
+use Rattle.model.specs.Rows.{Row}
+use Rattle.model.specs.Place.{line_of, read_of}
+use Rattle.model.specs.Expansion.{Progress, block_opened, expand}
+use Rattle.model.specs.Order.{Exchange, scenario_of, Met, nothing_met, met_ops, exchange_of}
+use Rattle.model.specs.Answer as model
+use Rattle.model.specs.Answer.{Numbers, free_word, locked_word, refused_word, exchange_with, exchange_met, expanded_with, sheet_of, verdict_of, numbers_of}
+use Rattle.model.specs.Channel.{channel_of}
+use Rattle.model.specs.Schedule.{schedule}
+use Rattle.model.specs.Rounds.{rounds, scenario_in, walked_again, walked_twice, repeatable, first_verdict, second_verdict, rounds_verdict, rounds_answer, RoundsJudged, RoundsChecked}
+use Rattle.model.proofs.Accepted.{sheet_count}
+use Rattle.model.proofs.Lines.{Well, Reads, read_well, expand_well}
+use Rattle.model.proofs.WithoutChoices.{read_plain}
+use Rattle.second_walk.specs.Walks.{rows_repeatable}
+use Rattle.second_walk.proofs.Plain.{walked_well}
+use Rattle.rounds.specs.Numbers.{Small, text_repeatable}
 
-well-then : {A B : Type 0} (o : Out A) (f : A → Out B) → Well (lineOf rowsMost) o → ((a : A) → Well (lineOf rowsMost) (f a)) → Well (lineOf rowsMost) (andThen o f)
-unfolding andThen
-well-then (ok a) f w g = g a
-well-then (refusal number line) f w g = w
+well_then : {A B : Type 0} (o : Out A) (f : A → Out B) → Well (line_of rows_most) o → ((a : A) → Well (line_of rows_most) (f a)) → Well (line_of rows_most) (and_then o f)
+unfolding and_then
+well_then (ok a) f w g = g a
+well_then (refusal number line) f w g = w
 
 -- the exchange of one round, or a refusal named well
-pub repeatable-well : (text : List ℕ) → Well (lineOf rowsMost) (textRepeatable text)
-unfolding textRepeatable rowsRepeatable walkedAgain Reads andThen
-repeatable-well text = go (readOf text) refl (read-well false text)
+pub repeatable_well : (text : List ℕ) → Well (line_of rows_most) (text_repeatable text)
+unfolding text_repeatable rows_repeatable walked_again Reads and_then
+repeatable_well text = go (read_of text) refl (read_well false text)
   where
-    go : (o : Out (List Row)) → readOf text ≡ o → Reads o → Well (lineOf rowsMost) (andThen o rowsRepeatable)
+    go : (o : Out (List Row)) → read_of text ≡ o → Reads o → Well (line_of rows_most) (and_then o rows_repeatable)
     go (refusal number line) i w = w
     go (ok file) i w =
-        well-then (expand metOps [] file nothingMet) (λ s. andThen (walkedAgain file s) (λ t. ok (exchangeOf s))) (expand-well metOps [] file w nothingMet)
-        (λ s. well-then (walkedAgain file s) (λ t. ok (exchangeOf s)) (walked-well metOps [] file (read-plain text file i) w (blockOpened metOps s)) (λ t. tt))
+        well_then (expand met_ops [] file nothing_met) (λ s. and_then (walked_again file s) (λ t. ok (exchange_of s))) (expand_well met_ops [] file w nothing_met)
+        (λ s. well_then (walked_again file s) (λ t. ok (exchange_of s)) (walked_well met_ops [] file (read_plain text file i) w (block_opened met_ops s)) (λ t. tt))
 
 -- the exchange of one round, of the two that are met
-pub first-met : (text : List ℕ) → andThen (walkedTwice text) (λ twice. ok (twice .0)) ≡ textRepeatable text
-unfolding walkedTwice textRepeatable rowsRepeatable andThen
-first-met text = go (readOf text)
+pub first_met : (text : List ℕ) → and_then (walked_twice text) (λ twice. ok twice.0) ≡ text_repeatable text
+unfolding walked_twice text_repeatable rows_repeatable and_then
+first_met text = go (read_of text)
   where
     first : Out (Exchange × Exchange) → Out Exchange
-    first o = andThen o (λ twice. ok (twice .0))
+    first o = and_then o (λ twice. ok twice.0)
 
-    again : (s : Progress Met) (o : Out (Progress Met)) → first (andThen o (λ t. ok (exchangeOf s, exchangeOf t))) ≡ andThen o (λ t. ok (exchangeOf s))
+    again : (s : Progress Met) (o : Out (Progress Met)) → first (and_then o (λ t. ok (exchange_of s, exchange_of t))) ≡ and_then o (λ t. ok (exchange_of s))
     again s (ok t) = refl
     again s (refusal number line) = refl
 
     walked : (file : List Row) (o : Out (Progress Met))
-        → first (andThen o (λ s. andThen (walkedAgain file s) (λ t. ok (exchangeOf s, exchangeOf t)))) ≡ andThen o (λ s. andThen (walkedAgain file s) (λ t. ok (exchangeOf s)))
-    walked file (ok s) = again s (walkedAgain file s)
+        → first (and_then o (λ s. and_then (walked_again file s) (λ t. ok (exchange_of s, exchange_of t)))) ≡ and_then o (λ s. and_then (walked_again file s) (λ t. ok (exchange_of s)))
+    walked file (ok s) = again s (walked_again file s)
     walked file (refusal number line) = refl
 
     go : (o : Out (List Row))
-        → first (andThen o (λ file. andThen (expand metOps [] file nothingMet) (λ s. andThen (walkedAgain file s) (λ t. ok (exchangeOf s, exchangeOf t)))))
-        ≡ andThen o rowsRepeatable
-    go (ok file) = walked file (expand metOps [] file nothingMet)
+        → first (and_then o (λ file. and_then (expand met_ops [] file nothing_met) (λ s. and_then (walked_again file s) (λ t. ok (exchange_of s, exchange_of t)))))
+        ≡ and_then o rows_repeatable
+    go (ok file) = walked file (expand met_ops [] file nothing_met)
     go (refusal number line) = refl
 
 -- one round has at most so many messages as a walk may meet
-one-count : (text : List ℕ) (E : Exchange) → exchangeMet text ≡ ok E → E .count ≤ messagesMost
-unfolding exchangeMet exchangeWith sheetOf expandedWith andThen scenarioOf
-one-count text E e = go (readOf text) refl e
+one_count : (text : List ℕ) (E : Exchange) → exchange_met text ≡ ok E → E.count ≤ messages_most
+unfolding exchange_met exchange_with sheet_of expanded_with and_then scenario_of
+one_count text E e = go (read_of text) refl e
   where
-    sheet-is : (file : List Row) → readOf text ≡ ok file → (o : Out (Progress Met)) → expand metOps [] file nothingMet ≡ o
-        → andThen o (λ s. ok (exchangeOf s)) ≡ ok E → E .count ≤ messagesMost
-    sheet-is file i (ok s) j k =
-        let same : exchangeOf s ≡ E = cc in
-        let met : sheetOf text ≡ ok (scenarioOf (exchangeOf s)) = rw (i, j) in
-        subst (λ (F : Exchange). F .count ≤ messagesMost) same (sheet-count text (scenarioOf (exchangeOf s)) met)
-    sheet-is file i (refusal number line) j k = let z : _≡_ {A = ℕ} 0 1 = cc in absurd (omega arith)
+    sheet_is : (file : List Row) → read_of text ≡ ok file → (o : Out (Progress Met)) → expand met_ops [] file nothing_met ≡ o
+        → and_then o (λ s. ok (exchange_of s)) ≡ ok E → E.count ≤ messages_most
+    sheet_is file i (ok s) j k =
+        let same : exchange_of s ≡ E = cc in
+        let met : sheet_of text ≡ ok (scenario_of (exchange_of s)) = rw (i, j) in
+        subst (λ (F : Exchange). F.count ≤ messages_most) same (sheet_count text (scenario_of (exchange_of s)) met)
+    sheet_is file i (refusal number line) j k = let z : ◌≡◌ {A = ℕ} 0 1 = cc in absurd (omega arith)
 
-    go : (o : Out (List Row)) → readOf text ≡ o → andThen o (exchangeWith []) ≡ ok E → E .count ≤ messagesMost
-    go (ok file) i k = sheet-is file i (expand metOps [] file nothingMet) refl k
-    go (refusal number line) i k = let z : _≡_ {A = ℕ} 0 1 = cc in absurd (omega arith)
+    go : (o : Out (List Row)) → read_of text ≡ o → and_then o (exchange_with []) ≡ ok E → E.count ≤ messages_most
+    go (ok file) i k = sheet_is file i (expand met_ops [] file nothing_met) refl k
+    go (refusal number line) i k = let z : ◌≡◌ {A = ℕ} 0 1 = cc in absurd (omega arith)
 
 -- a refusal of the call has a small number, and a line of the file
 abbrev Bounded : Out Exchange → Type 0
 Bounded (ok E) = Unit {0}
-Bounded (refusal number line) = (number ≤ choicesRefusal) × (line ≤ lineOf rowsMost)
+Bounded (refusal number line) = (number ≤ choices_refusal) × (line ≤ line_of rows_most)
 
 bounded : (text : List ℕ) (code m n : ℕ) → Bounded (repeatable text code m n)
 unfolding repeatable
-bounded text code m n = go (ltb code channels) (ltb m scratchLeast || ltb n traceLeast)
+bounded text code m n = go (ltb code channels) (ltb m scratch_least || ltb n trace_least)
   where
-    walked : (o : Out Exchange) → Well (lineOf rowsMost) o → Bounded o
+    walked : (o : Out Exchange) → Well (line_of rows_most) o → Bounded o
     walked (ok E) w = tt
-    walked (refusal number line) w = (w .known, w .within)
+    walked (refusal number line) w = (w.known, w.within)
 
-    go : (a b : Bool) → Bounded (cond a (cond b (refusal benchRefusal 0) (andThen (walkedTwice text) (λ twice. ok (twice .0)))) (refusal channelRefusal 0))
+    go : (a b : Bool) → Bounded (cond a (cond b (refusal bench_refusal 0) (and_then (walked_twice text) (λ twice. ok twice.0))) (refusal channel_refusal 0))
     go true true = (omega arith, omega arith)
-    go true false = subst⁻¹ Bounded (first-met text) (walked (textRepeatable text) (repeatable-well text))
+    go true false = subst⁻¹ Bounded (first_met text) (walked (text_repeatable text) (repeatable_well text))
     go false b = (omega arith, omega arith)
 
 -- there are at most two rounds
-first-few : (a b : model.Answer) → firstVerdict a b .0 ≤ 2
-unfolding firstVerdict secondVerdict
-first-few model.free model.free = omega arith
-first-few model.free (model.locked e x ts) = omega arith
-first-few model.free (model.refused number line) = omega arith
-first-few (model.locked e x ts) b = omega arith
-first-few (model.refused number line) b = omega arith
+first_few : (a b : model.Answer) → (first_verdict a b).0 ≤ 2
+unfolding first_verdict second_verdict
+first_few model.free model.free = omega arith
+first_few model.free (model.locked e x ts) = omega arith
+first_few model.free (model.refused number line) = omega arith
+first_few (model.locked e x ts) b = omega arith
+first_few (model.refused number line) b = omega arith
 
-rounds-few : (o : Out Exchange) (code : ℕ) → roundsAnswer o code .0 ≤ 2
-unfolding roundsAnswer roundsVerdict
-rounds-few (ok E) code = first-few (verdictOf (scenarioOf E) code) (verdictOf (scenarioOf (rounds E 2)) code)
-rounds-few (refusal number line) code = omega arith
+rounds_few : (o : Out Exchange) (code : ℕ) → (rounds_answer o code).0 ≤ 2
+unfolding rounds_answer rounds_verdict
+rounds_few (ok E) code = first_few (verdict_of (scenario_of E) code) (verdict_of (scenario_of (rounds E 2)) code)
+rounds_few (refusal number line) code = omega arith
 
-judged-small : (E : Exchange) (code number : ℕ) (a : model.Answer) → E .count ≤ messagesMost → number ≤ 2 → RoundsJudged E code number (numbersOf a)
-    → Small (numbersOf a) number
-unfolding scenarioOf rounds
-judged-small E code number model.free few most j = record { one = omega arith; two = omega arith; three = omega arith; rounds = omega arith }
-judged-small E code number (model.locked e x ts) few most j =
-    let inside = j .lockedRace refl .inScenario in
-    let S = scenarioIn E number in
-    let all : number * E .count ≤ 2 * E .count = mul-le-mul-right (E .count) most in
-    let short = j .noneLonger number (schedule S (channelOf code) e) (j .lockedSteps refl .isOrder) in
+judged_small : (E : Exchange) (code number : ℕ) (a : model.Answer) → E.count ≤ messages_most → number ≤ 2 → RoundsJudged E code number (numbers_of a)
+    → Small (numbers_of a) number
+unfolding scenario_of rounds
+judged_small E code number model.free few most j = record { one = omega arith; two = omega arith; three = omega arith; rounds = omega arith }
+judged_small E code number (model.locked e x ts) few most j =
+    let inside = (j.locked_race refl).in_scenario in
+    let S = scenario_in E number in
+    let all : number * E.count ≤ 2 * E.count = mul-le-mul_right E.count most in
+    let short = j.none_longer number (schedule S (channel_of code) e) (j.locked_steps refl).is_order in
     record {
-      one = omega (arith, inside .0);
-      two = omega (arith, inside .1);
-      three = omega (arith, short, j .lockedCount refl);
+      one = omega (arith, inside.0);
+      two = omega (arith, inside.1);
+      three = omega (arith, short, j.locked_count refl);
       rounds = omega arith;
     }
-judged-small E code number (model.refused m line) few most j =
-    absurd (⊎-elim (λ (e : refusedWord ≡ freeWord). omega (arith, e)) (λ (e : refusedWord ≡ lockedWord). omega (arith, e)) (j .freeOrLocked))
+judged_small E code number (model.refused m line) few most j =
+    absurd (⊎_elim (λ (e : refused_word ≡ free_word). omega (arith, e)) (λ (e : refused_word ≡ locked_word). omega (arith, e)) j.free_or_locked)
 
 -- the numbers answered are small
-pub small-checked : (text : List ℕ) (code : ℕ) (scratch scratchExit trace traceExit : List ℕ) (number : ℕ) (r : Numbers)
-    → RoundsChecked text code scratch scratchExit trace traceExit number r → Small r number
-unfolding repeatable roundsAnswer
-small-checked text code scratch scratchExit trace traceExit number r h =
+pub small_checked : (text : List ℕ) (code : ℕ) (scratch scratch_exit trace trace_exit : List ℕ) (number : ℕ) (r : Numbers)
+    → RoundsChecked text code scratch scratch_exit trace trace_exit number r → Small r number
+unfolding repeatable rounds_answer
+small_checked text code scratch scratch_exit trace trace_exit number r h =
     go (repeatable text code (length scratch) (length trace)) refl
   where
     o : Out Exchange
     o = repeatable text code (length scratch) (length trace)
 
     most : number ≤ 2
-    most = omega (arith, h .howOften, rounds-few o code)
+    most = omega (arith, h.how_often, rounds_few o code)
 
-    refused-small : (m line : ℕ) → o ≡ refusal m line → Small (numbersOf (model.refused m line)) number
-    refused-small m line i =
+    refused_small : (m line : ℕ) → o ≡ refusal m line → Small (numbers_of (model.refused m line)) number
+    refused_small m line i =
         let w = subst (Bounded) i (bounded text code (length scratch) (length trace)) in
-        record { one = omega (arith, w .0); two = omega (arith, w .1); three = omega arith; rounds = omega (arith, most) }
+        record { one = omega (arith, w.0); two = omega (arith, w.1); three = omega arith; rounds = omega (arith, most) }
 
     go : (p : Out Exchange) → o ≡ p → Small r number
-    go (refusal m line) i = subst⁻¹ (λ (q : Numbers). Small q number) (h .answer ∙ ap (λ (q : Out Exchange). numbersOf (roundsAnswer q code .1)) i) (refused-small m line i)
+    go (refusal m line) i = subst⁻¹ (λ (q : Numbers). Small q number) (h.answer ∙ ap (λ (q : Out Exchange). numbers_of (rounds_answer q code).1) i) (refused_small m line i)
     go (ok E) i =
-        let same : r ≡ numbersOf (roundsVerdict E code .1) = h .answer ∙ ap (λ (q : Out Exchange). numbersOf (roundsAnswer q code .1)) i in
+        let same : r ≡ numbers_of (rounds_verdict E code).1 = h.answer ∙ ap (λ (q : Out Exchange). numbers_of (rounds_answer q code).1) i in
         subst⁻¹ (λ (q : Numbers). Small q number) same
-        (judged-small E code number (roundsVerdict E code .1) (one-count text E (h .oneWalk E i)) most
-        (subst (λ (q : Numbers). RoundsJudged E code number q) same (h .everyRound E i)))
+        (judged_small E code number (rounds_verdict E code).1 (one_count text E (h.one_walk E i)) most
+        (subst (λ (q : Numbers). RoundsJudged E code number q) same (h.every_round E i)))

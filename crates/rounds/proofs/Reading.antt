@@ -1,52 +1,52 @@
 -- What `judge` is to show, from the text's rows and what was decided of them. Assumes nothing.
 use Prim.Native.Nat.{ℕ}
 use native.Mathlib.Omega.{arith}
-use mathlib.Core.Path.{_≡_, refl, subst⁻¹}
+use mathlib.Core.Path.{◌≡◌, refl, subst⁻¹}
 use mathlib.Core.Bool.{false}
 use mathlib.Core.List.{List}
-use Rattle·model.specs.Refusal.{Out, refusal, andThen}
-use Rattle·model.specs.Rows.{Row}
-use Rattle·model.specs.Choice.{Plain}
-use Rattle·model.specs.Answer.{traceAfter}
-use Rattle·model.specs.Rounds.{roundsAnswer}
-use Rattle·model.proofs.WithoutChoices.{read-plain}
-use Rattle·sheet.specs.Bridge.{rowsOf, ReadAs}
-use Rattle·sheet.specs.declared.Verdict.{Verdict}
-use Rattle·sheet.specs.declared.Verdict.the-variants as verdict
-use Rattle·sheet.proofs.Bridge.{refused-is, rows-are, starts-are, count-most, kind-long, one-long, two-long}
-use Rattle·expansion.specs.Lent.{RowsRead}
-use Rattle·second_walk.specs.declared.Rounds.{Rounds}
-use Rattle·second_walk.specs.declared.Rounds.the-variants.{Refused}
-use Rattle·second_walk.specs.Walks.{rowsRepeatable}
-use Rattle·second_walk.specs.Judged.{Judges}
-use Rattle·rounds·specs.specs.Numbers.{textRepeatable}
+use Rattle.model.specs.Refusal.{Out, and_then}
+use Rattle.model.specs.Rows.{Row}
+use Rattle.model.specs.Choice.{Plain}
+use Rattle.model.specs.Answer.{trace_after}
+use Rattle.model.specs.Rounds.{rounds_answer}
+use Rattle.model.proofs.WithoutChoices.{read_plain}
+use Rattle.sheet.specs.Bridge.{rows_of, ReadAs}
+use Rattle.sheet.specs.declared.Verdict.{Verdict}
+use Rattle.sheet.specs.declared.Verdict.TheVariants as verdict
+use Rattle.sheet.proofs.Bridge.{refused_is, rows_are, starts_are, count_most, kind_long_holds, one_long_holds, two_long_holds}
+use Rattle.expansion.specs.Lent.{RowsRead}
+use Rattle.second_walk.specs.declared.Rounds.{Rounds}
+use Rattle.second_walk.specs.declared.Rounds.TheVariants.{Refused}
+use Rattle.second_walk.specs.Walks.{rows_repeatable}
+use Rattle.second_walk.specs.Judged.{Judges}
+use Rattle.rounds.specs.Numbers.{text_repeatable}
 
 module _ (text kind one two start : List ℕ) (v : Verdict) (p : ReadAs false text kind one two start v) where
-  pub text-refused : (code number line : ℕ) (trace : List ℕ) → v ≡ verdict.Refused number line
-      → Judges (roundsAnswer (textRepeatable text) code) trace trace (Refused number line)
-  unfolding textRepeatable andThen roundsAnswer traceAfter
-  text-refused code number line trace i =
-      subst⁻¹ (λ (o : Out (List Row)). Judges (roundsAnswer (andThen o rowsRepeatable) code) trace trace (Refused number line))
-      (refused-is false text kind one two start v p number line i) (record { answer = refl; howOften = refl; traceLeft = refl })
+  pub text_refused : (code number line : ℕ) (trace : List ℕ) → v ≡ verdict.Refused number line
+      → Judges (rounds_answer (text_repeatable text) code) trace trace (Refused number line)
+  unfolding text_repeatable and_then rounds_answer trace_after
+  text_refused code number line trace i =
+      subst⁻¹ (λ (o : Out (List Row)). Judges (rounds_answer (and_then o rows_repeatable) code) trace trace (Refused number line))
+      (refused_is false text kind one two start v p number line i) (record { answer = refl; how_often = refl; trace_left = refl })
 
   module _ (count : ℕ) (i : v ≡ verdict.Rows count) where
-    pub text-rows : RowsRead kind one two count start
-    text-rows =
-        let few = count-most false text kind one two start v p count i in
+    pub text_rows : RowsRead kind one two count start
+    text_rows =
+        let few = count_most false text kind one two start v p count i in
         record {
-          read = (false, text, rows-are false text kind one two start v p count i);
-          starts = starts-are false text kind one two start v p count i;
-          kindLong = omega (arith, kind-long false text kind one two start v p count i);
-          oneLong = omega (arith, one-long false text kind one two start v p count i);
-          twoLong = omega (arith, two-long false text kind one two start v p count i);
+          read = (false, text, rows_are false text kind one two start v p count i);
+          starts = starts_are false text kind one two start v p count i;
+          kind_long = omega (arith, kind_long_holds false text kind one two start v p count i);
+          one_long = omega (arith, one_long_holds false text kind one two start v p count i);
+          two_long = omega (arith, two_long_holds false text kind one two start v p count i);
         }
 
-    pub text-plain : Plain (rowsOf kind one two count)
-    text-plain = read-plain text (rowsOf kind one two count) (rows-are false text kind one two start v p count i)
+    pub text_plain : Plain (rows_of kind one two count)
+    text_plain = read_plain text (rows_of kind one two count) (rows_are false text kind one two start v p count i)
 
-    pub text-judged : (code : ℕ) (trace traceExit : List ℕ) (r : Rounds) → Judges (roundsAnswer (rowsRepeatable (rowsOf kind one two count)) code) trace traceExit r
-        → Judges (roundsAnswer (textRepeatable text) code) trace traceExit r
-    unfolding textRepeatable andThen
-    text-judged code trace traceExit r j =
-        subst⁻¹ (λ (o : Out (List Row)). Judges (roundsAnswer (andThen o rowsRepeatable) code) trace traceExit r)
-        (rows-are false text kind one two start v p count i) j
+    pub text_judged : (code : ℕ) (trace trace_exit : List ℕ) (r : Rounds) → Judges (rounds_answer (rows_repeatable (rows_of kind one two count)) code) trace trace_exit r
+        → Judges (rounds_answer (text_repeatable text) code) trace trace_exit r
+    unfolding text_repeatable and_then
+    text_judged code trace trace_exit r j =
+        subst⁻¹ (λ (o : Out (List Row)). Judges (rounds_answer (and_then o rows_repeatable) code) trace trace_exit r)
+        (rows_are false text kind one two start v p count i) j

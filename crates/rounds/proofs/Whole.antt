@@ -1,89 +1,89 @@
 -- The whole promise, from what the parts of the call hand on. Assumes nothing.
-use Prim.Native.Nat.{ℕ, _<_, _≤_}
+use Prim.Native.Nat.{ℕ, ◌<◌, ◌≤◌}
 use native.Mathlib.Omega.{arith}
-use mathlib.Core.Path.{_≡_, refl, sym, _∙_, ap, subst⁻¹}
+use mathlib.Core.Path.{◌≡◌, refl, sym, ◌∙◌, ap, subst⁻¹}
 use mathlib.Core.Bool.{or-true}
-use mathlib.Core.List.{List, _++_}
+use mathlib.Core.List.{List, ◌++◌}
 use borrow.Author.Tests.{lt-ltb, le-ltb, le-leb, lt-leb}
 use lib.Dec.{ltb}
 use lib.ListN.{length, drop}
-use Rattle·model.specs.Limits.{channels, rowsMost, scratchLeast, traceLeast}
-use Rattle·model.specs.Refusal.{Out, ok, refusal, channelRefusal, benchRefusal}
-use Rattle·model.specs.Place.{lineOf}
-use Rattle·model.specs.Order.{Exchange}
-use Rattle·model.specs.Answer.{Numbers, numbersOf, scratchBehind, traceAfter}
-use Rattle·model.specs.Rounds.{repeatable, roundsAnswer, RoundsChecked}
-use Rattle·model.proofs.Lines.{Well}
-use Rattle·model.proofs.RoundsChecked.{rounds-checked}
-use Rattle·relation.specs.Rows.{cleared}
-use Rattle·relation.proofs.Cleared.{cleared-behind, cleared-all}
-use Rattle·second_walk.specs.declared.Rounds.{Rounds}
-use Rattle·second_walk.specs.declared.Rounds.the-variants.{Refused}
-use Rattle·second_walk.specs.Judged.{numbersFor, roundsFor, Judges}
-use Rattle·rounds·specs.specs.declared.RoundsCheckAnswer.{RoundsCheckAnswer}
-use Rattle·rounds·specs.specs.Numbers.{numbersIn, Told, textRepeatable}
-use Rattle·rounds·proofs.proofs.Bounds.{first-met, repeatable-well}
+use Rattle.model.specs.Limits.{channels, rows_most, scratch_least, trace_least}
+use Rattle.model.specs.Refusal.{Out, ok, refusal, channel_refusal, bench_refusal}
+use Rattle.model.specs.Place.{line_of}
+use Rattle.model.specs.Order.{Exchange}
+use Rattle.model.specs.Answer.{Numbers, numbers_of, scratch_behind, trace_after}
+use Rattle.model.specs.Rounds.{repeatable, rounds_answer, RoundsChecked}
+use Rattle.model.proofs.Lines.{Well}
+use Rattle.model.proofs.RoundsChecked.{rounds_checked}
+use Rattle.relation.specs.Rows.{cleared}
+use Rattle.relation.proofs.Cleared.{cleared_behind, cleared_all}
+use Rattle.second_walk.specs.declared.Rounds.{Rounds}
+use Rattle.second_walk.specs.declared.Rounds.TheVariants.{Refused}
+use Rattle.second_walk.specs.Judged.{numbers_for, rounds_for, Judges}
+use Rattle.rounds.specs.declared.RoundsCheckAnswer.{RoundsCheckAnswer}
+use Rattle.rounds.specs.Numbers.{numbers_in, Told, text_repeatable}
+use Rattle.rounds.proofs.Bounds.{first_met, repeatable_well}
 
 -- What each return of `check` is to show: refusal 1 for a code above 5, refusal 2 for a short buffer, else what two walks decide.
 module _ (text : List ℕ) (code : ℕ) (scratch trace : List ℕ) where
-  checked-from : (scratchExit traceExit : List ℕ) (r : Rounds) (o : Out Exchange) → repeatable text code (length scratch) (length trace) ≡ o
-      → Judges (roundsAnswer o code) trace traceExit r → scratchExit ≡ scratchBehind o scratch
-      → RoundsChecked text code scratch scratchExit trace traceExit (roundsFor r) (numbersFor r)
-  checked-from scratchExit traceExit r o e j s =
-      rounds-checked text code scratch scratchExit trace traceExit (roundsFor r) (numbersFor r)
-      (j .answer ∙ ap (λ (p : Out Exchange). numbersOf (roundsAnswer p code .1)) (sym e))
-      (j .howOften ∙ ap (λ (p : Out Exchange). roundsAnswer p code .0) (sym e))
-      (s ∙ ap (λ (p : Out Exchange). scratchBehind p scratch) (sym e))
-      (j .traceLeft ∙ ap (λ (p : Out Exchange). traceAfter (roundsAnswer p code .1) trace) (sym e))
+  checked_from : (scratch_exit trace_exit : List ℕ) (r : Rounds) (o : Out Exchange) → repeatable text code (length scratch) (length trace) ≡ o
+      → Judges (rounds_answer o code) trace trace_exit r → scratch_exit ≡ scratch_behind o scratch
+      → RoundsChecked text code scratch scratch_exit trace trace_exit (rounds_for r) (numbers_for r)
+  checked_from scratch_exit trace_exit r o e j s =
+      rounds_checked text code scratch scratch_exit trace trace_exit (rounds_for r) (numbers_for r)
+      (j.answer ∙ ap (λ (p : Out Exchange). numbers_of (rounds_answer p code).1) (sym e))
+      (j.how_often ∙ ap (λ (p : Out Exchange). (rounds_answer p code).0) (sym e))
+      (s ∙ ap (λ (p : Out Exchange). scratch_behind p scratch) (sym e))
+      (j.trace_left ∙ ap (λ (p : Out Exchange). trace_after (rounds_answer p code).1 trace) (sym e))
 
-  refuses : (number : ℕ) → number ≤ benchRefusal → repeatable text code (length scratch) (length trace) ≡ refusal number 0
-      → RoundsChecked text code scratch scratch trace trace (roundsFor (Refused number 0)) (numbersFor (Refused number 0))
-  unfolding scratchBehind roundsAnswer traceAfter
+  refuses : (number : ℕ) → number ≤ bench_refusal → repeatable text code (length scratch) (length trace) ≡ refusal number 0
+      → RoundsChecked text code scratch scratch trace trace (rounds_for (Refused number 0)) (numbers_for (Refused number 0))
+  unfolding scratch_behind rounds_answer trace_after
   refuses number l e =
-      checked-from scratch trace (Refused number 0) (refusal number 0) e (record { answer = refl; howOften = refl; traceLeft = refl })
-      (sym (rw (le-leb number benchRefusal l)))
+      checked_from scratch trace (Refused number 0) (refusal number 0) e (record { answer = refl; how_often = refl; trace_left = refl })
+      (sym (rw (le-leb number bench_refusal l)))
 
-  pub refuses-channel : channels ≤ code
-      → RoundsChecked text code scratch scratch trace trace (roundsFor (Refused channelRefusal 0)) (numbersFor (Refused channelRefusal 0))
+  pub refuses_channel : channels ≤ code
+      → RoundsChecked text code scratch scratch trace trace (rounds_for (Refused channel_refusal 0)) (numbers_for (Refused channel_refusal 0))
   unfolding repeatable
-  refuses-channel h = refuses channelRefusal (omega arith) (rw (le-ltb code channels h))
+  refuses_channel h = refuses channel_refusal (omega arith) (rw (le-ltb code channels h))
 
-  pub refuses-scratch : code < channels → length scratch < scratchLeast
-      → RoundsChecked text code scratch scratch trace trace (roundsFor (Refused benchRefusal 0)) (numbersFor (Refused benchRefusal 0))
+  pub refuses_scratch : code < channels → length scratch < scratch_least
+      → RoundsChecked text code scratch scratch trace trace (rounds_for (Refused bench_refusal 0)) (numbers_for (Refused bench_refusal 0))
   unfolding repeatable
-  refuses-scratch h l = refuses benchRefusal (omega arith) (rw (lt-ltb code channels h, lt-ltb (length scratch) scratchLeast l))
+  refuses_scratch h l = refuses bench_refusal (omega arith) (rw (lt-ltb code channels h, lt-ltb (length scratch) scratch_least l))
 
-  pub refuses-trace : code < channels → length trace < traceLeast
-      → RoundsChecked text code scratch scratch trace trace (roundsFor (Refused benchRefusal 0)) (numbersFor (Refused benchRefusal 0))
+  pub refuses_trace : code < channels → length trace < trace_least
+      → RoundsChecked text code scratch scratch trace trace (rounds_for (Refused bench_refusal 0)) (numbers_for (Refused bench_refusal 0))
   unfolding repeatable
-  refuses-trace h l =
-      refuses benchRefusal (omega arith)
-      (rw (lt-ltb code channels h, lt-ltb (length trace) traceLeast l, or-true (ltb (length scratch) scratchLeast)))
+  refuses_trace h l =
+      refuses bench_refusal (omega arith)
+      (rw (lt-ltb code channels h, lt-ltb (length trace) trace_least l, or-true (ltb (length scratch) scratch_least)))
 
-  -- the first words of the scratch were used and the rest not, and then the first `scratchLeast` cleared
-  scratch-after : (used : List ℕ) (n : ℕ) → length used ≡ n → n ≤ scratchLeast
-      → cleared scratchLeast (used ++ drop n scratch) ≡ scratchBehind (textRepeatable text) scratch
-  unfolding scratchBehind cleared
-  scratch-after used n e l = cleared-behind scratchLeast used scratch n e l ∙ go (textRepeatable text) (repeatable-well text)
+  -- the first words of the scratch were used and the rest not, and then the first `scratch_least` cleared
+  scratch_after : (used : List ℕ) (n : ℕ) → length used ≡ n → n ≤ scratch_least
+      → cleared scratch_least (used ++ drop n scratch) ≡ scratch_behind (text_repeatable text) scratch
+  unfolding scratch_behind cleared
+  scratch_after used n e l = cleared_behind scratch_least used scratch n e l ∙ go (text_repeatable text) (repeatable_well text)
     where
-      go : (o : Out Exchange) → Well (lineOf rowsMost) o → cleared scratchLeast scratch ≡ scratchBehind o scratch
-      go (refusal number line) w = rw (lt-leb number benchRefusal (w .behind))
+      go : (o : Out Exchange) → Well (line_of rows_most) o → cleared scratch_least scratch ≡ scratch_behind o scratch
+      go (refusal number line) w = rw (lt-leb number bench_refusal w.behind)
       go (ok E) w = refl
 
-  pub answers : (scratchExit traceExit used : List ℕ) (n : ℕ) (r : Rounds) (w : ℕ) → code < channels → scratchLeast ≤ length scratch → traceLeast ≤ length trace
-      → length used ≡ n → n ≤ scratchLeast → scratchExit ≡ cleared w (used ++ drop n scratch) → w ≡ scratchLeast
-      → Judges (roundsAnswer (textRepeatable text) code) trace traceExit r
-      → RoundsChecked text code scratch scratchExit trace traceExit (roundsFor r) (numbersFor r)
+  pub answers : (scratch_exit trace_exit used : List ℕ) (n : ℕ) (r : Rounds) (w : ℕ) → code < channels → scratch_least ≤ length scratch → trace_least ≤ length trace
+      → length used ≡ n → n ≤ scratch_least → scratch_exit ≡ cleared w (used ++ drop n scratch) → w ≡ scratch_least
+      → Judges (rounds_answer (text_repeatable text) code) trace trace_exit r
+      → RoundsChecked text code scratch scratch_exit trace trace_exit (rounds_for r) (numbers_for r)
   unfolding repeatable
-  answers scratchExit traceExit used n r w h l k e m s all j =
-      checked-from scratchExit traceExit r (textRepeatable text)
-      (rw (lt-ltb code channels h, le-ltb (length scratch) scratchLeast l, le-ltb (length trace) traceLeast k) (first-met text))
-      j (cleared-all scratchLeast w (used ++ drop n scratch) scratchExit s all ∙ scratch-after used n e m)
+  answers scratch_exit trace_exit used n r w h l k e m s all j =
+      checked_from scratch_exit trace_exit r (text_repeatable text)
+      (rw (lt-ltb code channels h, le-ltb (length scratch) scratch_least l, le-ltb (length trace) trace_least k) (first_met text))
+      j (cleared_all scratch_least w (used ++ drop n scratch) scratch_exit s all ∙ scratch_after used n e m)
 
 -- handing the numbers on keeps the promise
-pub told-checked : (text : List ℕ) (code : ℕ) (scratch scratchExit trace traceExit : List ℕ) (a : Rounds) (r : RoundsCheckAnswer)
-    → RoundsChecked text code scratch scratchExit trace traceExit (roundsFor a) (numbersFor a) → Told a r
-    → RoundsChecked text code scratch scratchExit trace traceExit (r .rounds) (numbersIn r)
-told-checked text code scratch scratchExit trace traceExit a r h t =
-    subst⁻¹ (λ (n : Numbers). RoundsChecked text code scratch scratchExit trace traceExit (r .rounds) n) (t .numbers)
-    (subst⁻¹ (λ (k : ℕ). RoundsChecked text code scratch scratchExit trace traceExit k (numbersFor a)) (t .rounds) h)
+pub told_checked : (text : List ℕ) (code : ℕ) (scratch scratch_exit trace trace_exit : List ℕ) (a : Rounds) (r : RoundsCheckAnswer)
+    → RoundsChecked text code scratch scratch_exit trace trace_exit (rounds_for a) (numbers_for a) → Told a r
+    → RoundsChecked text code scratch scratch_exit trace trace_exit r.rounds (numbers_in r)
+told_checked text code scratch scratch_exit trace trace_exit a r h t =
+    subst⁻¹ (λ (n : Numbers). RoundsChecked text code scratch scratch_exit trace trace_exit r.rounds n) t.numbers
+    (subst⁻¹ (λ (k : ℕ). RoundsChecked text code scratch scratch_exit trace trace_exit k (numbers_for a)) t.rounds h)

@@ -1,22 +1,22 @@
 // The check of a sheet that is repeated: a text, a channel code, scratch words and trace bytes in; free on every number of rounds, locked on
 // the first or the second, or refused, out.
-ghost use mathlib.Core.Path.{_≡_};
-ghost use Prim.Native.Nat.{_*_, _<_, _≤_};
-ghost use lib.ListN.{length};
-ghost use Rattle·model.specs.Limits.{channels, messagesMost, traceLeast};
-ghost use Rattle·model.specs.Rounds.{roundsAnswer, RoundsChecked};
-ghost use Rattle·relation.specs.Width.{width};
-ghost use Rattle·second_walk.specs.Judged.{numbersFor, roundsFor, Judges};
-ghost use Rattle·rounds·specs.specs.Numbers.{numbersIn, Small, Told, textRepeatable};
-use answer_words::checked::FREE;
-use answer_words::checked::LOCKED;
-use answer_words::checked::REFUSED;
+#![tactic(auto)]
+
+ghost use Rattle.std.specs.Prelude.{◌≡◌, ◌*◌, ◌<◌, ◌≤◌, length};
+ghost use Rattle.model.specs.Limits.{channels, messages_most, trace_least};
+ghost use Rattle.model.specs.Rounds.{rounds_answer, RoundsChecked};
+ghost use Rattle.relation.specs.Width.{width};
+ghost use Rattle.second_walk.specs.Judged.{numbers_for, rounds_for, Judges};
+ghost use Rattle.rounds.specs.Numbers.{numbers_in, Small, Told, text_repeatable};
+
+use answer_words::checked::{FREE, LOCKED, REFUSED};
 use second_walk::Rounds;
 use sheet::Verdict;
 
 // word 0 free, 1 locked (one is the message, two the event, three the number of steps, rounds the fewest that lock), 2 refused (one is the
 // number, two the line).
 #[repr(C)]
+#[derive(Clone, Copy)]
 pub struct RoundsCheckAnswer {
     pub word: u32,
     pub one: u32,
@@ -27,8 +27,8 @@ pub struct RoundsCheckAnswer {
 
 // The answer's numbers. Each fits 32 bits.
 fn told(answer: Rounds) -> RoundsCheckAnswer
-    requires { ⌜ Small (numbersFor answer) (roundsFor answer) ⌝ }
-    ensures { λ r. ⌜ Told answer r ⌝ }
+    requires { Small (numbers_for answer) (rounds_for answer) }
+    ensures { Told answer result }
 {
     match answer {
         Rounds::Free => RoundsCheckAnswer {
@@ -61,9 +61,9 @@ fn told(answer: Rounds) -> RoundsCheckAnswer
 
 // A text: it is read once, and its rows are walked twice.
 fn judge(text: &[u8], code: usize, words: &mut [u64], trace: &mut [u8]) -> Rounds
-    requires { ⌜ length (now words) ≡ 2 * messagesMost * width ⌝ }
-    requires { ⌜ (code < channels) × (traceLeast ≤ length (now trace)) ⌝ }
-    ensures { λ r. ⌜ Judges (roundsAnswer (textRepeatable (now (text .entry))) code) (now (trace .entry)) (now (trace .exit)) r ⌝ }
+    requires words_len { length words.old ≡ 2 * messages_most * width }
+    requires code_lt_channels { (code < channels) × (trace_least ≤ length trace.old) }
+    ensures { Judges (rounds_answer (text_repeatable text.now) code) trace.old trace.new result }
 {
     let mut kind = [0u8; model::ROWS_MOST];
     let mut one = [0u16; model::ROWS_MOST];
@@ -71,13 +71,7 @@ fn judge(text: &[u8], code: usize, words: &mut [u64], trace: &mut [u8]) -> Round
     let mut start = [0u16; model::SHEETS];
     let mut boards = [0u8; model::EVENTS_MOST];
     let verdict = sheet::read(
-        text,
-        false,
-        &mut kind,
-        &mut one,
-        &mut two,
-        &mut start,
-        words,
+        text, false, &mut kind, &mut one, &mut two, &mut start, words,
     );
     match verdict {
         Verdict::Refused(number, line) => Rounds::Refused(number, line),
@@ -99,7 +93,7 @@ fn judge(text: &[u8], code: usize, words: &mut [u64], trace: &mut [u8]) -> Round
 
 // The call: refusals 1 and 2 touch nothing; after every other answer the scratch is cleared.
 fn check(text: &[u8], code: u32, scratch: &mut [u64], trace: &mut [u8]) -> Rounds
-    ensures { λ r. ⌜ RoundsChecked (now (text .entry)) code (now (scratch .entry)) (now (scratch .exit)) (now (trace .entry)) (now (trace .exit)) (roundsFor r) (numbersFor r) ⌝ }
+    ensures { RoundsChecked text.now code scratch.old scratch.new trace.old trace.new (rounds_for result) (numbers_for result) }
 {
     let channel = code as usize;
     if model::CHANNELS <= channel {
@@ -124,7 +118,7 @@ pub fn rounds_check(
     scratch: &mut [u64],
     trace: &mut [u8],
 ) -> RoundsCheckAnswer
-    ensures { λ r. ⌜ RoundsChecked (now (text .entry)) code (now (scratch .entry)) (now (scratch .exit)) (now (trace .entry)) (now (trace .exit)) (r .rounds) (numbersIn r) ⌝ }
+    ensures { RoundsChecked text.now code scratch.old scratch.new trace.old trace.new result.rounds (numbers_in result) }
 {
     told(check(text, code, scratch, trace))
 }

@@ -1,7 +1,7 @@
 -- Each way through the judgement of a row is that of specs/Judged. Assumes nothing.
-use Prim.Native.Nat.{ℕ, _*_, _/_, _≤_, _<_}
+use Prim.Native.Nat.{ℕ, ◌*◌, ◌/◌, ◌≤◌, ◌<◌}
 use native.Mathlib.Omega.{arith}
-use mathlib.Core.Path.{_≡_, refl, sym, _∙_, ap, subst}
+use mathlib.Core.Path.{◌≡◌, refl, sym, ◌∙◌, ap, subst}
 use mathlib.Core.Bool.{Bool, true, false}
 use mathlib.Core.List.{List}
 use mathlib.Core.Option.{none, some}
@@ -9,122 +9,122 @@ use borrow.Author.Tests.{lt-ltb, le-ltb}
 use lib.Dec.{ltb}
 use lib.ListN.{length, take, drop}
 use lib.Seq.{length-take-le}
-use Rattle·model.specs.Limits.{rowsMost, messagesMost}
-use Rattle·model.specs.Refusal.{ok, refusal, rowRefusal, placeRefusal, circleRefusal}
-use Rattle·model.specs.Text.{Line, Columns}
-use Rattle·model.specs.Rows.{Row, sheet, message, order, block, call, choice, rowOf}
-use Rattle·model.specs.Place.{lineOf}
-use Rattle·line.specs.Scan.{firstLine}
-use Rattle·place.specs.Letters.{rowFrom}
-use Rattle·place.specs.Stand.{Stand, standOf, stoodAt, placedAs, PlaceAs}
-use Rattle·place.specs.declared.Placed.{Placed}
-use Rattle·place.specs.declared.Placed.the-variants.{Messages, Nowhere}
-use Rattle·place.proofs.Standing.{message-room, order-there}
-use Rattle·relation.specs.Width.{width}
-use Rattle·block_order.specs.Noted.{noted, circles, Within, NotedAs}
-use Rattle·row·specs.specs.Form.{readingFrom, RowAs}
-use Rattle·row·specs.specs.Judged.{Reader, readerOf, readerBehind, judgedBy, StepAs}
-use Rattle·row·specs.specs.declared.Reading.{Reading}
-use Rattle·row·specs.specs.declared.Reading.the-variants as reading
-use Rattle·row·specs.specs.declared.Step.the-variants as step
+use Rattle.model.specs.Limits.{rows_most, messages_most}
+use Rattle.model.specs.Refusal.{ok, refusal, row_refusal, place_refusal, circle_refusal}
+use Rattle.model.specs.Text.{Line, Columns}
+use Rattle.model.specs.Rows.{Row, sheet, message, order, block, call, choice, row_of}
+use Rattle.model.specs.Place.{line_of}
+use Rattle.line.specs.Scan.{first_line}
+use Rattle.place.specs.Letters.{row_from}
+use Rattle.place.specs.Stand.{Stand, stand_of, stood_at, placed_as, PlaceAs}
+use Rattle.place.specs.declared.Placed.{Placed}
+use Rattle.place.specs.declared.Placed.TheVariants.{Messages, Nowhere}
+use Rattle.place.proofs.Standing.{message_room, order_there}
+use Rattle.relation.specs.Width.{width}
+use Rattle.block_order.specs.Noted.{noted, circles, Within, NotedAs}
+use Rattle.row.specs.Form.{reading_from, RowAs}
+use Rattle.row.specs.Judged.{Reader, reader_of, reader_behind, judged_by, StepAs}
+use Rattle.row.specs.declared.Reading.{Reading}
+use Rattle.row.specs.declared.Reading.TheVariants as reading
+use Rattle.row.specs.declared.Step.TheVariants as step
 
 -- a row judged: too many, malformed, with no place, with a circle, and with none
 module _ (choices : Bool) (c : Columns) (i : ℕ) (s : Reader) (l : Line) where
-  judged-full : rowsMost ≤ i → judgedBy choices c i s l ≡ refusal rowRefusal (lineOf i)
-  unfolding judgedBy
-  judged-full h = rw (le-ltb i rowsMost h, judgedBy)
+  judged_full : rows_most ≤ i → judged_by choices c i s l ≡ refusal row_refusal (line_of i)
+  unfolding judged_by
+  judged_full h = rw (le-ltb i rows_most h, judged_by)
 
-  judged-malformed : rowOf choices c l ≡ none → judgedBy choices c i s l ≡ refusal rowRefusal (lineOf i)
-  unfolding judgedBy
-  judged-malformed e = go (ltb i rowsMost) refl
+  judged_malformed : row_of choices c l ≡ none → judged_by choices c i s l ≡ refusal row_refusal (line_of i)
+  unfolding judged_by
+  judged_malformed e = go (ltb i rows_most) refl
     where
-      go : (t : Bool) → ltb i rowsMost ≡ t → judgedBy choices c i s l ≡ refusal rowRefusal (lineOf i)
-      go true h = rw (h, e, judgedBy)
-      go false h = rw (h, judgedBy)
+      go : (t : Bool) → ltb i rows_most ≡ t → judged_by choices c i s l ≡ refusal row_refusal (line_of i)
+      go true h = rw (h, e, judged_by)
+      go false h = rw (h, judged_by)
 
-  module _ (r : Row) (h : i < rowsMost) (e : rowOf choices c l ≡ some r) where
-    judged-nowhere : stoodAt i (s .stand) r ≡ none → judgedBy choices c i s l ≡ refusal placeRefusal (lineOf i)
-    unfolding judgedBy
-    judged-nowhere f = rw (lt-ltb i rowsMost h, e, f, judgedBy)
+  module _ (r : Row) (h : i < rows_most) (e : row_of choices c l ≡ some r) where
+    judged_nowhere : stood_at i s.stand r ≡ none → judged_by choices c i s l ≡ refusal place_refusal (line_of i)
+    unfolding judged_by
+    judged_nowhere f = rw (lt-ltb i rows_most h, e, f, judged_by)
 
-    judged-circle : (q : Stand) → stoodAt i (s .stand) r ≡ some q → circles (s .words) r ≡ true → judgedBy choices c i s l ≡ refusal circleRefusal (lineOf i)
-    unfolding judgedBy
-    judged-circle q f g = rw (lt-ltb i rowsMost h, e, f, judgedBy, g)
+    judged_circle : (q : Stand) → stood_at i s.stand r ≡ some q → circles s.words r ≡ true → judged_by choices c i s l ≡ refusal circle_refusal (line_of i)
+    unfolding judged_by
+    judged_circle q f g = rw (lt-ltb i rows_most h, e, f, judged_by, g)
 
-    judged-placed : (q : Stand) → stoodAt i (s .stand) r ≡ some q → circles (s .words) r ≡ false → judgedBy choices c i s l ≡ ok (r, readerBehind s r q)
-    unfolding judgedBy
-    judged-placed q f g = rw (lt-ltb i rowsMost h, e, f, judgedBy, g)
+    judged_placed : (q : Stand) → stood_at i s.stand r ≡ some q → circles s.words r ≡ false → judged_by choices c i s l ≡ ok (r, reader_behind s r q)
+    unfolding judged_by
+    judged_placed q f g = rw (lt-ltb i rows_most h, e, f, judged_by, g)
 
-pub step-full : (choices : Bool) (c : Columns) (text : List ℕ) (at row : ℕ) (s : Reader) (start boards words : List ℕ) → rowsMost ≤ row
-    → StepAs choices c text at row s start boards words (step.Refused rowRefusal)
-step-full choices c text at row s start boards words h = record { step = sym (judged-full choices c row s (firstLine (drop at text)) h); on = tt }
+pub step_full : (choices : Bool) (c : Columns) (text : List ℕ) (at row : ℕ) (s : Reader) (start boards words : List ℕ) → rows_most ≤ row
+    → StepAs choices c text at row s start boards words (step.Refused row_refusal)
+step_full choices c text at row s start boards words h = record { step = sym (judged_full choices c row s (first_line (drop at text)) h); on = tt }
 
 module _ (choices : Bool) (c : Columns) (text : List ℕ) (at row : ℕ) (start boards : List ℕ) (messages : ℕ) (words : List ℕ) where
   abbrev reader : Reader
-  reader = readerOf start boards messages words
+  reader = reader_of start boards messages words
 
   abbrev line : Line
-  line = firstLine (drop at text)
+  line = first_line (drop at text)
 
-  pub step-malformed : (r : Reading) → RowAs choices c text at r → r ≡ reading.Malformed → StepAs choices c text at row reader start boards words (step.Refused rowRefusal)
-  step-malformed r p e = record { step = sym (judged-malformed choices c row reader line (sym (p .row) ∙ ap readingFrom e)); on = tt }
+  pub step_malformed : (r : Reading) → RowAs choices c text at r → r ≡ reading.Malformed → StepAs choices c text at row reader start boards words (step.Refused row_refusal)
+  step_malformed r p e = record { step = sym (judged_malformed choices c row reader line (sym p.row ∙ ap reading_from e)); on = tt }
 
-  module _ (r : Reading) (k a b next : ℕ) (p : RowAs choices c text at r) (e : r ≡ reading.Row k a b next) (h : row < rowsMost)
-      (q : Placed) (start′ boards′ : List ℕ) (f : PlaceAs row (reader .stand) (rowFrom k a b) start′ boards′ q) where
-    row-is : rowOf choices c line ≡ some (rowFrom k a b)
-    row-is = sym (p .row) ∙ ap readingFrom e
+  module _ (r : Reading) (k a b next : ℕ) (p : RowAs choices c text at r) (e : r ≡ reading.Row k a b next) (h : row < rows_most)
+      (q : Placed) (start' boards' : List ℕ) (f : PlaceAs row reader.stand (row_from k a b) start' boards' q) where
+    row_is : row_of choices c line ≡ some (row_from k a b)
+    row_is = sym p.row ∙ ap reading_from e
 
-    pub step-nowhere : q ≡ Nowhere → StepAs choices c text at row reader start′ boards′ words (step.Refused placeRefusal)
-    step-nowhere g =
+    pub step_nowhere : q ≡ Nowhere → StepAs choices c text at row reader start' boards' words (step.Refused place_refusal)
+    step_nowhere g =
         record {
-          step = sym (judged-nowhere choices c row reader line (rowFrom k a b) h row-is (sym (f .stand) ∙ ap (λ (x : Placed). placedAs x start′ boards′) g));
+          step = sym (judged_nowhere choices c row reader line (row_from k a b) h row_is (sym f.stand ∙ ap (λ (x : Placed). placed_as x start' boards') g));
           on = tt;
         }
 
-    module _ (after : ℕ) (g : q ≡ Messages after) (few : messages ≤ messagesMost) (long : length boards ≡ 2 * messagesMost) where
-      placed : PlaceAs row (reader .stand) (rowFrom k a b) start′ boards′ (Messages after)
-      placed = subst (λ (x : Placed). PlaceAs row (reader .stand) (rowFrom k a b) start′ boards′ x) g f
+    module _ (after : ℕ) (g : q ≡ Messages after) (few : messages ≤ messages_most) (long : length boards ≡ 2 * messages_most) where
+      placed : PlaceAs row reader.stand (row_from k a b) start' boards' (Messages after)
+      placed = subst (λ (x : Placed). PlaceAs row reader.stand (row_from k a b) start' boards' x) g f
 
       -- what the row brings is within the block
-      pub row-within : Within messages (rowFrom k a b)
-      row-within = go (rowFrom k a b) (sym (placed .stand))
+      pub row_within : Within messages (row_from k a b)
+      row_within = go (row_from k a b) (sym placed.stand)
         where
-          go : (x : Row) → stoodAt row (standOf start boards messages) x ≡ some (standOf start′ boards′ after) → Within messages x
+          go : (x : Row) → stood_at row (stand_of start boards messages) x ≡ some (stand_of start' boards' after) → Within messages x
           go (sheet n) i = tt
-          go (message x y) i = message-room start boards messages row _ few long x y i
-          go (order x y) i = order-there start boards messages row _ few long x y i
+          go (message x y) i = message_room start boards messages row _ few long x y i
+          go (order x y) i = order_there start boards messages row _ few long x y i
           go block i = tt
           go (call n) i = tt
           go (choice m n) i = tt
 
-      module _ (words′ : List ℕ) (t : Bool) (n : NotedAs words messages (rowFrom k a b) words′ t) where
-        pub step-circle : t ≡ true → StepAs choices c text at row reader start′ boards′ words′ (step.Refused circleRefusal)
-        step-circle o =
+      module _ (words' : List ℕ) (t : Bool) (n : NotedAs words messages (row_from k a b) words' t) where
+        pub step_circle : t ≡ true → StepAs choices c text at row reader start' boards' words' (step.Refused circle_refusal)
+        step_circle o =
             record {
-              step = sym (judged-circle choices c row reader line (rowFrom k a b) h row-is (standOf start′ boards′ after) (sym (placed .stand)) (sym (n .found) ∙ o));
+              step = sym (judged_circle choices c row reader line (row_from k a b) h row_is (stand_of start' boards' after) (sym placed.stand) (sym n.found ∙ o));
               on = tt;
             }
 
         -- the words behind the row, by the number of the block's events
-        words-behind : t ≡ false → words′ ≡ noted words (length (take (2 * messages) boards) / 2) (rowFrom k a b)
-        words-behind o =
+        words_behind : t ≡ false → words' ≡ noted words (length (take (2 * messages) boards) / 2) (row_from k a b)
+        words_behind o =
             let events : length (take (2 * messages) boards) ≡ 2 * messages = length-take-le (2 * messages) boards (omega arith) in
             let half : length (take (2 * messages) boards) / 2 ≡ messages = omega arith in
-            n .left ∙ rw (o, half)
+            n.left ∙ rw (o, half)
 
-        pub step-row : length words ≡ 2 * messagesMost * width → t ≡ false
-            → StepAs choices c text at row reader start′ boards′ words′ (step.Row k a b next after)
-        step-row l o =
-            let p′ : RowAs choices c text at (reading.Row k a b next) = subst (λ (x : Reading). RowAs choices c text at x) e p in
+        pub step_row : length words ≡ 2 * messages_most * width → t ≡ false
+            → StepAs choices c text at row reader start' boards' words' (step.Row k a b next after)
+        step_row l o =
+            let p' : RowAs choices c text at (reading.Row k a b next) = subst (λ (x : Reading). RowAs choices c text at x) e p in
             record {
-              step = rw (words-behind o)
-                  (sym (judged-placed choices c row reader line (rowFrom k a b) h row-is (standOf start′ boards′ after) (sym (placed .stand)) (sym (n .found) ∙ o)));
+              step = rw (words_behind o)
+                  (sym (judged_placed choices c row reader line (row_from k a b) h row_is (stand_of start' boards' after) (sym placed.stand) (sym n.found ∙ o)));
               on = record {
-                onward = p′ .next;
+                onward = p'.next;
                 room = h;
-                few = placed .few;
-                allStarts = placed .allStarts;
-                allBoards = placed .allBoards;
-                allWords = n .long ∙ l;
+                few = placed.few;
+                all_starts = placed.all_starts;
+                all_boards = placed.all_boards;
+                all_words = n.long ∙ l;
               };
             }

@@ -1,21 +1,17 @@
 -- The row at a position of the text, as the model's. Assumes nothing.
-use Prim.Native.Nat.{ℕ}
-use mathlib.Core.Path.{_≡_}
-use mathlib.Core.Bool.{Bool}
-use mathlib.Core.List.{List}
-use mathlib.Core.Option.{Option, none, some}
-use lib.ListN.{drop}
-use Rattle·model.specs.Text.{Columns}
-use Rattle·model.specs.Rows.{Row, rowOf}
-use Rattle·line.specs.Scan.{firstLine}
-use Rattle·line.specs.Parts.{Onward}
-use Rattle·place.specs.Letters.{rowFrom}
-use Rattle·row·specs.specs.declared.Reading.{Reading}
-use Rattle·row·specs.specs.declared.Reading.the-variants as reading
+use Rattle.std.specs.Prelude.{ℕ, ◌≡◌, Bool, List, drop}
+use Rattle.std.proofs.Math.Option.{Option, none, some}
+use Rattle.model.specs.Text.{Columns}
+use Rattle.model.specs.Rows.{Row, row_of}
+use Rattle.line.specs.Scan.{first_line}
+use Rattle.line.specs.Parts.{Onward}
+use Rattle.place.specs.Letters.{row_from}
+use Rattle.row.specs.declared.Reading.{Reading}
+use Rattle.row.specs.declared.Reading.TheVariants as reading
 
-abbrev pub readingFrom : Reading → Option Row
-readingFrom (reading.Row kind one two next) = some (rowFrom kind one two)
-readingFrom reading.Malformed = none
+abbrev pub reading_from : Reading → Option Row
+reading_from (reading.Row kind one two next) = some (row_from kind one two)
+reading_from reading.Malformed = none
 
 -- where there is a row, the next one begins behind it
 abbrev pub ReadFrom : List ℕ → ℕ → Reading → Type 0
@@ -24,5 +20,5 @@ ReadFrom text at reading.Malformed = Unit {0}
 
 -- the row that begins at a position, with or without A rows let through
 pub record RowAs (choices : Bool) (c : Columns) (text : List ℕ) (at : ℕ) (r : Reading) : Type 0 where
-  pub row : readingFrom r ≡ rowOf choices c (firstLine (drop at text))
+  pub row : reading_from r ≡ row_of choices c (first_line (drop at text))
   pub next : ReadFrom text at r

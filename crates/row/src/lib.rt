@@ -1,30 +1,31 @@
 // A row: its form (refusal 5), a letter and two numbers in the heading's order, ahead of its place (6), and that ahead of a circle (11).
+#![tactic(auto)]
+
+ghost use Rattle.std.specs.Prelude.{◌≡◌, cond, ◌*◌, ◌≤◌, length};
+ghost use Rattle.std.proofs.Math.Option.{none, some};
+ghost use Rattle.model.specs.Limits.{sheets, messages_most};
+ghost use Rattle.model.specs.Rows.{formed};
+ghost use Rattle.relation.specs.Width.{width};
+ghost use Rattle.heading.specs.Names.{Below, columns_from};
+ghost use Rattle.place.specs.Letters.{row_from};
+ghost use Rattle.row.specs.Form.{RowAs};
+ghost use Rattle.row.specs.Judged.{reader_of, StepAs};
+
 use fields::Numeral;
 use heading::Columns;
 use line::Split;
-use model::EVENTS_MOST;
-use model::SHEETS;
+use model::{EVENTS_MOST, SHEETS};
 use place::Placed;
-ghost use mathlib.Core.Path.{_≡_};
-ghost use mathlib.Core.Bool.{cond};
-ghost use mathlib.Core.Option.{none, some};
-ghost use Prim.Native.Nat.{_*_, _≤_};
-ghost use lib.ListN.{length};
-ghost use Rattle·model.specs.Limits.{sheets, messagesMost};
-ghost use Rattle·model.specs.Rows.{formed};
-ghost use Rattle·relation.specs.Width.{width};
-ghost use Rattle·heading.specs.Names.{Below, columnsFrom};
-ghost use Rattle·place.specs.Letters.{rowFrom};
-ghost use Rattle·row·specs.specs.Form.{RowAs};
-ghost use Rattle·row·specs.specs.Judged.{readerOf, StepAs};
 
 // A row's kind and numbers, and where the next one begins.
+#[derive(Clone, Copy)]
 enum Reading {
     Row(u8, u16, u16, usize),
     Malformed,
 }
 
 // A row's kind and numbers, where the next one begins, and the messages of the open block behind it; or the refusal's number.
+#[derive(Clone, Copy)]
 pub enum Step {
     Row(u8, u16, u16, usize, usize),
     Refused(u8),
@@ -43,8 +44,8 @@ pub fn take_row(
     boards: &mut [u8; EVENTS_MOST],
     words: &mut [u64],
 ) -> Step
-    requires { ⌜ (at ≤ length (now text)) × Below columns × (messages ≤ messagesMost) × (length (now start) ≡ sheets) × (length (now boards) ≡ 2 * messagesMost) × (length (now words) ≡ 2 * messagesMost * width) ⌝ }
-    ensures { λ r. ⌜ StepAs choices (columnsFrom columns) (now (text .entry)) at row (readerOf (now (start .entry)) (now (boards .entry)) messages (now (words .entry))) (now (start .exit)) (now (boards .exit)) (now (words .exit)) r ⌝ }
+    requires { (at ≤ length text.now) × Below columns × (messages ≤ messages_most) × (length start.old ≡ sheets) × (length boards.old ≡ 2 * messages_most) × (length words.old ≡ 2 * messages_most * width) }
+    ensures { StepAs choices (columns_from columns) text.now at row (reader_of start.old boards.old messages words.old) start.new boards.new words.new result }
 {
     if model::ROWS_MOST <= row {
         return Step::Refused(model::ROW);
@@ -63,8 +64,8 @@ pub fn take_row(
 
 // The row at `at`.
 fn row_at(text: &[u8], at: usize, choices: bool, columns: Columns) -> Reading
-    requires { ⌜ (at ≤ length (now text)) × Below columns ⌝ }
-    ensures { λ r. ⌜ RowAs choices (columnsFrom columns) (now (text .entry)) at r ⌝ }
+    requires { (at ≤ length text.now) × Below columns }
+    ensures { RowAs choices (columns_from columns) text.now at result }
 {
     let Split::Three(cuts) = line::cut(text, at) else {
         return Reading::Malformed;
@@ -84,7 +85,7 @@ fn row_at(text: &[u8], at: usize, choices: bool, columns: Columns) -> Reading
 
 // The letter is one of the five, or an A that is let through, and an unused field is 0.
 fn is_formed(choices: bool, kind: u8, one: u16, two: u16) -> bool
-    ensures { λ r. ⌜ cond r (some (rowFrom kind one two)) none ≡ formed choices kind one two ⌝ }
+    ensures { cond result (some (row_from kind one two)) none ≡ formed choices kind one two }
 {
     if kind == b'M' {
         return true;

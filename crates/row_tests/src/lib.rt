@@ -1,18 +1,19 @@
 // Tests of rows, word by word: whether an event of a row is in a mask and among those given.
-ghost use mathlib.Core.Path.{_≡_};
-ghost use Prim.Native.Nat.{_+_, _*_, _≤_};
-ghost use lib.ListN.{length};
-ghost use Rattle·relation.specs.Width.{width, wordBits};
-ghost use Rattle·run.specs.State.{inRow};
-ghost use Rattle·row_tests·specs.specs.Tests.{noneOfRow, noneIn};
+#![tactic(auto)]
+
+ghost use Rattle.std.specs.Prelude.{◌≡◌, ◌+◌, ◌*◌, ◌≤◌, length};
+ghost use Rattle.relation.specs.Width.{width, word_bits};
+ghost use Rattle.run.specs.State.{in_row};
+ghost use Rattle.row_tests.specs.Tests.{none_of_row, none_in};
+
 use relation::WIDTH;
 
 // No event of row y is both in the mask and among those given.
 pub fn apart(words: &[u64], y: usize, masks: &[u64], mask: usize, given: &[u64]) -> bool
-    requires { ⌜ y * width + width ≤ length (now words) ⌝ }
-    requires { ⌜ mask * width + width ≤ length (now masks) ⌝ }
-    requires { ⌜ width ≤ length (now given) ⌝ }
-    ensures { λ r. ⌜ r ≡ noneOfRow (wordBits * width) width (now (words .entry)) y (now (masks .entry)) mask (inRow (now (given .entry))) ⌝ }
+    requires width_in_bounds { y * width + width ≤ length words.now }
+    requires width_in_bounds_2 { mask * width + width ≤ length masks.now }
+    requires width_in_bounds_3 { width ≤ length given.now }
+    ensures { result ≡ none_of_row (word_bits * width) width words.now y masks.now mask (in_row given.now) }
 {
     let row = y * WIDTH;
     let board = mask * WIDTH;
@@ -28,9 +29,9 @@ pub fn apart(words: &[u64], y: usize, masks: &[u64], mask: usize, given: &[u64])
 
 // No event of the mask is in row y of those given.
 pub fn none_of(masks: &[u64], mask: usize, given: &[u64], y: usize) -> bool
-    requires { ⌜ mask * width + width ≤ length (now masks) ⌝ }
-    requires { ⌜ y * width + width ≤ length (now given) ⌝ }
-    ensures { λ r. ⌜ r ≡ noneIn (wordBits * width) width (now (masks .entry)) mask (now (given .entry)) y ⌝ }
+    requires width_in_bounds { mask * width + width ≤ length masks.now }
+    requires width_in_bounds_2 { y * width + width ≤ length given.now }
+    ensures { result ≡ none_in (word_bits * width) width masks.now mask given.now y }
 {
     let board = mask * WIDTH;
     let row = y * WIDTH;

@@ -1,17 +1,16 @@
 // The coverage search over the rules of a table, one rule behind the other.
-use coverage::Rule;
-use coverage::Search;
-use coverage::met;
+#![tactic(auto)]
+
+ghost use Rattle.std.specs.Prelude.{◌≡◌, ◌≤◌, take};
+ghost use Rattle.model.specs.Limits.{rules_most};
+ghost use Rattle.coverage.specs.Search.{searched};
+
+use coverage::{Rule, Search, met};
 use model::RULES_MOST;
-ghost use mathlib.Core.Path.{_≡_};
-ghost use Prim.Native.Nat.{_≤_};
-ghost use lib.ListN.{take};
-ghost use Rattle·model.specs.Limits.{rulesMost};
-ghost use Rattle·coverage.specs.Search.{searched};
 
 // The search over the rules lent.
 fn search_in(rules: &[Rule], mut s: Search) -> Search
-    ensures { λ r. ⌜ r ≡ searched 0 (now (rules .entry)) s ⌝ }
+    ensures { result ≡ searched 0 rules.now s }
 {
     let mut i = 0;
     while i < rules.len() {
@@ -23,8 +22,8 @@ fn search_in(rules: &[Rule], mut s: Search) -> Search
 
 // The search over the first `count` rules of a table, which are lent for it.
 pub fn search_among(rules: [Rule; RULES_MOST], count: usize, s: Search) -> Search
-    requires { ⌜ count ≤ rulesMost ⌝ }
-    ensures { λ r. ⌜ r ≡ searched 0 (take count rules) s ⌝ }
+    requires { count ≤ rules_most }
+    ensures { result ≡ searched 0 (take count rules) s }
 {
     search_in(&rules[..count], s)
 }

@@ -1,61 +1,61 @@
 -- The tests of whole words are the model's tests of events and messages. Assumes nothing.
-use mathlib.Core.Path.{_≡_, refl, sym, ap, _∙_}
-use mathlib.Core.Bool.{Bool, true, false, not, _&&_, _||_, and-false}
+use mathlib.Core.Path.{◌≡◌, refl, sym, ap, ◌∙◌}
+use mathlib.Core.Bool.{Bool, true, false, not, ◌&&◌, ◌||◌, and-false}
 use mathlib.Core.List.{List}
-use Prim.Native.Nat.{ℕ, _+_, _*_, _/_, _%_, _<_, _≤_}
+use Prim.Native.Nat.{ℕ, ◌+◌, ◌*◌, ◌/◌, ◌%◌, ◌<◌, ◌≤◌}
 use native.Mathlib.Omega.{arith}
-use mathlib.Core.Logic.{⊎-elim}
+use mathlib.Core.Logic.{⊎_elim}
 use lib.Dec.{eqb, ltb}
-use lib.ListN.{getD}
+use lib.ListN.{get_or}
 use borrow.Author.Tests.{eq-eqb, lt-ltb, eqb-true, ltb-true}
-use Rattle·model.specs.Limits.{boards}
-use Rattle·model.specs.Bounded.{every}
-use Rattle·model.specs.Channel as model
-use Rattle·model.specs.Order.{sendOf, receiveOf, number, messageOf, Scenario}
-use Rattle·model.specs.Run.{bufferEmpty, boardFree, maySend, mayDeliver}
-use Rattle·model.proofs.Bounded.{and-left, and-right, every-at, every-from, which, not-is-true}
-use Rattle·relation.specs.Width.{width, wordBits}
-use Rattle·relation.specs.Rows.{holds}
-use Rattle·relation.specs.Scenario.{scenarioIn}
-use Rattle·relation.proofs.Tests.{both-ways, eqb-same}
-use Rattle·channel_table.specs.declared.ToSend.{ToSend}
-use Rattle·channel_table.specs.declared.ToSend.the-variants as to-send
-use Rattle·channel_table.specs.declared.ToDeliver.{ToDeliver}
-use Rattle·channel_table.specs.declared.ToDeliver.the-variants as to-deliver
-use Rattle·channel_table.specs.Table.{toSendIn, toDeliverIn}
-use Rattle·board.specs.Masks.{isSend, Standing}
-use Rattle·run.specs.declared.Run.{Run}
-use Rattle·run.specs.State.{inRow, Without, stateOf}
-use Rattle·row_tests.specs.Tests.{noneOfRow, noneIn}
-use Rattle·row_tests.proofs.Words.{events-fit}
-use Rattle·rules·specs.specs.Rules.{freeIn, BufferRow, SaysSendRule, SaysDeliverRule}
+use Rattle.model.specs.Limits.{boards}
+use Rattle.model.specs.Bounded.{every}
+use Rattle.model.specs.Channel as model
+use Rattle.model.specs.Order.{send_of, receive_of, number, message_of, Scenario}
+use Rattle.model.specs.Run.{buffer_empty, board_free, may_send, may_deliver}
+use Rattle.model.proofs.Bounded.{and_left, and_right, every_at, every_from, which, not_is_true}
+use Rattle.relation.specs.Width.{width, word_bits}
+use Rattle.relation.specs.Rows.{holds}
+use Rattle.relation.specs.Scenario.{scenario_in}
+use Rattle.relation.proofs.Tests.{both_ways, eqb_same}
+use Rattle.channel_table.specs.declared.ToSend.{ToSend}
+use Rattle.channel_table.specs.declared.ToSend.TheVariants as to_send_holds
+use Rattle.channel_table.specs.declared.ToDeliver.{ToDeliver}
+use Rattle.channel_table.specs.declared.ToDeliver.TheVariants as to-deliver
+use Rattle.channel_table.specs.Table.{to_send_in, to_deliver_in}
+use Rattle.board.specs.Masks.{is_send, Standing}
+use Rattle.run.specs.declared.Run.{Run}
+use Rattle.run.specs.State.{in_row, Without, state_of}
+use Rattle.row_tests.specs.Tests.{none_of_row, none_in}
+use Rattle.row_tests.proofs.Words.{events_fit}
+use Rattle.rules.specs.Rules.{free_in, BufferRow, SaysSendRule, SaysDeliverRule}
 
 -- tests that agree below the bound
-every-ext : (n : ℕ) (p q : ℕ → Bool) → ((k : ℕ) → k < n → p k ≡ q k) → every n p ≡ every n q
-every-ext n p q h =
-    both-ways (every n p) (every n q)
-    (λ t. every-from n q (λ k l. sym (h k l) ∙ every-at n p t k l))
-    (λ t. every-from n p (λ k l. h k l ∙ every-at n q t k l))
+every_ext : (n : ℕ) (p q : ℕ → Bool) → ((k : ℕ) → k < n → p k ≡ q k) → every n p ≡ every n q
+every_ext n p q h =
+    both_ways (every n p) (every n q)
+    (λ t. every_from n q (λ k l. sym (h k l) ∙ every_at n p t k l))
+    (λ t. every_from n p (λ k l. h k l ∙ every_at n q t k l))
 
 -- a test over n numbers that only sends can fail, by messages
-sends-all : (n count : ℕ) (q p : ℕ → Bool) → 2 * count ≤ n → ((k : ℕ) → k < n → q k ≡ true → isSend count k ≡ true)
+sends_all : (n count : ℕ) (q p : ℕ → Bool) → 2 * count ≤ n → ((k : ℕ) → k < n → q k ≡ true → is_send count k ≡ true)
     → ((f : ℕ) → f < count → not (q (2 * f)) ≡ p f) → every n (λ k. not (q k)) ≡ every count p
-sends-all n count q p room only agree =
-    both-ways (every n (λ k. not (q k))) (every count p)
-    (λ t. every-from count p (λ f l. sym (agree f l) ∙ every-at n (λ k. not (q k)) t (2 * f) (omega arith)))
-    (λ t. every-from n (λ k. not (q k)) (λ k l. ⊎-elim (λ (s : q k ≡ true). found t k (only k l s)) (λ f. not-is-true (q k) f) (which (q k))))
+sends_all n count q p room only agree =
+    both_ways (every n (λ k. not (q k))) (every count p)
+    (λ t. every_from count p (λ f l. sym (agree f l) ∙ every_at n (λ k. not (q k)) t (2 * f) (omega arith)))
+    (λ t. every_from n (λ k. not (q k)) (λ k l. ⊎_elim (λ (s : q k ≡ true). found t k (only k l s)) (λ f. not_is_true (q k) f) (which (q k))))
   where
-    found : every count p ≡ true → (k : ℕ) → isSend count k ≡ true → not (q k) ≡ true
+    found : every count p ≡ true → (k : ℕ) → is_send count k ≡ true → not (q k) ≡ true
     found t k s =
-        let b : k < 2 * count = ltb-true k (2 * count) (and-left (ltb k (2 * count)) (eqb (k % 2) 0) s) in
-        let even : k % 2 ≡ 0 = eqb-true (k % 2) 0 (and-right (ltb k (2 * count)) (eqb (k % 2) 0) s) in
+        let b : k < 2 * count = ltb-true k (2 * count) (and_left (ltb k (2 * count)) (eqb (k % 2) 0) s) in
+        let even : k % 2 ≡ 0 = eqb-true (k % 2) 0 (and_right (ltb k (2 * count)) (eqb (k % 2) 0) s) in
         let half : 2 * (k / 2) ≡ k = omega arith in
         let f : k / 2 < count = omega arith in
-        rw half at (agree (k / 2) f ∙ every-at count p t (k / 2) f)
+        rw half at (agree (k / 2) f ∙ every_at count p t (k / 2) f)
 
 -- the send of a message is a send
-send-is : (count f : ℕ) → f < count → isSend count (2 * f) ≡ true
-send-is count f h = rw (lt-ltb (2 * f) (2 * count) (omega arith), eq-eqb (2 * f % 2) 0 (omega arith))
+send_is : (count f : ℕ) → f < count → is_send count (2 * f) ≡ true
+send_is count f h = rw (lt-ltb (2 * f) (2 * count) (omega arith), eq-eqb (2 * f % 2) 0 (omega arith))
 
 other : (a d : Bool) → not (a && not d) ≡ (d || not a)
 other false true = refl
@@ -81,126 +81,126 @@ swapped true true = refl
 
 module _ (count : ℕ) (on words masks : List ℕ) (standing : Standing count on words masks) where
   abbrev S : Scenario
-  S = scenarioIn count on words
+  S = scenario_in count on words
 
-  room : 2 * count ≤ wordBits * width
-  room = events-fit count (standing .few)
+  room : 2 * count ≤ word_bits * width
+  room = events_fit count standing.few
 
   -- no message of the mask of all sends is among those given
-  none-says : (given : List ℕ) (y : ℕ) → noneIn (wordBits * width) width masks (2 * boards) given y ≡ every count (λ f. not (holds width given y (2 * f)))
-  unfolding noneIn
-  none-says given y =
-      sends-all (wordBits * width) count _ _ room
-      (λ k h t. sym (standing .masksOf .sends k h) ∙ and-left (holds width masks (2 * boards) k) (holds width given y k) t)
-      (λ f h. rw (standing .masksOf .sends (2 * f) (omega (arith, room)) ∙ send-is count f h))
+  none_says : (given : List ℕ) (y : ℕ) → none_in (word_bits * width) width masks (2 * boards) given y ≡ every count (λ f. not (holds width given y (2 * f)))
+  unfolding none_in
+  none_says given y =
+      sends_all (word_bits * width) count _ _ room
+      (λ k h t. sym (standing.masks_of.sends k h) ∙ and_left (holds width masks (2 * boards) k) (holds width given y k) t)
+      (λ f h. rw (standing.masks_of.sends (2 * f) (omega (arith, room)) ∙ send_is count f h))
 
   -- none but m
-  others-say : (way others : List ℕ) (m : ℕ) → Without way (2 * m) others
-      → noneIn (wordBits * width) width masks (2 * boards) others 0 ≡ every count (λ f. eqb f m || not (inRow way (2 * f)))
-  others-say way others m w =
-      none-says others 0
-      ∙ every-ext count _ _ (λ f h.
-      ap not (w (2 * f) ∙ ap (λ (b : Bool). inRow way (2 * f) && not b) (eqb-same (2 * f) (2 * m) f m (λ e. omega arith) (λ e. omega arith)))
-      ∙ other (inRow way (2 * f)) (eqb f m))
+  others_say : (way others : List ℕ) (m : ℕ) → Without way (2 * m) others
+      → none_in (word_bits * width) width masks (2 * boards) others 0 ≡ every count (λ f. eqb f m || not (in_row way (2 * f)))
+  others_say way others m w =
+      none_says others 0
+      ∙ every_ext count _ _ (λ f h.
+      ap not (w (2 * f) ∙ ap (λ (b : Bool). in_row way (2 * f) && not b) (eqb_same (2 * f) (2 * m) f m (λ e. omega arith) (λ e. omega arith)))
+      ∙ other (in_row way (2 * f)) (eqb f m))
 
   -- no message under way has its send before m's receive
-  earlier-says : (way : List ℕ) (m : ℕ) → m < count
-      → noneOfRow (wordBits * width) width words (2 * m + 1) masks (2 * boards) (inRow way)
-      ≡ every count (λ f. not (inRow way (2 * f) && S .before (sendOf f) (receiveOf m)))
-  unfolding noneOfRow number messageOf
-  earlier-says way m hm =
-      sends-all (wordBits * width) count _ _ room
-      (λ k h t. sym (standing .masksOf .sends k h)
-      ∙ and-right (holds width words (2 * m + 1) k) (holds width masks (2 * boards) k) (and-left (holds width words (2 * m + 1) k && holds width masks (2 * boards) k) (inRow way k) t))
+  earlier_says : (way : List ℕ) (m : ℕ) → m < count
+      → none_of_row (word_bits * width) width words (2 * m + 1) masks (2 * boards) (in_row way)
+      ≡ every count (λ f. not (in_row way (2 * f) && S.before (send_of f) (receive_of m)))
+  unfolding none_of_row number message_of
+  earlier_says way m hm =
+      sends_all (word_bits * width) count _ _ room
+      (λ k h t. sym (standing.masks_of.sends k h)
+      ∙ and_right (holds width words (2 * m + 1) k) (holds width masks (2 * boards) k) (and_left (holds width words (2 * m + 1) k && holds width masks (2 * boards) k) (in_row way k) t))
       (λ f h.
-      rw (standing .masksOf .sends (2 * f) (omega (arith, room)) ∙ send-is count f h, lt-ltb f count h, lt-ltb m count hm)
-      (swapped (holds width words (2 * m + 1) (2 * f)) (inRow way (2 * f))))
+      rw (standing.masks_of.sends (2 * f) (omega (arith, room)) ∙ send_is count f h, lt-ltb f count h, lt-ltb m count hm)
+      (swapped (holds width words (2 * m + 1) (2 * f)) (in_row way (2 * f))))
 
   -- no other message under way to m's board has its send before m's
-  order-says : (way others : List ℕ) (m : ℕ) → m < count → Without way (2 * m) others
-      → noneOfRow (wordBits * width) width words (2 * m) masks (boards + S .target m) (inRow others)
-      ≡ every count (λ f. eqb f m || not (inRow way (2 * f) && eqb (S .target f) (S .target m) && S .before (sendOf f) (sendOf m)))
-  unfolding noneOfRow number messageOf
-  order-says way others m hm w =
-      sends-all (wordBits * width) count _ _ room
+  order_says : (way others : List ℕ) (m : ℕ) → m < count → Without way (2 * m) others
+      → none_of_row (word_bits * width) width words (2 * m) masks (boards + S.target m) (in_row others)
+      ≡ every count (λ f. eqb f m || not (in_row way (2 * f) && eqb (S.target f) (S.target m) && S.before (send_of f) (send_of m)))
+  unfolding none_of_row number message_of
+  order_says way others m hm w =
+      sends_all (word_bits * width) count _ _ room
       (λ k h t.
-      and-left (isSend count k) (eqb (getD on (k + 1) 0) (S .target m))
-      (sym (standing .masksOf .toBoard (S .target m) k there h)
-      ∙ and-right (holds width words (2 * m) k) (holds width masks (boards + S .target m) k) (and-left (holds width words (2 * m) k && holds width masks (boards + S .target m) k) (inRow others k) t)))
+      and_left (is_send count k) (eqb (get_or on (k + 1) 0) (S.target m))
+      (sym (standing.masks_of.to_board (S.target m) k there h)
+      ∙ and_right (holds width words (2 * m) k) (holds width masks (boards + S.target m) k) (and_left (holds width words (2 * m) k && holds width masks (boards + S.target m) k) (in_row others k) t)))
       (λ f h.
       rw (
-        standing .masksOf .toBoard (S .target m) (2 * f) there (omega (arith, room)),
-        send-is count f h,
+        standing.masks_of.to_board (S.target m) (2 * f) there (omega (arith, room)),
+        send_is count f h,
         w (2 * f),
-        eqb-same (2 * f) (2 * m) f m (λ e. omega arith) (λ e. omega arith),
+        eqb_same (2 * f) (2 * m) f m (λ e. omega arith) (λ e. omega arith),
         lt-ltb f count h,
         lt-ltb m count hm,
       )
-      (overtakes (holds width words (2 * m) (2 * f)) (eqb (S .target f) (S .target m)) (inRow way (2 * f)) (eqb f m)))
+      (overtakes (holds width words (2 * m) (2 * f)) (eqb (S.target f) (S.target m)) (in_row way (2 * f)) (eqb f m)))
     where
-      there : S .target m < boards
-      there = standing .boardsBelow (2 * m + 1) (omega arith)
+      there : S.target m < boards
+      there = standing.boards_below (2 * m + 1) (omega arith)
 
   module _ (c : model.Channel) (run : Run) where
     -- an eager board sends, or takes a delivery, only while its buffer is empty
-    pub free-says : (b : ℕ) (held : List ℕ) (y : ℕ) → BufferRow run b held y → freeIn (c .eager) masks held y ≡ boardFree S c (stateOf run) b
-    unfolding boardFree bufferEmpty
-    free-says b held y e =
-        ap (λ (t : Bool). not (c .eager) || t)
-        (none-says held y ∙ every-ext count _ _ (λ f h. ap not (sym (e (2 * f) (omega (arith, room))))))
+    pub free_says : (b : ℕ) (held : List ℕ) (y : ℕ) → BufferRow run b held y → free_in c.eager masks held y ≡ board_free S c (state_of run) b
+    unfolding board_free buffer_empty
+    free_says b held y e =
+        ap (λ (t : Bool). not c.eager || t)
+        (none_says held y ∙ every_ext count _ _ (λ f h. ap not (sym (e (2 * f) (omega (arith, room))))))
 
     -- the further conditions, one by one
-    pub send-earlier : (m : ℕ) → m < count → c .toSend ≡ model.noEarlierUnderWay
-        → noneOfRow (wordBits * width) width words (2 * m + 1) masks (2 * boards) (inRow (run .way)) ≡ maySend S c (c .toSend) (stateOf run) m
-    unfolding maySend
-    send-earlier m hm e = rw (e, maySend) (earlier-says (run .way) m hm)
+    pub send_earlier : (m : ℕ) → m < count → c.to_send ≡ model.no_earlier_under_way
+        → none_of_row (word_bits * width) width words (2 * m + 1) masks (2 * boards) (in_row run.way) ≡ may_send S c c.to_send (state_of run) m
+    unfolding may_send
+    send_earlier m hm e = rw (e, may_send) (earlier_says run.way m hm)
 
-    pub send-empty : (m : ℕ) → c .toSend ≡ model.channelEmpty
-        → noneIn (wordBits * width) width masks (2 * boards) (run .way) 0 ≡ maySend S c (c .toSend) (stateOf run) m
-    unfolding maySend
-    send-empty m e = rw (e, maySend) (none-says (run .way) 0)
+    pub send_empty : (m : ℕ) → c.to_send ≡ model.channel_empty
+        → none_in (word_bits * width) width masks (2 * boards) run.way 0 ≡ may_send S c c.to_send (state_of run) m
+    unfolding may_send
+    send_empty m e = rw (e, may_send) (none_says run.way 0)
 
-    pub send-always : (m : ℕ) → c .toSend ≡ model.ToSend.always → true ≡ maySend S c (c .toSend) (stateOf run) m
-    unfolding maySend
-    send-always m e = rw (e, maySend)
+    pub send_always : (m : ℕ) → c.to_send ≡ model.ToSend.always → true ≡ may_send S c c.to_send (state_of run) m
+    unfolding may_send
+    send_always m e = rw (e, may_send)
 
-    pub deliver-ordered : (m : ℕ) (others : List ℕ) → m < count → Without (run .way) (2 * m) others → c .toDeliver ≡ model.inOrder
-        → noneOfRow (wordBits * width) width words (2 * m) masks (boards + S .target m) (inRow others) ≡ mayDeliver S c (c .toDeliver) (stateOf run) m
-    unfolding mayDeliver
-    deliver-ordered m others hm w e = rw (e, mayDeliver) (order-says (run .way) others m hm w)
+    pub deliver_ordered : (m : ℕ) (others : List ℕ) → m < count → Without run.way (2 * m) others → c.to_deliver ≡ model.in_order
+        → none_of_row (word_bits * width) width words (2 * m) masks (boards + S.target m) (in_row others) ≡ may_deliver S c c.to_deliver (state_of run) m
+    unfolding may_deliver
+    deliver_ordered m others hm w e = rw (e, may_deliver) (order_says run.way others m hm w)
 
-    pub deliver-alone : (m : ℕ) (others : List ℕ) → Without (run .way) (2 * m) others → c .toDeliver ≡ model.alone
-        → noneIn (wordBits * width) width masks (2 * boards) others 0 ≡ mayDeliver S c (c .toDeliver) (stateOf run) m
-    unfolding mayDeliver
-    deliver-alone m others w e = rw (e, mayDeliver) (others-say (run .way) others m w)
+    pub deliver_alone : (m : ℕ) (others : List ℕ) → Without run.way (2 * m) others → c.to_deliver ≡ model.alone
+        → none_in (word_bits * width) width masks (2 * boards) others 0 ≡ may_deliver S c c.to_deliver (state_of run) m
+    unfolding may_deliver
+    deliver_alone m others w e = rw (e, may_deliver) (others_say run.way others m w)
 
-    pub deliver-always : (m : ℕ) → c .toDeliver ≡ model.ToDeliver.always → true ≡ mayDeliver S c (c .toDeliver) (stateOf run) m
-    unfolding mayDeliver
-    deliver-always m e = rw (e, mayDeliver)
+    pub deliver_always : (m : ℕ) → c.to_deliver ≡ model.ToDeliver.always → true ≡ may_deliver S c c.to_deliver (state_of run) m
+    unfolding may_deliver
+    deliver_always m e = rw (e, may_deliver)
 
 -- what the code's tests say of the rule at hand
 module _ (words masks : List ℕ) (rule : ToSend) (way : List ℕ) (m : ℕ) where
-  pub send-rule-always : rule ≡ to-send.Always → SaysSendRule words masks rule way m true
-  send-rule-always r count on standing h c run e d = send-always count on words masks standing c run m (e ∙ ap toSendIn r)
+  pub send_rule_always : rule ≡ to_send_holds.Always → SaysSendRule words masks rule way m true
+  send_rule_always r count on standing h c run e d = send_always count on words masks standing c run m (e ∙ ap to_send_in r)
 
-  pub send-rule-earlier : (t : Bool) → t ≡ noneOfRow (wordBits * width) width words (2 * m + 1) masks (2 * boards) (inRow way) → rule ≡ to-send.NoEarlierUnderWay
+  pub send_rule_earlier : (t : Bool) → t ≡ none_of_row (word_bits * width) width words (2 * m + 1) masks (2 * boards) (in_row way) → rule ≡ to_send_holds.NoEarlierUnderWay
       → SaysSendRule words masks rule way m t
-  send-rule-earlier t s r count on standing h c run e d = s ∙ rw (← d) (send-earlier count on words masks standing c run m h (e ∙ ap toSendIn r))
+  send_rule_earlier t s r count on standing h c run e d = s ∙ rw (← d) (send_earlier count on words masks standing c run m h (e ∙ ap to_send_in r))
 
-  pub send-rule-empty : (t : Bool) → t ≡ noneIn (wordBits * width) width masks (2 * boards) way 0 → rule ≡ to-send.ChannelEmpty
+  pub send_rule_empty : (t : Bool) → t ≡ none_in (word_bits * width) width masks (2 * boards) way 0 → rule ≡ to_send_holds.ChannelEmpty
       → SaysSendRule words masks rule way m t
-  send-rule-empty t s r count on standing h c run e d = s ∙ rw (← d) (send-empty count on words masks standing c run m (e ∙ ap toSendIn r))
+  send_rule_empty t s r count on standing h c run e d = s ∙ rw (← d) (send_empty count on words masks standing c run m (e ∙ ap to_send_in r))
 
 module _ (words masks : List ℕ) (rule : ToDeliver) (way : List ℕ) (target m : ℕ) where
-  pub deliver-rule-always : rule ≡ to-deliver.Always → SaysDeliverRule words masks rule way target m true
-  deliver-rule-always r count on standing h i c run e d = deliver-always count on words masks standing c run m (e ∙ ap toDeliverIn r)
+  pub deliver_rule_always : rule ≡ to-deliver.Always → SaysDeliverRule words masks rule way target m true
+  deliver_rule_always r count on standing h i c run e d = deliver_always count on words masks standing c run m (e ∙ ap to_deliver_in r)
 
-  pub deliver-rule-ordered : (t : Bool) (others : List ℕ) → t ≡ noneOfRow (wordBits * width) width words (2 * m) masks (boards + target) (inRow others)
+  pub deliver_rule_ordered : (t : Bool) (others : List ℕ) → t ≡ none_of_row (word_bits * width) width words (2 * m) masks (boards + target) (in_row others)
       → Without way (2 * m) others → rule ≡ to-deliver.InOrder → SaysDeliverRule words masks rule way target m t
-  deliver-rule-ordered t others s w r count on standing h i c run e d =
-      s ∙ rw i (deliver-ordered count on words masks standing c run m others h (rw d w) (e ∙ ap toDeliverIn r))
+  deliver_rule_ordered t others s w r count on standing h i c run e d =
+      s ∙ rw i (deliver_ordered count on words masks standing c run m others h (rw d w) (e ∙ ap to_deliver_in r))
 
-  pub deliver-rule-alone : (t : Bool) (others : List ℕ) → t ≡ noneIn (wordBits * width) width masks (2 * boards) others 0
+  pub deliver_rule_alone : (t : Bool) (others : List ℕ) → t ≡ none_in (word_bits * width) width masks (2 * boards) others 0
       → Without way (2 * m) others → rule ≡ to-deliver.Alone → SaysDeliverRule words masks rule way target m t
-  deliver-rule-alone t others s w r count on standing h i c run e d =
-      s ∙ deliver-alone count on words masks standing c run m others (rw d w) (e ∙ ap toDeliverIn r)
+  deliver_rule_alone t others s w r count on standing h i c run e d =
+      s ∙ deliver_alone count on words masks standing c run m others (rw d w) (e ∙ ap to_deliver_in r)

@@ -1,25 +1,24 @@
 // What the step rules ask beside readiness: that a board is free, and the further conditions of the channel.
-ghost use mathlib.Core.Path.{_≡_};
-ghost use Prim.Native.Nat.{_+_, _*_, _<_, _≤_};
-ghost use lib.ListN.{length};
-ghost use Rattle·model.specs.Limits.{messagesMost};
-ghost use Rattle·relation.specs.Width.{width};
-ghost use Rattle·board.specs.Boards.{boardsMost};
-ghost use Rattle·board.specs.Masks.{maskRows};
-ghost use Rattle·rules·specs.specs.Rules.{freeIn, SaysSendRule, SaysDeliverRule};
+#![tactic(auto)]
+
+ghost use Rattle.std.specs.Prelude.{◌≡◌, ◌+◌, ◌*◌, ◌<◌, ◌≤◌, length};
+ghost use Rattle.model.specs.Limits.{messages_most};
+ghost use Rattle.relation.specs.Width.{width};
+ghost use Rattle.board.specs.Boards.{boards_most};
+ghost use Rattle.board.specs.Masks.{mask_rows};
+ghost use Rattle.rules.specs.Rules.{free_in, SaysSendRule, SaysDeliverRule};
+
 use board::SENDS;
-use channel_table::ToDeliver;
-use channel_table::ToSend;
+use channel_table::{ToDeliver, ToSend};
 use relation::WIDTH;
-use row_tests::apart;
-use row_tests::none_of;
+use row_tests::{apart, none_of};
 use run::without;
 
 // An eager board sends, or takes a delivery, only while its buffer, row y of those held, holds nothing.
 pub fn board_free(masks: &[u64], eager: bool, held: &[u64], y: usize) -> bool
-    requires { ⌜ maskRows * width ≤ length (now masks) ⌝ }
-    requires { ⌜ y * width + width ≤ length (now held) ⌝ }
-    ensures { λ r. ⌜ r ≡ freeIn eager (now (masks .entry)) (now (held .entry)) y ⌝ }
+    requires width_in_bounds { mask_rows * width ≤ length masks.now }
+    requires width_in_bounds_2 { y * width + width ≤ length held.now }
+    ensures { result ≡ free_in eager masks.now held.now y }
 {
     if eager {
         none_of(masks, SENDS, held, y)
@@ -30,10 +29,10 @@ pub fn board_free(masks: &[u64], eager: bool, held: &[u64], y: usize) -> bool
 
 // The further condition to send m.
 pub fn send_rule(words: &[u64], masks: &[u64], rule: ToSend, way: &[u64; WIDTH], m: usize) -> bool
-    requires { ⌜ m < messagesMost ⌝ }
-    requires { ⌜ (2 * m + 1) * width + width ≤ length (now words) ⌝ }
-    requires { ⌜ maskRows * width ≤ length (now masks) ⌝ }
-    ensures { λ r. ⌜ SaysSendRule (now (words .entry)) (now (masks .entry)) rule (now (way .entry)) m r ⌝ }
+    requires m_lt_messages_most { m < messages_most }
+    requires width_in_bounds { (2 * m + 1) * width + width ≤ length words.now }
+    requires width_in_bounds_2 { mask_rows * width ≤ length masks.now }
+    ensures { SaysSendRule words.now masks.now rule way.now m result }
 {
     match rule {
         ToSend::Always => true,
@@ -54,11 +53,11 @@ pub fn deliver_rule(
     target: usize,
     m: usize,
 ) -> bool
-    requires { ⌜ m < messagesMost ⌝ }
-    requires { ⌜ target < boardsMost ⌝ }
-    requires { ⌜ 2 * m * width + width ≤ length (now words) ⌝ }
-    requires { ⌜ maskRows * width ≤ length (now masks) ⌝ }
-    ensures { λ r. ⌜ SaysDeliverRule (now (words .entry)) (now (masks .entry)) rule (now (way .entry)) target m r ⌝ }
+    requires m_lt_messages_most { m < messages_most }
+    requires target_lt_boards_most { target < boards_most }
+    requires width_in_bounds { 2 * m * width + width ≤ length words.now }
+    requires width_in_bounds_2 { mask_rows * width ≤ length masks.now }
+    ensures { SaysDeliverRule words.now masks.now rule way.now target m result }
 {
     let send = 2 * m;
     match rule {

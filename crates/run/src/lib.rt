@@ -1,19 +1,24 @@
 // The state of a run, and the boards of a step.
-ghost use Prim.Native.Nat.{_*_, _<_};
-ghost use Rattle·model.specs.Limits.{messagesMost};
-ghost use Rattle·run·specs.specs.State.{Without, Starts, Reaches, BoardAt, TargetOf};
+#![tactic(auto)]
+
+ghost use Rattle.std.specs.Prelude.{◌*◌, ◌<◌};
+ghost use Rattle.model.specs.Limits.{messages_most};
+ghost use Rattle.run.specs.State.{Without, Starts, Reaches, BoardAt, TargetOf};
+
 use board::board_of;
 use relation::WIDTH;
 use step::Step;
 
 // The messages that a board's buffer holds, as bits of their sends.
 #[repr(C)]
+#[derive(Clone, Copy)]
 pub struct Buffer {
     pub held: [u64; WIDTH],
 }
 
 // The state of a run: the events done, the messages under way as bits of their sends, and each board's buffer.
 #[repr(C)]
+#[derive(Clone, Copy)]
 pub struct Run {
     pub done: [u64; WIDTH],
     pub way: [u64; WIDTH],
@@ -22,8 +27,8 @@ pub struct Run {
 
 // The row without event x.
 pub fn without(row: [u64; WIDTH], x: usize) -> [u64; WIDTH]
-    requires { ⌜ x < 2 * messagesMost ⌝ }
-    ensures { λ r. ⌜ Without row x r ⌝ }
+    requires { x < 2 * messages_most }
+    ensures { Without row x result }
 {
     let mut rest = row;
     relation::unmark(&mut rest, 0, x);
@@ -32,8 +37,8 @@ pub fn without(row: [u64; WIDTH], x: usize) -> [u64; WIDTH]
 
 // The board on which a step is taken: the sender's, or to deliver or to consume the receiver's.
 pub fn board_at(boards: &[u8], step: Step) -> usize
-    requires { ⌜ Reaches (now boards) step ⌝ }
-    ensures { λ r. ⌜ BoardAt (now (boards .entry)) step r ⌝ }
+    requires { Reaches boards.now step }
+    ensures { BoardAt boards.now step result }
 {
     let x = step.event();
     board_of(boards, x)
@@ -41,8 +46,8 @@ pub fn board_at(boards: &[u8], step: Step) -> usize
 
 // The board that a step's message goes to.
 pub fn target_of(boards: &[u8], step: Step) -> usize
-    requires { ⌜ Reaches (now boards) step ⌝ }
-    ensures { λ r. ⌜ TargetOf (now (boards .entry)) step r ⌝ }
+    requires { Reaches boards.now step }
+    ensures { TargetOf boards.now step result }
 {
     let receive = 2 * step.message() + 1;
     board_of(boards, receive)
@@ -51,7 +56,7 @@ pub fn target_of(boards: &[u8], step: Step) -> usize
 impl Run {
     // No event done, nothing under way, all buffers empty.
     pub fn start() -> Self
-        ensures { λ r. ⌜ Starts r ⌝ }
+        ensures { Starts result }
     {
         Run {
             done: [0; WIDTH],

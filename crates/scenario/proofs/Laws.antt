@@ -1,44 +1,44 @@
 -- What a caller uses of the answer, case by case. Assumes nothing.
-use mathlib.Core.Path.{_≡_, refl, sym, _∙_, ap, subst}
-use mathlib.Core.List.{List, _++_}
-use Prim.Native.Nat.{ℕ, _*_, _≤_}
+use mathlib.Core.Path.{◌≡◌, refl, sym, ◌∙◌, ap, subst}
+use mathlib.Core.List.{List, ◌++◌}
+use Prim.Native.Nat.{ℕ, ◌*◌, ◌≤◌}
 use borrow.Author.Tests.{lt-leb}
 use lib.ListN.{length, drop}
-use Rattle·model.specs.Limits.{messagesMost, rowsMost, scratchLeast}
-use Rattle·model.specs.Refusal.{Out, ok, refusal, benchRefusal}
-use Rattle·model.specs.Place.{lineOf}
-use Rattle·model.specs.Order.{Scenario}
-use Rattle·model.specs.Answer.{sheetOf, scratchBehind}
-use Rattle·model.proofs.Lines.{Well, sheet-well}
-use Rattle·relation.specs.Rows.{cleared}
-use Rattle·relation.proofs.Cleared.{cleared-behind}
-use Rattle·relation.specs.Scenario.{scenarioIn}
-use Rattle·expansion.specs.declared.Expanded.{Expanded}
-use Rattle·expansion.specs.declared.Expanded.the-variants.{Messages, Refused}
-use Rattle·expansion.specs.Outcome.{outcomeOf}
-use Rattle·scenario·specs.specs.Contract.{Fit, FitOn, SheetIn}
+use Rattle.model.specs.Limits.{messages_most, rows_most, scratch_least}
+use Rattle.model.specs.Refusal.{Out, ok, refusal, bench_refusal}
+use Rattle.model.specs.Place.{line_of}
+use Rattle.model.specs.Order.{Scenario}
+use Rattle.model.specs.Answer.{sheet_of, scratch_behind}
+use Rattle.model.proofs.Lines.{Well, sheet_well}
+use Rattle.relation.specs.Rows.{cleared}
+use Rattle.relation.proofs.Cleared.{cleared_behind}
+use Rattle.relation.specs.Scenario.{scenario_in}
+use Rattle.expansion.specs.declared.Expanded.{Expanded}
+use Rattle.expansion.specs.declared.Expanded.TheVariants.{Messages, Refused}
+use Rattle.expansion.specs.Outcome.{outcome_of}
+use Rattle.scenario.specs.Contract.{Fit, FitOn, SheetIn}
 
 module _ (text boards words : List ℕ) (r : Expanded) (p : SheetIn text boards words r) where
-  pub sheet-refused : (number line : ℕ) → r ≡ Refused number line → sheetOf text ≡ refusal number line
-  sheet-refused number line i = sym (p .outcome) ∙ ap (λ (w : Expanded). outcomeOf w boards words) i
+  pub sheet_refused : (number line : ℕ) → r ≡ Refused number line → sheet_of text ≡ refusal number line
+  sheet_refused number line i = sym p.outcome ∙ ap (λ (w : Expanded). outcome_of w boards words) i
 
   module _ (count : ℕ) (i : r ≡ Messages count) where
-    pub sheet-is : sheetOf text ≡ ok (scenarioIn count boards words)
-    sheet-is = sym (p .outcome) ∙ ap (λ (w : Expanded). outcomeOf w boards words) i
+    pub sheet_is : sheet_of text ≡ ok (scenario_in count boards words)
+    sheet_is = sym p.outcome ∙ ap (λ (w : Expanded). outcome_of w boards words) i
 
-    pub sheet-fits : Fit count boards words
-    sheet-fits = subst (λ (w : Expanded). FitOn w boards words) i (p .fit)
+    pub sheet_fits : Fit count boards words
+    sheet_fits = subst (λ (w : Expanded). FitOn w boards words) i p.fit
 
     -- as a caller needs it that lends the boards as a slice
-    pub boards-long : 2 * messagesMost ≡ length boards
-    boards-long = sym (sheet-fits .boardsLong)
+    pub boards_long_holds : 2 * messages_most ≡ length boards
+    boards_long_holds = sym sheet_fits.boards_long
 
--- the first words of the scratch were used and the rest not, and then the first `scratchLeast` cleared
-pub scratch-behind : (text scratch used : List ℕ) (n : ℕ) → length used ≡ n → n ≤ scratchLeast
-    → cleared scratchLeast (used ++ drop n scratch) ≡ scratchBehind (sheetOf text) scratch
-unfolding scratchBehind cleared
-scratch-behind text scratch used n e l = cleared-behind scratchLeast used scratch n e l ∙ go (sheetOf text) (sheet-well text)
+-- the first words of the scratch were used and the rest not, and then the first `scratch_least` cleared
+pub scratch_behind_holds : (text scratch used : List ℕ) (n : ℕ) → length used ≡ n → n ≤ scratch_least
+    → cleared scratch_least (used ++ drop n scratch) ≡ scratch_behind (sheet_of text) scratch
+unfolding scratch_behind cleared
+scratch_behind_holds text scratch used n e l = cleared_behind scratch_least used scratch n e l ∙ go (sheet_of text) (sheet_well text)
   where
-    go : (o : Out Scenario) → Well (lineOf rowsMost) o → cleared scratchLeast scratch ≡ scratchBehind o scratch
-    go (refusal number line) w = rw (lt-leb number benchRefusal (w .behind))
+    go : (o : Out Scenario) → Well (line_of rows_most) o → cleared scratch_least scratch ≡ scratch_behind o scratch
+    go (refusal number line) w = rw (lt-leb number bench_refusal w.behind)
     go (ok S) w = refl

@@ -1,23 +1,20 @@
 -- What the boards and the words hold behind the call: the scenario of the text, and all that a later part asks of them.
 -- Assumes nothing.
-use mathlib.Core.Path.{_≡_}
-use mathlib.Core.List.{List}
-use Prim.Native.Nat.{ℕ, _*_, _<_, _≤_}
-use lib.ListN.{length, getD}
-use Rattle·model.specs.Limits.{messagesMost}
-use Rattle·model.specs.Limits as limits
-use Rattle·model.specs.Answer.{sheetOf}
-use Rattle·relation.specs.Width.{width}
-use Rattle·expansion.specs.declared.Expanded.{Expanded}
-use Rattle·expansion.specs.declared.Expanded.the-variants.{Messages, Refused}
-use Rattle·expansion.specs.Outcome.{outcomeOf}
+use Rattle.std.specs.Prelude.{◌≡◌, List, ℕ, ◌*◌, ◌<◌, ◌≤◌, length, get_or}
+use Rattle.model.specs.Limits.{messages_most}
+use Rattle.model.specs.Limits as limits
+use Rattle.model.specs.Answer.{sheet_of}
+use Rattle.relation.specs.Width.{width}
+use Rattle.expansion.specs.declared.Expanded.{Expanded}
+use Rattle.expansion.specs.declared.Expanded.TheVariants.{Messages, Refused}
+use Rattle.expansion.specs.Outcome.{outcome_of}
 
 -- the boards and the words of a scenario of so many messages
 pub record Fit (count : ℕ) (boards words : List ℕ) : Type 0 where
-  pub few : count ≤ messagesMost
-  pub boardsLong : length boards ≡ 2 * messagesMost
-  pub wordsLong : length words ≡ 2 * messagesMost * width
-  pub boardsBelow : (x : ℕ) → x < 2 * count → getD boards x 0 < limits.boards
+  pub few : count ≤ messages_most
+  pub boards_long : length boards ≡ 2 * messages_most
+  pub words_long : length words ≡ 2 * messages_most * width
+  pub boards_below : (x : ℕ) → x < 2 * count → get_or boards x 0 < limits.boards
 
 abbrev pub FitOn : Expanded → List ℕ → List ℕ → Type 0
 FitOn (Messages count) boards words = Fit count boards words
@@ -25,5 +22,5 @@ FitOn (Refused number line) boards words = Unit {0}
 
 -- The answer is the paper's for the text: the scenario that boards and words hold, or the refusal's number and line.
 pub record SheetIn (text boards words : List ℕ) (r : Expanded) : Type 0 where
-  pub outcome : outcomeOf r boards words ≡ sheetOf text
+  pub outcome : outcome_of r boards words ≡ sheet_of text
   pub fit : FitOn r boards words

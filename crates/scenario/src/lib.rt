@@ -1,10 +1,11 @@
 // The way from a text to its scenario, which every call takes: the text is read, and its calls are expanded.
-ghost use mathlib.Core.Path.{_≡_};
-ghost use Prim.Native.Nat.{_*_};
-ghost use lib.ListN.{length};
-ghost use Rattle·model.specs.Limits.{messagesMost};
-ghost use Rattle·relation.specs.Width.{width};
-ghost use Rattle·scenario·specs.specs.Contract.{SheetIn};
+#![tactic(auto)]
+
+ghost use Rattle.std.specs.Prelude.{◌≡◌, ◌*◌, length};
+ghost use Rattle.model.specs.Limits.{messages_most};
+ghost use Rattle.relation.specs.Width.{width};
+ghost use Rattle.scenario.specs.Contract.{SheetIn};
+
 use expansion::Expanded;
 use sheet::Verdict;
 
@@ -14,21 +15,15 @@ pub fn scenario_of(
     boards: &mut [u8; model::EVENTS_MOST],
     words: &mut [u64],
 ) -> Expanded
-    requires { ⌜ length (now words) ≡ 2 * messagesMost * width ⌝ }
-    ensures { λ r. ⌜ SheetIn (now (text .entry)) (now (boards .exit)) (now (words .exit)) r ⌝ }
+    requires { length words.old ≡ 2 * messages_most * width }
+    ensures { SheetIn text.now boards.new words.new result }
 {
     let mut kind = [0u8; model::ROWS_MOST];
     let mut one = [0u16; model::ROWS_MOST];
     let mut two = [0u16; model::ROWS_MOST];
     let mut start = [0u16; model::SHEETS];
     let verdict = sheet::read(
-        text,
-        false,
-        &mut kind,
-        &mut one,
-        &mut two,
-        &mut start,
-        words,
+        text, false, &mut kind, &mut one, &mut two, &mut start, words,
     );
     match verdict {
         Verdict::Refused(number, line) => Expanded::Refused(number, line),

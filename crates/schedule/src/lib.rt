@@ -1,32 +1,28 @@
 // The withholding schedule for a message, step by step, and its trace, two bytes a step.
-ghost use mathlib.Core.Path.{_≡_};
-ghost use Prim.Native.Nat.{_+_, _*_, _<_, _≤_};
-ghost use lib.ListN.{length, set};
-ghost use Rattle·model.specs.Limits.{messagesMost};
-ghost use Rattle·model.specs.Schedule.{kindOf};
-ghost use Rattle·relation.specs.Scenario.{scenarioIn};
-ghost use Rattle·channel_table.specs.Table.{channelIn};
-ghost use Rattle·board.specs.Masks.{Standing};
-ghost use Rattle·step.specs.Steps.{stepIn, messageIn};
-ghost use Rattle·schedule·specs.specs.Schedule.{Scheduled};
-use buffers::HELD_WORDS;
-use buffers::lay_row;
+#![tactic(auto)]
+
+ghost use Rattle.std.specs.Prelude.{◌≡◌, ◌+◌, ◌*◌, ◌<◌, ◌≤◌, length, set};
+ghost use Rattle.model.specs.Limits.{messages_most};
+ghost use Rattle.model.specs.Schedule.{kind_of};
+ghost use Rattle.relation.specs.Scenario.{scenario_in};
+ghost use Rattle.channel_table.specs.Table.{channel_in};
+ghost use Rattle.board.specs.Masks.{Standing};
+ghost use Rattle.step.specs.Steps.{step_in, message_in};
+ghost use Rattle.schedule.specs.Schedule.{Scheduled};
+
+use buffers::{HELD_WORDS, lay_row};
 use channel_table::Channel;
-use next_state::done_behind;
-use next_state::held_behind;
-use next_state::way_behind;
+use next_state::{done_behind, held_behind, way_behind};
 use next_step::choose;
 use relation::WIDTH;
-use run::Run;
-use run::target_of;
-use step::Step;
-use step::StepOrNone;
+use run::{Run, target_of};
+use step::{Step, StepOrNone};
 
 // Step i of the trace: its kind and its message.
 fn write_step(trace: &mut [u8], i: usize, step: Step)
-    requires { ⌜ 2 * i + 1 < length (now trace) ⌝ }
-    requires { ⌜ messageIn step < messagesMost ⌝ }
-    ensures { λ _. ⌜ now (trace .exit) ≡ set (set (now (trace .entry)) (2 * i) (kindOf (stepIn step))) (2 * i + 1) (messageIn step) ⌝ }
+    requires i_in_bounds { 2 * i + 1 < length trace.old }
+    requires step_bound { message_in step < messages_most }
+    ensures { trace.new ≡ set (set trace.old (2 * i) (kind_of (step_in step))) (2 * i + 1) (message_in step) }
 {
     let at = 2 * i;
     let behind = at + 1;
@@ -47,26 +43,17 @@ pub fn schedule(
     e: usize,
     trace: &mut [u8],
 ) -> usize
-    requires { ⌜ Standing count (now boards) (now words) (now masks) ⌝ }
-    requires { ⌜ e < count ⌝ }
-    requires { ⌜ 2 * (3 * count) ≤ length (now trace) ⌝ }
-    ensures { λ r. ⌜ Scheduled (scenarioIn count (now (boards .entry)) (now (words .entry))) (channelIn c) e (now (trace .entry)) (now (trace .exit)) r ⌝ }
+    requires standing { Standing count boards.now words.now masks.now }
+    requires e_lt_count { e < count }
+    requires count_in_bounds { 2 * (3 * count) ≤ length trace.old }
+    ensures { Scheduled (scenario_in count boards.now words.now) (channel_in c) e trace.old trace.new result }
 {
     let mut run = Run::start();
     let mut rows = [0u64; HELD_WORDS];
     let mut held = [0u64; WIDTH];
     for i in 0..3 * count {
         let chosen = choose(
-            words,
-            masks,
-            boards,
-            count,
-            c,
-            &run.done,
-            &run.way,
-            &rows,
-            &held,
-            e,
+            words, masks, boards, count, c, &run.done, &run.way, &rows, &held, e,
         );
         let StepOrNone::Step(step) = chosen else {
             return i;

@@ -1,161 +1,159 @@
 -- What is decided of one round and of two, from what their parts handed on. Assumes nothing.
-use Prim.Native.Nat.{ℕ, _*_}
+use Prim.Native.Nat.{ℕ, ◌*◌}
 use native.Mathlib.Omega.{arith}
-use mathlib.Core.Path.{_≡_, refl, sym, _∙_, ap, subst, subst⁻¹}
+use mathlib.Core.Path.{◌≡◌, refl, sym, ◌∙◌, ap, subst, subst⁻¹}
 use mathlib.Core.List.{List, []}
-use mathlib.Core.Option.{none}
 use lib.ListN.{length}
-use Rattle·model.specs.Limits.{messagesMost}
-use Rattle·model.specs.Refusal.{Out, ok, refusal, andThen}
-use Rattle·model.specs.Rows.{Row}
-use Rattle·model.specs.Expansion.{Progress, expand}
-use Rattle·model.specs.Order.{Scenario, Exchange, scenarioOf, Met, nothingMet, metOps, exchangeOf}
-use Rattle·model.specs.Channel.{channelOf}
-use Rattle·model.specs.Race.{raceRuleOf, lowestRace}
-use Rattle·model.specs.Schedule.{schedule}
-use Rattle·model.specs.Answer as model
-use Rattle·model.specs.Answer.{expandedWith, expandedOf, verdictOf, answerFor, numbersOf, traceAfter}
-use Rattle·model.specs.Rounds.{rounds, walkedAgain, firstVerdict, secondVerdict, roundsVerdict, roundsAnswer}
-use Rattle·model.proofs.Refusal.{not-refused, and-then-ok}
-use Rattle·model.proofs.Standing.{read-fits}
-use Rattle·model.proofs.Accepted.{walk-count, walk-boards}
-use Rattle·relation.specs.Width.{width}
-use Rattle·relation.specs.Scenario.{scenarioIn}
-use Rattle·sheet.specs.Bridge.{rowsOf}
-use Rattle·expansion.specs.Lent.{RowsRead}
-use Rattle·expansion.specs.Outcome.{outcomeOf}
-use Rattle·expansion.specs.declared.Expanded.{Expanded}
-use Rattle·expansion.specs.declared.Expanded.the-variants as expanded
-use Rattle·scenario.specs.Contract.{Fit}
-use Rattle·scenario.proofs.Parts.{fit-from}
-use Rattle·verdict.specs.declared.Answer.{Answer}
-use Rattle·verdict.specs.declared.Answer.the-variants as answer
-use Rattle·verdict.specs.Parts as parts
-use Rattle·verdict.specs.Parts.{IsRace, Decides}
-use Rattle·verdict.proofs.Parts.{verdict-locked, verdict-free}
-use Rattle·second_walk·specs.specs.declared.Rounds.{Rounds}
-use Rattle·second_walk·specs.specs.declared.Rounds.the-variants.{Free, Locked, Refused}
-use Rattle·second_walk·specs.specs.declared.Twice.{Twice}
-use Rattle·second_walk·specs.specs.declared.Twice.the-variants as twice
-use Rattle·second_walk·specs.specs.Walks.{rowsRepeatable, OneLocks, OneFrees, Walks}
-use Rattle·second_walk·specs.specs.Judged.{timesVerdict, Judges}
+use Rattle.model.specs.Limits.{messages_most}
+use Rattle.model.specs.Refusal.{Out, ok, refusal, and_then}
+use Rattle.model.specs.Rows.{Row}
+use Rattle.model.specs.Expansion.{expand}
+use Rattle.model.specs.Order.{Scenario, Exchange, scenario_of, nothing_met, met_ops, exchange_of}
+use Rattle.model.specs.Channel.{channel_of}
+use Rattle.model.specs.Schedule.{schedule}
+use Rattle.model.specs.Answer as model
+use Rattle.model.specs.Answer.{expanded_with, expanded_of, verdict_of, answer_for, numbers_of, trace_after}
+use Rattle.model.specs.Rounds.{rounds, walked_again, first_verdict, second_verdict, rounds_verdict, rounds_answer}
+use Rattle.model.proofs.Refusal.{not_refused, and_then_ok}
+use Rattle.model.proofs.Standing.{read_fits}
+use Rattle.model.proofs.Accepted.{walk_count, walk_boards}
+use Rattle.relation.specs.Width.{width}
+use Rattle.relation.specs.Scenario.{scenario_in}
+use Rattle.sheet.specs.Bridge.{rows_of}
+use Rattle.expansion.specs.Lent.{RowsRead}
+use Rattle.expansion.specs.Outcome.{outcome_of}
+use Rattle.expansion.specs.declared.Expanded.{Expanded}
+use Rattle.expansion.specs.declared.Expanded.TheVariants as expanded
+use Rattle.scenario.specs.Contract.{Fit}
+use Rattle.scenario.proofs.Parts.{fit_from}
+use Rattle.verdict.specs.declared.Answer.{Answer}
+use Rattle.verdict.specs.declared.Answer.TheVariants as answer
+use Rattle.verdict.specs.Parts as parts
+use Rattle.verdict.specs.Parts.{Decides}
+use Rattle.verdict.proofs.Parts.{verdict_locked, verdict_free}
+use Rattle.second_walk.specs.declared.Rounds.{Rounds}
+use Rattle.second_walk.specs.declared.Rounds.TheVariants.{Free, Locked, Refused}
+use Rattle.second_walk.specs.declared.Twice.{Twice}
+use Rattle.second_walk.specs.declared.Twice.TheVariants as twice
+use Rattle.second_walk.specs.Walks.{rows_repeatable, OneLocks, OneFrees, Walks}
+use Rattle.second_walk.specs.Judged.{times_verdict, Judges}
 
 -- The verdict on a scenario, said of so many rounds, case by case.
-module _ (k : ℕ) (S : Scenario) (code : ℕ) (trace traceExit : List ℕ) (a : Answer) (d : Decides (ok S) code trace traceExit a) where
+module _ (k : ℕ) (S : Scenario) (code : ℕ) (trace trace_exit : List ℕ) (a : Answer) (d : Decides (ok S) code trace trace_exit a) where
   abbrev Answered : model.Answer → Answer → Type 0
-  Answered v b = (parts.numbersFor b ≡ numbersOf v) × (traceExit ≡ traceAfter v trace)
+  Answered v b = (parts.numbers_for b ≡ numbers_of v) × (trace_exit ≡ trace_after v trace)
 
-  answered : (b : Answer) → a ≡ b → Answered (verdictOf S code) b
-  unfolding answerFor
-  answered b i = (ap parts.numbersFor (sym i) ∙ d .answer, d .traceLeft)
+  answered : (b : Answer) → a ≡ b → Answered (verdict_of S code) b
+  unfolding answer_for
+  answered b i = (ap parts.numbers_for (sym i) ∙ d.answer, d.trace_left)
 
-  word : (b : Answer) (v : model.Answer) → Answered v b → parts.numbersFor b .word ≡ numbersOf v .word
-  word b v p = ap (λ n. n .word) (p .0)
+  word : (b : Answer) (v : model.Answer) → Answered v b → (parts.numbers_for b).word ≡ (numbers_of v).word
+  word b v p = ap (λ n. n.word) p.0
 
-  pub decided-free : a ≡ answer.Free → Judges (timesVerdict k (verdictOf S code)) trace traceExit Free
-  decided-free i = go (verdictOf S code) (answered answer.Free i)
+  pub decided_free : a ≡ answer.Free → Judges (times_verdict k (verdict_of S code)) trace trace_exit Free
+  decided_free i = go (verdict_of S code) (answered answer.Free i)
     where
-      go : (v : model.Answer) → Answered v answer.Free → Judges (timesVerdict k v) trace traceExit Free
-      go model.free p = record { answer = refl; howOften = refl; traceLeft = p .1 }
+      go : (v : model.Answer) → Answered v answer.Free → Judges (times_verdict k v) trace trace_exit Free
+      go model.free p = record { answer = refl; how_often = refl; trace_left = p.1 }
       go (model.locked e x ts) p = absurd (omega (arith, word answer.Free (model.locked e x ts) p))
       go (model.refused number line) p = absurd (omega (arith, word answer.Free (model.refused number line) p))
 
-  pub decided-locked : (e x steps : ℕ) → a ≡ answer.Locked e x steps → Judges (timesVerdict k (verdictOf S code)) trace traceExit (Locked e x steps k)
-  decided-locked e x steps i = go (verdictOf S code) (answered (answer.Locked e x steps) i)
+  pub decided_locked : (e x steps : ℕ) → a ≡ answer.Locked e x steps → Judges (times_verdict k (verdict_of S code)) trace trace_exit (Locked e x steps k)
+  decided_locked e x steps i = go (verdict_of S code) (answered (answer.Locked e x steps) i)
     where
-      go : (v : model.Answer) → Answered v (answer.Locked e x steps) → Judges (timesVerdict k v) trace traceExit (Locked e x steps k)
+      go : (v : model.Answer) → Answered v (answer.Locked e x steps) → Judges (times_verdict k v) trace trace_exit (Locked e x steps k)
       go model.free p = absurd (omega (arith, word (answer.Locked e x steps) model.free p))
-      go (model.locked f y ts) p = record { answer = p .0; howOften = refl; traceLeft = p .1 }
+      go (model.locked f y ts) p = record { answer = p.0; how_often = refl; trace_left = p.1 }
       go (model.refused number line) p = absurd (omega (arith, word (answer.Locked e x steps) (model.refused number line) p))
 
-  pub decided-refused : (number line : ℕ) → a ≡ answer.Refused number line → Judges (timesVerdict k (verdictOf S code)) trace traceExit (Refused number line)
-  decided-refused number line i = go (verdictOf S code) (answered (answer.Refused number line) i)
+  pub decided_refused : (number line : ℕ) → a ≡ answer.Refused number line → Judges (times_verdict k (verdict_of S code)) trace trace_exit (Refused number line)
+  decided_refused number line i = go (verdict_of S code) (answered (answer.Refused number line) i)
     where
-      go : (v : model.Answer) → Answered v (answer.Refused number line) → Judges (timesVerdict k v) trace traceExit (Refused number line)
+      go : (v : model.Answer) → Answered v (answer.Refused number line) → Judges (times_verdict k v) trace trace_exit (Refused number line)
       go model.free p = absurd (omega (arith, word (answer.Refused number line) model.free p))
       go (model.locked e x ts) p = absurd (omega (arith, word (answer.Refused number line) (model.locked e x ts) p))
-      go (model.refused n m) p = record { answer = p .0; howOften = refl; traceLeft = p .1 }
+      go (model.refused n m) p = record { answer = p.0; how_often = refl; trace_left = p.1 }
 
 -- said of two rounds, one being free
-two-times : (v : model.Answer) → timesVerdict 2 v ≡ secondVerdict v
-unfolding secondVerdict
-two-times model.free = refl
-two-times (model.locked e x ts) = refl
-two-times (model.refused number line) = refl
+two_times : (v : model.Answer) → times_verdict 2 v ≡ second_verdict v
+unfolding second_verdict
+two_times model.free = refl
+two_times (model.locked e x ts) = refl
+two_times (model.refused number line) = refl
 
 module _ (o : Out Exchange) (code : ℕ) where
-  pub two-decide : (boards words : List ℕ) (r : Twice) (count : ℕ) (trace traceExit : List ℕ) (q : Rounds) → Walks o code boards words r → r ≡ twice.OneFree count
-      → Judges (timesVerdict 2 (verdictOf (scenarioIn count boards words) code)) trace traceExit q
-      → Judges (roundsAnswer o code) trace traceExit q
-  unfolding roundsAnswer roundsVerdict firstVerdict
-  two-decide boards words r count trace traceExit q h i j =
+  pub two_decide : (boards words : List ℕ) (r : Twice) (count : ℕ) (trace trace_exit : List ℕ) (q : Rounds) → Walks o code boards words r → r ≡ twice.OneFree count
+      → Judges (times_verdict 2 (verdict_of (scenario_in count boards words) code)) trace trace_exit q
+      → Judges (rounds_answer o code) trace trace_exit q
+  unfolding rounds_answer rounds_verdict first_verdict
+  two_decide boards words r count trace trace_exit q h i j =
       let f : OneFrees o code boards words count = subst (Walks o code boards words) i h in
-      let S = scenarioIn count boards words in
-      let first : verdictOf (scenarioOf (f .one)) code ≡ model.free = verdict-free (scenarioOf (f .one)) code (f .noRace) in
-      let same : timesVerdict 2 (verdictOf S code) ≡ roundsAnswer o code =
-      two-times (verdictOf S code)
-      ∙ ap (λ (T : Scenario). secondVerdict (verdictOf T code)) (f .isTwo)
-      ∙ ap (λ (v : model.Answer). firstVerdict v (verdictOf (scenarioOf (rounds (f .one) 2)) code)) (sym first)
-      ∙ ap (λ (p : Out Exchange). roundsAnswer p code) (sym (f .isOne)) in
-      subst (λ v. Judges v trace traceExit q) same j
+      let S = scenario_in count boards words in
+      let first : verdict_of (scenario_of f.one) code ≡ model.free = verdict_free (scenario_of f.one) code f.no_race in
+      let same : times_verdict 2 (verdict_of S code) ≡ rounds_answer o code =
+      two_times (verdict_of S code)
+      ∙ ap (λ (T : Scenario). second_verdict (verdict_of T code)) f.is_two
+      ∙ ap (λ (v : model.Answer). first_verdict v (verdict_of (scenario_of (rounds f.one 2)) code)) (sym first)
+      ∙ ap (λ (p : Out Exchange). rounds_answer p code) (sym f.is_one) in
+      subst (λ v. Judges v trace trace_exit q) same j
 
-  pub two-fit : (boards words : List ℕ) (r : Twice) (count : ℕ) → Walks o code boards words r → r ≡ twice.OneFree count → OneFrees o code boards words count
-  two-fit boards words r count h i = subst (Walks o code boards words) i h
+  pub two_fit : (boards words : List ℕ) (r : Twice) (count : ℕ) → Walks o code boards words r → r ≡ twice.OneFree count → OneFrees o code boards words count
+  two_fit boards words r count h i = subst (Walks o code boards words) i h
 
-  pub one-locked : (boards words : List ℕ) (r : Twice) → Walks o code boards words r → r ≡ twice.OneLocked → OneLocks o code
-  one-locked boards words r h i = subst (Walks o code boards words) i h
+  pub one_locked : (boards words : List ℕ) (r : Twice) → Walks o code boards words r → r ≡ twice.OneLocked → OneLocks o code
+  one_locked boards words r h i = subst (Walks o code boards words) i h
 
-  pub walks-refused : (boards words : List ℕ) (r : Twice) (number line : ℕ) (trace : List ℕ) → Walks o code boards words r → r ≡ twice.Refused number line
-      → Judges (roundsAnswer o code) trace trace (Refused number line)
-  unfolding roundsAnswer traceAfter
-  walks-refused boards words r number line trace h i =
+  pub walks_refused : (boards words : List ℕ) (r : Twice) (number line : ℕ) (trace : List ℕ) → Walks o code boards words r → r ≡ twice.Refused number line
+      → Judges (rounds_answer o code) trace trace (Refused number line)
+  unfolding rounds_answer trace_after
+  walks_refused boards words r number line trace h i =
       let e : o ≡ refusal number line = subst (Walks o code boards words) i h in
-      subst⁻¹ (λ (p : Out Exchange). Judges (roundsAnswer p code) trace trace (Refused number line)) e
-      (record { answer = refl; howOften = refl; traceLeft = refl })
+      subst⁻¹ (λ (p : Out Exchange). Judges (rounds_answer p code) trace trace (Refused number line)) e
+      (record { answer = refl; how_often = refl; trace_left = refl })
 
 -- One round is locked, and walked once more.
-module _ (file : List Row) (code : ℕ) (k : OneLocks (rowsRepeatable file) code) (boards words : List ℕ) (r : Expanded)
-    (h : outcomeOf r boards words ≡ expandedOf file) where
-  is-scenario : expandedOf file ≡ ok (scenarioOf (k .one))
-  unfolding rowsRepeatable expandedWith andThen
-  is-scenario =
-      let a = and-then-ok (expand metOps [] file nothingMet) (λ s. andThen (walkedAgain file s) (λ t. ok (exchangeOf s))) (k .one) (k .isOne) in
-      let b = and-then-ok (walkedAgain file (a .0)) (λ t. ok (exchangeOf (a .0))) (k .one) (a .2) in
-      let same : exchangeOf (a .0) ≡ k .one = cc (b .2) in
-      rw (a .1) (ap (λ (E : Exchange). ok (scenarioOf E)) same)
+module _ (file : List Row) (code : ℕ) (k : OneLocks (rows_repeatable file) code) (boards words : List ℕ) (r : Expanded)
+    (h : outcome_of r boards words ≡ expanded_of file) where
+  is_scenario_holds : expanded_of file ≡ ok (scenario_of k.one)
+  unfolding rows_repeatable expanded_with and_then
+  is_scenario_holds =
+      let a = and_then_ok (expand met_ops [] file nothing_met) (λ s. and_then (walked_again file s) (λ t. ok (exchange_of s))) k.one k.is_one in
+      let b = and_then_ok (walked_again file a.0) (λ t. ok (exchange_of a.0)) k.one a.2 in
+      let same : exchange_of a.0 ≡ k.one = cc b.2 in
+      rw a.1 (ap (λ (E : Exchange). ok (scenario_of E)) same)
 
-  pub one-refused : {C : Type 0} (number line : ℕ) → r ≡ expanded.Refused number line → C
-  one-refused number line i =
-      not-refused (ap (λ (q : Expanded). outcomeOf q boards words) (sym i) ∙ h ∙ is-scenario)
+  pub one_refused : {C : Type 0} (number line : ℕ) → r ≡ expanded.Refused number line → C
+  one_refused number line i =
+      not_refused (ap (λ (q : Expanded). outcome_of q boards words) (sym i) ∙ h ∙ is_scenario_holds)
 
   module _ (count : ℕ) (i : r ≡ expanded.Messages count) where
-    one-scenario : scenarioIn count boards words ≡ scenarioOf (k .one)
-    one-scenario =
-        let e : ok (scenarioIn count boards words) ≡ ok (scenarioOf (k .one)) =
-        ap (λ (q : Expanded). outcomeOf q boards words) (sym i) ∙ h ∙ is-scenario in
+    one_scenario : scenario_in count boards words ≡ scenario_of k.one
+    one_scenario =
+        let e : ok (scenario_in count boards words) ≡ ok (scenario_of k.one) =
+        ap (λ (q : Expanded). outcome_of q boards words) (sym i) ∙ h ∙ is_scenario_holds in
         cc
 
-    pub one-decides : (trace traceExit : List ℕ) (q : Rounds) → Judges (timesVerdict 1 (verdictOf (scenarioIn count boards words) code)) trace traceExit q
-        → Judges (roundsAnswer (rowsRepeatable file) code) trace traceExit q
-    unfolding roundsAnswer roundsVerdict firstVerdict
-    one-decides trace traceExit q j =
-        let S = scenarioOf (k .one) in
-        let lock : verdictOf S code ≡ model.locked (k .message) (k .event) (schedule S (channelOf code) (k .message)) =
-        verdict-locked S code (k .message) (k .event) (k .race) in
-        let same : timesVerdict 1 (verdictOf (scenarioIn count boards words) code) ≡ roundsAnswer (rowsRepeatable file) code =
-        ap (λ (T : Scenario). timesVerdict 1 (verdictOf T code)) one-scenario
-        ∙ ap (timesVerdict 1) lock
-        ∙ ap (λ (v : model.Answer). firstVerdict v (verdictOf (scenarioOf (rounds (k .one) 2)) code)) (sym lock)
-        ∙ ap (λ (p : Out Exchange). roundsAnswer p code) (sym (k .isOne)) in
-        subst (λ v. Judges v trace traceExit q) same j
+    pub one_decides : (trace trace_exit : List ℕ) (q : Rounds) → Judges (times_verdict 1 (verdict_of (scenario_in count boards words) code)) trace trace_exit q
+        → Judges (rounds_answer (rows_repeatable file) code) trace trace_exit q
+    unfolding rounds_answer rounds_verdict first_verdict
+    one_decides trace trace_exit q j =
+        let S = scenario_of k.one in
+        let lock : verdict_of S code ≡ model.locked k.message k.event (schedule S (channel_of code) k.message) =
+        verdict_locked S code k.message k.event k.race in
+        let same : times_verdict 1 (verdict_of (scenario_in count boards words) code) ≡ rounds_answer (rows_repeatable file) code =
+        ap (λ (T : Scenario). times_verdict 1 (verdict_of T code)) one_scenario
+        ∙ ap (times_verdict 1) lock
+        ∙ ap (λ (v : model.Answer). first_verdict v (verdict_of (scenario_of (rounds k.one 2)) code)) (sym lock)
+        ∙ ap (λ (p : Out Exchange). rounds_answer p code) (sym k.is_one) in
+        subst (λ v. Judges v trace trace_exit q) same j
 
 -- the boards and the words of the rows walked once
-pub one-fit : (kind one two : List ℕ) (count : ℕ) (start : List ℕ) → RowsRead kind one two count start → (boards words : List ℕ) (r : Expanded)
-    → outcomeOf r boards words ≡ expandedOf (rowsOf kind one two count) → (messages : ℕ) → r ≡ expanded.Messages messages
-    → length boards ≡ 2 * messagesMost → length words ≡ 2 * messagesMost * width → Fit messages boards words
-one-fit kind one two count start lent boards words r h messages i b w =
-    let file = rowsOf kind one two count in
-    let S = scenarioIn messages boards words in
-    let e : expandedWith [] file ≡ ok S = sym h ∙ ap (λ (q : Expanded). outcomeOf q boards words) i in
-    let fits = read-fits (lent .read .0) (lent .read .1) file (lent .read .2) in
-    fit-from messages boards words b w (walk-count [] file fits S e) (walk-boards [] file fits S e)
+pub one_fit : (kind one two : List ℕ) (count : ℕ) (start : List ℕ) → RowsRead kind one two count start → (boards words : List ℕ) (r : Expanded)
+    → outcome_of r boards words ≡ expanded_of (rows_of kind one two count) → (messages : ℕ) → r ≡ expanded.Messages messages
+    → length boards ≡ 2 * messages_most → length words ≡ 2 * messages_most * width → Fit messages boards words
+one_fit kind one two count start lent boards words r h messages i b w =
+    let file = rows_of kind one two count in
+    let S = scenario_in messages boards words in
+    let e : expanded_with [] file ≡ ok S = sym h ∙ ap (λ (q : Expanded). outcome_of q boards words) i in
+    let fits = read_fits lent.read.0 lent.read.1 file lent.read.2 in
+    fit_from messages boards words b w (walk_count [] file fits S e) (walk_boards [] file fits S e)

@@ -1,175 +1,172 @@
 -- What `walk_twice` is to show, from where its two walks end and the race that one round has. Assumes nothing.
-use Prim.Native.Nat.{ℕ, _*_, _≤_}
+use Prim.Native.Nat.{ℕ, ◌*◌, ◌≤◌}
 use native.Mathlib.Omega.{arith}
-use mathlib.Core.Path.{_≡_, refl, sym, _∙_, ap, subst}
+use mathlib.Core.Path.{◌≡◌, sym, ◌∙◌, ap, subst}
 use mathlib.Core.List.{List, []}
-use mathlib.Core.Option.{Option, none, some}
 use lib.ListN.{length}
-use Rattle·model.specs.Limits.{boards, messagesMost, rowsMost, callsMost}
-use Rattle·model.specs.Refusal.{Out, ok, refusal, andThen}
-use Rattle·model.specs.Rows.{Row}
-use Rattle·model.specs.Expansion.{Progress, expand}
-use Rattle·model.specs.Order.{Scenario, Exchange, scenarioOf, Met, nothingMet, metOps, exchangeOf}
-use Rattle·model.specs.Race.{RaceRule, raceRuleOf, lowestRace}
-use Rattle·model.specs.Choice.{Plain}
-use Rattle·model.specs.Rounds.{rounds, walkedAgain}
-use Rattle·model.proofs.Standing.{Fits, read-fits}
-use Rattle·model.proofs.Walked.{Sound}
-use Rattle·model.proofs.Asking.{walkOn}
-use Rattle·model.proofs.WithoutChoices.{walk-plain}
-use Rattle·model.proofs.Twice.{walk-later}
-use Rattle·model.proofs.TwoWalks.{two-walks}
-use Rattle·relation.specs.Width.{width}
-use Rattle·relation.specs.Scenario.{scenarioIn}
-use Rattle·sheet.specs.Bridge.{rowsOf}
-use Rattle·sheet.proofs.Bridge.{rows-length}
-use Rattle·blocks.specs.Store.{Store, storeOf, walkedOn}
-use Rattle·blocks.proofs.Again.{Alongside, again, ended-scenario, once-ended, once-refused, again-ended, again-refused}
-use Rattle·walk.specs.Block.{stateOf}
-use Rattle·walk.specs.declared.Walk.{Walk}
-use Rattle·levels.specs.Options.{optionsOf}
-use Rattle·expansion.specs.Lent.{RowsRead}
-use Rattle·expansion.specs.Outcome.{zeros}
-use Rattle·expansion.specs.Ends.{beginning, Rests, RestsAt, endedOf, Ends}
-use Rattle·expansion.specs.declared.Ended.{Ended}
-use Rattle·expansion.specs.declared.Ended.the-variants as ended
-use Rattle·expansion.proofs.Whole.{nothing-begins}
-use Rattle·expansion.proofs.Reading.{sheets-lent}
-use Rattle·scenario.specs.Contract.{Fit}
-use Rattle·at_or_before.specs.Lent.{Lent}
-use Rattle·race.specs.declared.Rule.{Rule}
-use Rattle·race.specs.Bridge.{ruleIn}
-use Rattle·lowest_race.specs.declared.Lowest.{Lowest}
-use Rattle·lowest_race.specs.declared.Lowest.the-variants as lowest
-use Rattle·lowest_race.specs.Named.{raceIn}
-use Rattle·second_walk·specs.specs.Walks.{rowsRepeatable, OneLocks, OneFrees}
-use Rattle·second_walk·proofs.proofs.Plain.{walked-plain}
+use Rattle.model.specs.Limits.{boards, messages_most, rows_most, calls_most}
+use Rattle.model.specs.Refusal.{Out, ok, refusal, and_then}
+use Rattle.model.specs.Rows.{Row}
+use Rattle.model.specs.Expansion.{Progress, expand}
+use Rattle.model.specs.Order.{Scenario, scenario_of, Met, nothing_met, met_ops, exchange_of}
+use Rattle.model.specs.Race.{race_rule_of, lowest_race}
+use Rattle.model.specs.Choice.{Plain}
+use Rattle.model.specs.Rounds.{rounds, walked_again}
+use Rattle.model.proofs.Standing.{Fits, read_fits}
+use Rattle.model.proofs.WithoutChoices.{walk_plain}
+use Rattle.model.proofs.Twice.{walk_later}
+use Rattle.model.proofs.TwoWalks.{two_walks_holds}
+use Rattle.relation.specs.Width.{width}
+use Rattle.relation.specs.Scenario.{scenario_in}
+use Rattle.sheet.specs.Bridge.{rows_of}
+use Rattle.sheet.proofs.Bridge.{rows_length}
+use Rattle.blocks.specs.Store.{Store, store_of, walked_on}
+use Rattle.blocks.proofs.Again.{Alongside, again, ended_scenario, once_ended, once_refused, again_ended, again_refused}
+use Rattle.walk.specs.Block.{state_of}
+use Rattle.walk.specs.declared.Walk.{Walk}
+use Rattle.levels.specs.Options.{options_of}
+use Rattle.expansion.specs.Lent.{RowsRead}
+use Rattle.expansion.specs.Outcome.{zeros}
+use Rattle.expansion.specs.Ends.{beginning, Rests, RestsAt, ended_of, Ends}
+use Rattle.expansion.specs.declared.Ended.{Ended}
+use Rattle.expansion.specs.declared.Ended.TheVariants as ended
+use Rattle.expansion.proofs.Whole.{nothing_begins}
+use Rattle.expansion.proofs.Reading.{sheets_lent}
+use Rattle.scenario.specs.Contract.{Fit}
+use Rattle.at_or_before.specs.Lent.{Lent}
+use Rattle.race.specs.declared.Rule.{Rule}
+use Rattle.race.specs.Bridge.{rule_in}
+use Rattle.lowest_race.specs.declared.Lowest.{Lowest}
+use Rattle.lowest_race.specs.declared.Lowest.TheVariants as lowest
+use Rattle.lowest_race.specs.Named.{race_in}
+use Rattle.second_walk.specs.Walks.{rows_repeatable, OneLocks, OneFrees}
+use Rattle.second_walk.proofs.Plain.{walked_plain}
 
 -- a walk that rests has its scenario in boards and words
 module _ (r : Ended) (t : Store) (expected : Out (Progress Store)) (h : Ends r t expected) (w : Walk) (i : r ≡ ended.At w) where
-  pub ends-rests : Rests w t
-  ends-rests = subst (λ (q : Ended). RestsAt q t) i (h .rests)
+  pub ends_rests : Rests w t
+  ends_rests = subst (λ (q : Ended). RestsAt q t) i h.rests
 
-  ends-at : expected ≡ ok (stateOf w t)
-  ends-at = sym (h .exact) ∙ ap (λ (q : Ended). endedOf q t) i
+  ends_at : expected ≡ ok (state_of w t)
+  ends_at = sym h.exact ∙ ap (λ (q : Ended). ended_of q t) i
 
-  pub ends-fit : Fit (w .count) (t .events) (t .words)
-  ends-fit =
-      let m = ends-rests .room in
-      record { few = m .countMost; boardsLong = m .eventsLong; wordsLong = m .wordsLong; boardsBelow = λ x l. m .boardsMost x }
+  pub ends_fit : Fit w.count t.events t.words
+  ends_fit =
+      let m = ends_rests.room in
+      record { few = m.count_most; boards_long = m.events_long; words_long = m.words_long; boards_below = λ x l. m.boards_most x }
 
-  pub ends-lent : Lent (w .count) (t .events) (t .words)
-  ends-lent =
-      let m = ends-rests .room in
+  pub ends_lent : Lent w.count t.events t.words
+  ends_lent =
+      let m = ends_rests.room in
       record {
-        boardsLong = omega (arith, m .countMost, m .eventsLong);
-        wordsLong = omega (arith, m .countMost, m .wordsLong);
-        rowLong = omega (arith, m .countMost);
-        boardsBelow = λ x l. m .boardsMost x;
+        boards_long = omega (arith, m.count_most, m.events_long);
+        words_long = omega (arith, m.count_most, m.words_long);
+        row_long = omega (arith, m.count_most);
+        boards_below = λ x l. m.boards_most x;
       }
 
 -- a walk goes on from where another rests: with no more messages, and room for what is past
-pub rests-on : (w v : Walk) (events words past past′ : List ℕ) → Rests w (storeOf events words past) → length past′ ≡ boards * width → v .calls ≤ callsMost
-    → v .first ≡ v .count → v .count ≤ w .count → Rests v (storeOf events words past′)
-rests-on w v events words past past′ r l few empty less =
-    let m = r .room in
+pub rests_on : (w v : Walk) (events words past past' : List ℕ) → Rests w (store_of events words past) → length past' ≡ boards * width → v.calls ≤ calls_most
+    → v.first ≡ v.count → v.count ≤ w.count → Rests v (store_of events words past')
+rests_on w v events words past past' r l few empty less =
+    let m = r.room in
     record {
       few = few;
       empty = empty;
       room = record {
-        eventsLong = m .eventsLong;
-        wordsLong = m .wordsLong;
-        pastLong = l;
-        firstMost = omega arith;
-        countMost = omega (arith, m .countMost);
-        boardsMost = m .boardsMost;
+        events_long = m.events_long;
+        words_long = m.words_long;
+        past_long = l;
+        first_most = omega arith;
+        count_most = omega (arith, m.count_most);
+        boards_most = m.boards_most;
       };
     }
 
-ends-refused : (r : Ended) (t : Store) (expected : Out (Progress Store)) → Ends r t expected → (number line : ℕ) → r ≡ ended.Refused number line
+ends_refused : (r : Ended) (t : Store) (expected : Out (Progress Store)) → Ends r t expected → (number line : ℕ) → r ≡ ended.Refused number line
     → expected ≡ refusal number line
-ends-refused r t expected h number line i = sym (h .exact) ∙ ap (λ (q : Ended). endedOf q t) i
+ends_refused r t expected h number line i = sym h.exact ∙ ap (λ (q : Ended). ended_of q t) i
 
-module _ (kind one two : List ℕ) (count : ℕ) (start : List ℕ) (lent : RowsRead kind one two count start) (plain : Plain (rowsOf kind one two count))
-    (options : ℕ) (words : List ℕ) (l : length words ≡ 2 * messagesMost * width) (r : Ended) (t : Store)
-    (h : Ends r t (walkedOn (optionsOf options) (rowsOf kind one two count) (beginning words))) where
+module _ (kind one two : List ℕ) (count : ℕ) (start : List ℕ) (lent : RowsRead kind one two count start) (plain : Plain (rows_of kind one two count))
+    (options : ℕ) (words : List ℕ) (l : length words ≡ 2 * messages_most * width) (r : Ended) (t : Store)
+    (h : Ends r t (walked_on (options_of options) (rows_of kind one two count) (beginning words))) where
   abbrev file : List Row
-  file = rowsOf kind one two count
+  file = rows_of kind one two count
 
   abbrev nothing : Store
-  nothing = storeOf (zeros (2 * messagesMost)) words (zeros (boards * width))
+  nothing = store_of (zeros (2 * messages_most)) words (zeros (boards * width))
 
   fits : Fits [] file
-  fits = read-fits (lent .read .0) (lent .read .1) file (lent .read .2)
+  fits = read_fits lent.read.0 lent.read.1 file lent.read.2
 
-  few : length file ≤ rowsMost
-  few = omega (arith, rows-length kind one two 0 count, sheets-lent kind one two count start lent 0 .rows .few)
+  few : length file ≤ rows_most
+  few = omega (arith, rows_length kind one two 0 count, (sheets_lent kind one two count start lent 0).rows.few)
 
   -- the first walk is refused
-  pub first-refused : (number line : ℕ) → r ≡ ended.Refused number line → rowsRepeatable file ≡ refusal number line
-  unfolding rowsRepeatable andThen
-  first-refused number line i =
-      let e : expand metOps [] file nothingMet ≡ refusal number line =
-      sym (walk-plain file plain (optionsOf options))
-      ∙ once-refused (optionsOf options) file fits nothing (nothing-begins words l) number line (ends-refused r t _ h number line i) in
+  pub first_refused : (number line : ℕ) → r ≡ ended.Refused number line → rows_repeatable file ≡ refusal number line
+  unfolding rows_repeatable and_then
+  first_refused number line i =
+      let e : expand met_ops [] file nothing_met ≡ refusal number line =
+      sym (walk_plain file plain (options_of options))
+      ∙ once_refused (options_of options) file fits nothing (nothing_begins words l) number line (ends_refused r t _ h number line i) in
       rw e
 
   module _ (w : Walk) (i : r ≡ ended.At w) where
-    beside : Alongside (expand metOps [] file nothingMet) (stateOf w t)
+    beside : Alongside (expand met_ops [] file nothing_met) (state_of w t)
     beside =
-        subst (λ (o : Out (Progress Met)). Alongside o (stateOf w t)) (walk-plain file plain (optionsOf options))
-        (once-ended (optionsOf options) file fits nothing (nothing-begins words l) (stateOf w t) (ends-at r t _ h w i))
+        subst (λ (o : Out (Progress Met)). Alongside o (state_of w t)) (walk_plain file plain (options_of options))
+        (once_ended (options_of options) file fits nothing (nothing_begins words l) (state_of w t) (ends_at r t _ h w i))
 
     abbrev s : Progress Met
-    s = record { walk = beside .walk; kept = beside .kept }
+    s = record { walk = beside.walk; kept = beside.kept }
 
-    one-scenario : scenarioIn (w .count) (t .events) (t .words) ≡ scenarioOf (exchangeOf s)
-    one-scenario = ended-scenario beside
+    one_scenario : scenario_in w.count t.events t.words ≡ scenario_of (exchange_of s)
+    one_scenario = ended_scenario beside
 
-    again-is : again (optionsOf options) file fits s ≡ walkedAgain file s
-    unfolding walkedAgain
-    again-is = walked-plain metOps (optionsOf options) file plain few _
+    again_is : again (options_of options) file fits s ≡ walked_again file s
+    unfolding walked_again
+    again_is = walked_plain met_ops (options_of options) file plain few _
 
-    module _ (r′ : Ended) (t′ : Store) (h′ : Ends r′ t′ (walkedOn (optionsOf options) file (stateOf w t))) where
-      pub second-refused : (number line : ℕ) → r′ ≡ ended.Refused number line → rowsRepeatable file ≡ refusal number line
-      unfolding rowsRepeatable andThen
-      second-refused number line i′ =
-          let e : walkedAgain file s ≡ refusal number line =
-          sym again-is ∙ again-refused (optionsOf options) file fits beside number line (ends-refused r′ t′ _ h′ number line i′) in
-          rw (beside .isMet, e)
+    module _ (r' : Ended) (t' : Store) (h' : Ends r' t' (walked_on (options_of options) file (state_of w t))) where
+      pub second_refused : (number line : ℕ) → r' ≡ ended.Refused number line → rows_repeatable file ≡ refusal number line
+      unfolding rows_repeatable and_then
+      second_refused number line i' =
+          let e : walked_again file s ≡ refusal number line =
+          sym again_is ∙ again_refused (options_of options) file fits beside number line (ends_refused r' t' _ h' number line i') in
+          rw (beside.is_met, e)
 
-      module _ (w′ : Walk) (i′ : r′ ≡ ended.At w′) where
-        beside′ : Alongside (walkedAgain file s) (stateOf w′ t′)
-        beside′ =
-            subst (λ (o : Out (Progress Met)). Alongside o (stateOf w′ t′)) again-is
-            (again-ended (optionsOf options) file fits beside (stateOf w′ t′) (ends-at r′ t′ _ h′ w′ i′))
+      module _ (w' : Walk) (i' : r' ≡ ended.At w') where
+        beside' : Alongside (walked_again file s) (state_of w' t')
+        beside' =
+            subst (λ (o : Out (Progress Met)). Alongside o (state_of w' t')) again_is
+            (again_ended (options_of options) file fits beside (state_of w' t') (ends_at r' t' _ h' w' i'))
 
-        is-one : rowsRepeatable file ≡ ok (exchangeOf s)
-        unfolding rowsRepeatable andThen
-        is-one = rw (beside .isMet, beside′ .isMet)
+        is_one_holds : rows_repeatable file ≡ ok (exchange_of s)
+        unfolding rows_repeatable and_then
+        is_one_holds = rw (beside.is_met, beside'.is_met)
 
-        two-scenario : scenarioIn (w′ .count) (t′ .events) (t′ .words) ≡ scenarioOf (rounds (exchangeOf s) 2)
-        two-scenario =
-            ended-scenario beside′
-            ∙ two-walks s (record { walk = beside′ .walk; kept = beside′ .kept }) (beside .sound)
-            (walk-later s file (record { walk = beside′ .walk; kept = beside′ .kept }) (beside .isMet) (beside′ .isMet))
+        two_scenario : scenario_in w'.count t'.events t'.words ≡ scenario_of (rounds (exchange_of s) 2)
+        two_scenario =
+            ended_scenario beside'
+            ∙ two_walks_holds s (record { walk = beside'.walk; kept = beside'.kept }) beside.sound
+            (walk_later s file (record { walk = beside'.walk; kept = beside'.kept }) beside.is_met beside'.is_met)
 
-        module _ (code : ℕ) (rule : Rule) (v : Lowest) (same : ruleIn rule ≡ raceRuleOf code)
-            (found : raceIn v ≡ lowestRace (scenarioIn (w .count) (t .events) (t .words)) (ruleIn rule)) where
-          race-is : (o : Lowest) → v ≡ o → lowestRace (scenarioOf (exchangeOf s)) (raceRuleOf code) ≡ raceIn o
-          race-is o e =
-              ap (λ (S : Scenario). lowestRace S (raceRuleOf code)) (sym one-scenario)
-              ∙ ap (lowestRace (scenarioIn (w .count) (t .events) (t .words))) (sym same) ∙ sym found ∙ ap raceIn e
+        module _ (code : ℕ) (rule : Rule) (v : Lowest) (same : rule_in rule ≡ race_rule_of code)
+            (found : race_in v ≡ lowest_race (scenario_in w.count t.events t.words) (rule_in rule)) where
+          race_is : (o : Lowest) → v ≡ o → lowest_race (scenario_of (exchange_of s)) (race_rule_of code) ≡ race_in o
+          race_is o e =
+              ap (λ (S : Scenario). lowest_race S (race_rule_of code)) (sym one_scenario)
+              ∙ ap (lowest_race (scenario_in w.count t.events t.words)) (sym same) ∙ sym found ∙ ap race_in e
 
-          pub one-locks : (e x : ℕ) → v ≡ lowest.Race e x → OneLocks (rowsRepeatable file) code
-          one-locks e x n = record { one = exchangeOf s; isOne = is-one; message = e; event = x; race = race-is (lowest.Race e x) n }
+          pub one_locks : (e x : ℕ) → v ≡ lowest.Race e x → OneLocks (rows_repeatable file) code
+          one_locks e x n = record { one = exchange_of s; is_one = is_one_holds; message = e; event = x; race = race_is (lowest.Race e x) n }
 
-          pub one-frees : v ≡ lowest.Nothing → OneFrees (rowsRepeatable file) code (t′ .events) (t′ .words) (w′ .count)
-          one-frees n =
+          pub one_frees : v ≡ lowest.Nothing → OneFrees (rows_repeatable file) code t'.events t'.words w'.count
+          one_frees n =
               record {
-                one = exchangeOf s;
-                isOne = is-one;
-                noRace = race-is lowest.Nothing n;
-                isTwo = two-scenario;
-                fit = ends-fit r′ t′ _ h′ w′ i′;
+                one = exchange_of s;
+                is_one = is_one_holds;
+                no_race = race_is lowest.Nothing n;
+                is_two = two_scenario;
+                fit = ends_fit r' t' _ h' w' i';
               }

@@ -1,40 +1,38 @@
 -- What the rows walked twice come to. Assumes nothing.
-use Prim.Native.Nat.{ℕ}
-use mathlib.Core.Path.{_≡_}
-use mathlib.Core.List.{List, []}
-use mathlib.Core.Option.{none}
-use Rattle·model.specs.Refusal.{Out, ok, refusal, andThen}
-use Rattle·model.specs.Rows.{Row}
-use Rattle·model.specs.Expansion.{expand}
-use Rattle·model.specs.Order.{Exchange, scenarioOf, nothingMet, metOps, exchangeOf}
-use Rattle·model.specs.Race.{raceRuleOf, lowestRace}
-use Rattle·model.specs.Rounds.{rounds, walkedAgain}
-use Rattle·relation.specs.Scenario.{scenarioIn}
-use Rattle·scenario.specs.Contract.{Fit}
-use Rattle·verdict.specs.Parts.{IsRace}
-use Rattle·second_walk·specs.specs.declared.Twice.{Twice}
-use Rattle·second_walk·specs.specs.declared.Twice.the-variants.{OneLocked, OneFree, Refused}
+use Rattle.std.specs.Prelude.{ℕ, ◌≡◌, List, []}
+use Rattle.std.proofs.Math.Option.{none}
+use Rattle.model.specs.Refusal.{Out, ok, refusal, and_then}
+use Rattle.model.specs.Rows.{Row}
+use Rattle.model.specs.Expansion.{expand}
+use Rattle.model.specs.Order.{Exchange, scenario_of, nothing_met, met_ops, exchange_of}
+use Rattle.model.specs.Race.{race_rule_of, lowest_race}
+use Rattle.model.specs.Rounds.{rounds, walked_again}
+use Rattle.relation.specs.Scenario.{scenario_in}
+use Rattle.scenario.specs.Contract.{Fit}
+use Rattle.verdict.specs.Parts.{IsRace}
+use Rattle.second_walk.specs.declared.Twice.{Twice}
+use Rattle.second_walk.specs.declared.Twice.TheVariants.{OneLocked, OneFree, Refused}
 
 -- the exchange of one round, unless one of two walks is refused
-unfoldable pub rowsRepeatable : List Row → Out Exchange
-rowsRepeatable file =
-    andThen (expand metOps [] file nothingMet) (λ s. andThen (walkedAgain file s) (λ t. ok (exchangeOf s)))
+unfoldable pub rows_repeatable : List Row → Out Exchange
+rows_repeatable file =
+    and_then (expand met_ops [] file nothing_met) (λ s. and_then (walked_again file s) (λ t. ok (exchange_of s)))
 
 module _ (o : Out Exchange) (code : ℕ) where
   -- neither walk is refused, and one round has a race
   pub record OneLocks : Type 0 where
     pub one : Exchange
-    pub isOne : o ≡ ok one
+    pub is_one : o ≡ ok one
     pub message : ℕ
     pub event : ℕ
-    pub race : IsRace (scenarioOf one) code message event
+    pub race : IsRace (scenario_of one) code message event
 
   -- neither is refused, one round has no race, and two rounds are in boards and words
   pub record OneFrees (boards words : List ℕ) (count : ℕ) : Type 0 where
     pub one : Exchange
-    pub isOne : o ≡ ok one
-    pub noRace : lowestRace (scenarioOf one) (raceRuleOf code) ≡ none
-    pub isTwo : scenarioIn count boards words ≡ scenarioOf (rounds one 2)
+    pub is_one : o ≡ ok one
+    pub no_race : lowest_race (scenario_of one) (race_rule_of code) ≡ none
+    pub is_two : scenario_in count boards words ≡ scenario_of (rounds one 2)
     pub fit : Fit count boards words
 
   abbrev pub Walks : List ℕ → List ℕ → Twice → Type 0

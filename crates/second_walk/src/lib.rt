@@ -1,28 +1,27 @@
 // The rows of a sheet walked twice: one round is judged after the first walk and two after the second, whose rows stand in the same words.
-ghost use mathlib.Core.Path.{_≡_};
-ghost use Prim.Native.Nat.{_*_, _<_, _≤_};
-ghost use lib.ListN.{length};
-ghost use Rattle·model.specs.Limits.{channels, messagesMost, traceLeast};
-ghost use Rattle·model.specs.Answer.{verdictOf};
-ghost use Rattle·model.specs.Choice.{Plain};
-ghost use Rattle·model.specs.Rounds.{roundsAnswer};
-ghost use Rattle·relation.specs.Width.{width};
-ghost use Rattle·relation.specs.Scenario.{scenarioIn};
-ghost use Rattle·sheet.specs.Bridge.{rowsOf};
-ghost use Rattle·expansion.specs.Lent.{RowsRead};
-ghost use Rattle·scenario.specs.Contract.{Fit};
-ghost use Rattle·second_walk·specs.specs.Walks.{rowsRepeatable, OneLocks, Walks};
-ghost use Rattle·second_walk·specs.specs.Judged.{timesVerdict, Judges};
+#![tactic(auto)]
+
+ghost use Rattle.std.specs.Prelude.{◌≡◌, ◌*◌, ◌<◌, ◌≤◌, length};
+ghost use Rattle.model.specs.Limits.{channels, messages_most, trace_least};
+ghost use Rattle.model.specs.Answer.{verdict_of};
+ghost use Rattle.model.specs.Choice.{Plain};
+ghost use Rattle.model.specs.Rounds.{rounds_answer};
+ghost use Rattle.relation.specs.Width.{width};
+ghost use Rattle.relation.specs.Scenario.{scenario_in};
+ghost use Rattle.sheet.specs.Bridge.{rows_of};
+ghost use Rattle.expansion.specs.Lent.{RowsRead};
+ghost use Rattle.scenario.specs.Contract.{Fit};
+ghost use Rattle.second_walk.specs.Walks.{rows_repeatable, OneLocks, Walks};
+ghost use Rattle.second_walk.specs.Judged.{times_verdict, Judges};
+
 use blocks::PAST;
-use expansion::Ended;
-use expansion::Expanded;
-use expansion::walk_on;
-use expansion::walk_once;
+use expansion::{Ended, Expanded, walk_on, walk_once};
 use lowest_race::Lowest;
 use verdict::Answer;
 
 // Free on every number of rounds; locked, with the race's message and event, the number of steps in the trace and the fewest rounds that
 // lock; or refused, with number and line.
+#[derive(Clone, Copy)]
 pub enum Rounds {
     Free,
     Locked(usize, usize, usize, usize),
@@ -31,6 +30,7 @@ pub enum Rounds {
 
 // What two walks come to: one round is locked; it is free, and so many messages of two rounds are in boards and words; or the refusal's
 // number and line.
+#[derive(Clone, Copy)]
 pub enum Twice {
     OneLocked,
     OneFree(usize),
@@ -56,24 +56,16 @@ fn walk_twice(
     boards: &mut [u8],
     words: &mut [u64],
 ) -> Twice
-    requires { ⌜ RowsRead (now kind) (now one) (now two) count (now start) ⌝ }
-    requires { ⌜ Plain (rowsOf (now kind) (now one) (now two) count) ⌝ }
-    requires { ⌜ code < channels ⌝ }
-    requires { ⌜ (length (now boards) ≡ 2 * messagesMost) × (length (now words) ≡ 2 * messagesMost * width) ⌝ }
-    ensures { λ r. ⌜ Walks (rowsRepeatable (rowsOf (now (kind .entry)) (now (one .entry)) (now (two .entry)) count)) code (now (boards .exit)) (now (words .exit)) r ⌝ }
+    requires rows_read { RowsRead kind.now one.now two.now count start.now }
+    requires plain { Plain (rows_of kind.now one.now two.now count) }
+    requires code_lt_channels { code < channels }
+    requires boards_len { (length boards.old ≡ 2 * messages_most) × (length words.old ≡ 2 * messages_most * width) }
+    ensures { Walks (rows_repeatable (rows_of kind.now one.now two.now count)) code boards.new words.new result }
 {
     let mut past = [0u64; PAST];
     let rule = race::rule_of(code);
     let first = walk_once(
-        kind,
-        one,
-        two,
-        count,
-        start,
-        PLAIN,
-        boards,
-        words,
-        &mut past,
+        kind, one, two, count, start, PLAIN, boards, words, &mut past,
     );
     match first {
         Ended::Refused(number, line) => Twice::Refused(number, line),
@@ -81,16 +73,7 @@ fn walk_twice(
             let messages = once.count;
             let lowest = lowest_race::lowest_race(words, boards, messages, rule);
             let second = walk_on(
-                kind,
-                one,
-                two,
-                count,
-                start,
-                PLAIN,
-                boards,
-                words,
-                &mut past,
-                once,
+                kind, one, two, count, start, PLAIN, boards, words, &mut past, once,
             );
             match second {
                 Ended::Refused(limit, line) => Twice::Refused(limit, line),
@@ -112,9 +95,9 @@ fn decide_rounds(
     rounds: usize,
     trace: &mut [u8],
 ) -> Rounds
-    requires { ⌜ Fit count (now boards) (now words) ⌝ }
-    requires { ⌜ (code < channels) × (traceLeast ≤ length (now trace)) ⌝ }
-    ensures { λ r. ⌜ Judges (timesVerdict rounds (verdictOf (scenarioIn count (now (boards .entry)) (now (words .entry))) code)) (now (trace .entry)) (now (trace .exit)) r ⌝ }
+    requires fit { Fit count boards.now words.now }
+    requires code_lt_channels { (code < channels) × (trace_least ≤ length trace.old) }
+    ensures { Judges (times_verdict rounds (verdict_of (scenario_in count boards.now words.now) code)) trace.old trace.new result }
 {
     let answer = verdict::decide(words, boards, count, code, trace);
     match answer {
@@ -136,12 +119,12 @@ fn lock_one(
     words: &mut [u64],
     trace: &mut [u8],
 ) -> Rounds
-    requires { ⌜ RowsRead (now kind) (now one) (now two) count (now start) ⌝ }
-    requires { ⌜ Plain (rowsOf (now kind) (now one) (now two) count) ⌝ }
-    requires { ⌜ OneLocks (rowsRepeatable (rowsOf (now kind) (now one) (now two) count)) code ⌝ }
-    requires { ⌜ (code < channels) × (traceLeast ≤ length (now trace)) ⌝ }
-    requires { ⌜ (length (now boards) ≡ 2 * messagesMost) × (length (now words) ≡ 2 * messagesMost * width) ⌝ }
-    ensures { λ r. ⌜ Judges (roundsAnswer (rowsRepeatable (rowsOf (now (kind .entry)) (now (one .entry)) (now (two .entry)) count)) code) (now (trace .entry)) (now (trace .exit)) r ⌝ }
+    requires rows_read { RowsRead kind.now one.now two.now count start.now }
+    requires plain { Plain (rows_of kind.now one.now two.now count) }
+    requires one_locks { OneLocks (rows_repeatable (rows_of kind.now one.now two.now count)) code }
+    requires code_lt_channels { (code < channels) × (trace_least ≤ length trace.old) }
+    requires boards_len { (length boards.old ≡ 2 * messages_most) × (length words.old ≡ 2 * messages_most * width) }
+    ensures { Judges (rounds_answer (rows_repeatable (rows_of kind.now one.now two.now count)) code) trace.old trace.new result }
 {
     let expanded = expansion::expand(kind, one, two, count, start, boards, words);
     match expanded {
@@ -164,11 +147,11 @@ pub fn judge_rows(
     words: &mut [u64],
     trace: &mut [u8],
 ) -> Rounds
-    requires { ⌜ RowsRead (now kind) (now one) (now two) count (now start) ⌝ }
-    requires { ⌜ Plain (rowsOf (now kind) (now one) (now two) count) ⌝ }
-    requires { ⌜ (code < channels) × (traceLeast ≤ length (now trace)) ⌝ }
-    requires { ⌜ (length (now boards) ≡ 2 * messagesMost) × (length (now words) ≡ 2 * messagesMost * width) ⌝ }
-    ensures { λ r. ⌜ Judges (roundsAnswer (rowsRepeatable (rowsOf (now (kind .entry)) (now (one .entry)) (now (two .entry)) count)) code) (now (trace .entry)) (now (trace .exit)) r ⌝ }
+    requires rows_read { RowsRead kind.now one.now two.now count start.now }
+    requires plain { Plain (rows_of kind.now one.now two.now count) }
+    requires code_lt_channels { (code < channels) × (trace_least ≤ length trace.old) }
+    requires boards_len { (length boards.old ≡ 2 * messages_most) × (length words.old ≡ 2 * messages_most * width) }
+    ensures { Judges (rounds_answer (rows_repeatable (rows_of kind.now one.now two.now count)) code) trace.old trace.new result }
 {
     let walks = walk_twice(kind, one, two, count, start, code, boards, words);
     match walks {

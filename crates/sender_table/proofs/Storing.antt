@@ -1,123 +1,123 @@
 -- The loop over the rules keeps to the model: each line read, and stored. Assumes nothing.
-use Prim.Native.Nat.{ℕ, suc, _+_, _-_, _≤_, _<_}
+use Prim.Native.Nat.{ℕ, suc, ◌+◌, ◌-◌, ◌≤◌, ◌<◌}
 use native.Mathlib.Numerals.{add-one}
 use native.Mathlib.Omega.{arith}
-use mathlib.Core.Path.{_≡_, refl, sym, _∙_, ap, subst}
+use mathlib.Core.Path.{◌≡◌, refl, sym, ◌∙◌, ap, subst}
 use mathlib.Core.Bool.{cond}
-use mathlib.Core.List.{List, [], _∷_, _++_}
+use mathlib.Core.List.{List, [], ◌∷◌, ◌++◌}
 use mathlib.Core.Option.{none, some}
 use borrow.Author.Tests.{lt-ltb, le-ltb}
 use lib.Dec.{ltb}
-use lib.ListN.{length, take, drop, set, length-set, drop-of-length-le}
+use lib.ListN.{length, take, drop, set, length-set, drop_of_length-le}
 use lib.Seq.{take-suc-set}
-use Rattle·model.specs.Limits.{rulesMost}
-use Rattle·model.specs.Refusal.{Out, ok, refusal, senderTableRefusal}
-use Rattle·model.specs.Text.{Line, linesOf}
-use Rattle·model.specs.Place.{lineOf}
-use Rattle·model.specs.Senders.{ruleOf, aheadOfRule, rulesFrom}
-use Rattle·model.specs.Senders as senders
-use Rattle·line.specs.Scan.{firstLine, behindLine}
-use Rattle·line.proofs.Lines.{lines-at}
-use Rattle·coverage.specs.Rules.{ruleAs, rulesAs}
-use Rattle·coverage.specs.declared.Rule.{Rule}
-use Rattle·sender_table·specs.specs.Table.{readingFrom, RuleAs, outcomeAs, Few, RulesAs}
-use Rattle·sender_table·specs.specs.declared.Reading.{Reading}
-use Rattle·sender_table·specs.specs.declared.Reading.the-variants as reading
-use Rattle·sender_table·specs.specs.declared.Verdict.{Verdict}
-use Rattle·sender_table·specs.specs.declared.Verdict.the-variants as verdict
-use Rattle·sender_table·specs.specs.declared.Table.{Table}
+use Rattle.model.specs.Limits.{rules_most}
+use Rattle.model.specs.Refusal.{Out, ok, refusal, sender_table_refusal}
+use Rattle.model.specs.Text.{Line, lines_of}
+use Rattle.model.specs.Place.{line_of}
+use Rattle.model.specs.Senders.{rule_of, ahead_of_rule, rules_from}
+use Rattle.model.specs.Senders as senders
+use Rattle.line.specs.Scan.{first_line, behind_line}
+use Rattle.line.proofs.Lines.{lines_at}
+use Rattle.coverage.specs.Rules.{rule_as, rules_as}
+use Rattle.coverage.specs.declared.Rule.{Rule}
+use Rattle.sender_table.specs.Table.{reading_from, RuleAs, outcome_as, Few, RulesAs}
+use Rattle.sender_table.specs.declared.Reading.{Reading}
+use Rattle.sender_table.specs.declared.Reading.TheVariants as reading
+use Rattle.sender_table.specs.declared.Verdict.{Verdict}
+use Rattle.sender_table.specs.declared.Verdict.TheVariants as verdict
+use Rattle.sender_table.specs.declared.Table.{Table}
 
 -- rules ahead of what is still to be read
-pub aheadAll : List Rule → Out (List senders.Rule) → Out (List senders.Rule)
-aheadAll [] o = o
-aheadAll (r ∷ rs) o = aheadOfRule (ruleAs r) (aheadAll rs o)
+pub ahead_all : List Rule → Out (List senders.Rule) → Out (List senders.Rule)
+ahead_all [] o = o
+ahead_all (r ∷ rs) o = ahead_of_rule (rule_as r) (ahead_all rs o)
 
-ahead-snoc : (rs : List Rule) (r : Rule) (o : Out (List senders.Rule)) → aheadAll (rs ++ (r ∷ [])) o ≡ aheadAll rs (aheadOfRule (ruleAs r) o)
-unfolding aheadAll
-ahead-snoc [] r o = refl
-ahead-snoc (q ∷ rs) r o = ap (aheadOfRule (ruleAs q)) (ahead-snoc rs r o)
+ahead_snoc : (rs : List Rule) (r : Rule) (o : Out (List senders.Rule)) → ahead_all (rs ++ (r ∷ [])) o ≡ ahead_all rs (ahead_of_rule (rule_as r) o)
+unfolding ahead_all
+ahead_snoc [] r o = refl
+ahead_snoc (q ∷ rs) r o = ap (ahead_of_rule (rule_as q)) (ahead_snoc rs r o)
 
-ahead-refused : (rs : List Rule) (number line : ℕ) → aheadAll rs (refusal number line) ≡ refusal number line
-unfolding aheadAll aheadOfRule
-ahead-refused [] number line = refl
-ahead-refused (r ∷ rs) number line = ap (aheadOfRule (ruleAs r)) (ahead-refused rs number line)
+ahead_refused : (rs : List Rule) (number line : ℕ) → ahead_all rs (refusal number line) ≡ refusal number line
+unfolding ahead_all ahead_of_rule
+ahead_refused [] number line = refl
+ahead_refused (r ∷ rs) number line = ap (ahead_of_rule (rule_as r)) (ahead_refused rs number line)
 
-ahead-all : (rs : List Rule) → aheadAll rs (ok []) ≡ ok (rulesAs rs)
-unfolding aheadAll aheadOfRule
-ahead-all [] = refl
-ahead-all (r ∷ rs) = ap (aheadOfRule (ruleAs r)) (ahead-all rs)
+ahead_all_holds : (rs : List Rule) → ahead_all rs (ok []) ≡ ok (rules_as rs)
+unfolding ahead_all ahead_of_rule
+ahead_all_holds [] = refl
+ahead_all_holds (r ∷ rs) = ap (ahead_of_rule (rule_as r)) (ahead_all_holds rs)
 
 -- where the reader stands: at a line, behind so many rules
 pub record Looping (text : List ℕ) (first at count : ℕ) (rules : List Rule) : Type 0 where
   pub inside : at ≤ length text
-  pub few : count ≤ rulesMost
-  pub long : length rules ≡ rulesMost
-  pub read : rulesFrom 0 (linesOf (drop first text)) ≡ aheadAll (take count rules) (rulesFrom count (linesOf (drop at text)))
+  pub few : count ≤ rules_most
+  pub long : length rules ≡ rules_most
+  pub read : rules_from 0 (lines_of (drop first text)) ≡ ahead_all (take count rules) (rules_from count (lines_of (drop at text)))
 
-pub loop-begin : (text : List ℕ) (first : ℕ) (rules : List Rule) → first ≤ length text → length rules ≡ rulesMost → Looping text first first 0 rules
-unfolding aheadAll
-loop-begin text first rules h l = record { inside = h; few = omega arith; long = l; read = refl }
+pub loop_begin : (text : List ℕ) (first : ℕ) (rules : List Rule) → first ≤ length text → length rules ≡ rules_most → Looping text first first 0 rules
+unfolding ahead_all
+loop_begin text first rules h l = record { inside = h; few = omega arith; long = l; read = refl }
 
 -- a table refused, with its line
-pub refused-as : (text : List ℕ) (first line : ℕ) (t : Table) → t .verdict ≡ verdict.Malformed line → rulesFrom 0 (linesOf (drop first text)) ≡ refusal senderTableRefusal line
+pub refused_as : (text : List ℕ) (first line : ℕ) (t : Table) → t.verdict ≡ verdict.Malformed line → rules_from 0 (lines_of (drop first text)) ≡ refusal sender_table_refusal line
     → RulesAs text first t
-refused-as text first line t e f =
-    record { outcome = ap (λ (v : Verdict). outcomeAs v (t .rules)) e ∙ sym f; few = subst (λ (v : Verdict). Few v) (sym e) tt }
+refused_as text first line t e f =
+    record { outcome = ap (λ (v : Verdict). outcome_as v t.rules) e ∙ sym f; few = subst (λ (v : Verdict). Few v) (sym e) tt }
 
 module _ (text : List ℕ) (first at count : ℕ) (rules : List Rule) (v : Looping text first at count rules) (h : at < length text) where
-  abbrev next-line : Line
-  next-line = firstLine (drop at text)
+  abbrev next_line : Line
+  next_line = first_line (drop at text)
 
   abbrev others : List Line
-  others = linesOf (behindLine (drop at text))
+  others = lines_of (behind_line (drop at text))
 
-  read-line : rulesFrom 0 (linesOf (drop first text)) ≡ aheadAll (take count rules) (rulesFrom count (next-line ∷ others))
-  read-line = v .read ∙ ap (λ (ls : List Line). aheadAll (take count rules) (rulesFrom count ls)) (lines-at text at h)
+  read_line : rules_from 0 (lines_of (drop first text)) ≡ ahead_all (take count rules) (rules_from count (next_line ∷ others))
+  read_line = v.read ∙ ap (λ (ls : List Line). ahead_all (take count rules) (rules_from count ls)) (lines_at text at h)
 
   -- the line is no rule, or one rule too many
-  no-rule : cond (ltb count rulesMost) (ruleOf next-line) none ≡ none → rulesFrom 0 (linesOf (drop first text)) ≡ refusal senderTableRefusal (lineOf count)
-  unfolding rulesFrom
-  no-rule e = read-line ∙ ap (aheadAll (take count rules)) (rw (e, rulesFrom)) ∙ ahead-refused (take count rules) senderTableRefusal (lineOf count)
+  no_rule : cond (ltb count rules_most) (rule_of next_line) none ≡ none → rules_from 0 (lines_of (drop first text)) ≡ refusal sender_table_refusal (line_of count)
+  unfolding rules_from
+  no_rule e = read_line ∙ ap (ahead_all (take count rules)) (rw (e, rules_from)) ∙ ahead_refused (take count rules) sender_table_refusal (line_of count)
 
-  pub loop-full : (t : Table) → t .verdict ≡ verdict.Malformed (count + 2) → rulesMost ≤ count → RulesAs text first t
-  loop-full t e full = refused-as text first (count + 2) t e (no-rule (rw (le-ltb count rulesMost full)))
+  pub loop_full : (t : Table) → t.verdict ≡ verdict.Malformed (count + 2) → rules_most ≤ count → RulesAs text first t
+  loop_full t e full = refused_as text first (count + 2) t e (no_rule (rw (le-ltb count rules_most full)))
 
-  module _ (room : count < rulesMost) (r : Reading) (p : RuleAs text at r) where
-    pub loop-malformed : (t : Table) → t .verdict ≡ verdict.Malformed (count + 2) → r ≡ reading.Malformed → RulesAs text first t
-    loop-malformed t e q =
-        refused-as text first (count + 2) t e
-        (no-rule (rw (lt-ltb count rulesMost room) (sym (p .rule) ∙ ap readingFrom q)))
+  module _ (room : count < rules_most) (r : Reading) (p : RuleAs text at r) where
+    pub loop_malformed : (t : Table) → t.verdict ≡ verdict.Malformed (count + 2) → r ≡ reading.Malformed → RulesAs text first t
+    loop_malformed t e q =
+        refused_as text first (count + 2) t e
+        (no_rule (rw (lt-ltb count rules_most room) (sym p.rule ∙ ap reading_from q)))
 
     module _ (rule : Rule) (next : ℕ) (q : r ≡ reading.Rule rule next) where
-      read-on : RuleAs text at (reading.Rule rule next)
-      read-on = subst (λ (x : Reading). RuleAs text at x) q p
+      read_on : RuleAs text at (reading.Rule rule next)
+      read_on = subst (λ (x : Reading). RuleAs text at x) q p
 
-      pub loop-further : length text - next < length text - at
-      loop-further = omega (arith, read-on .next .further, read-on .next .inside)
+      pub loop_further : length text - next < length text - at
+      loop_further = omega (arith, read_on.next.further, read_on.next.inside)
 
-      a-rule : rulesFrom count (next-line ∷ others) ≡ aheadOfRule (ruleAs rule) (rulesFrom (suc count) (linesOf (drop next text)))
-      unfolding rulesFrom
-      a-rule =
-          let e : cond (ltb count rulesMost) (ruleOf next-line) none ≡ some (ruleAs rule) = rw (lt-ltb count rulesMost room) (sym (read-on .rule)) in
-          rw (e, rulesFrom) (ap (λ (l : List ℕ). aheadOfRule (ruleAs rule) (rulesFrom (suc count) (linesOf l))) (sym (read-on .next .behind)))
+      a_rule : rules_from count (next_line ∷ others) ≡ ahead_of_rule (rule_as rule) (rules_from (suc count) (lines_of (drop next text)))
+      unfolding rules_from
+      a_rule =
+          let e : cond (ltb count rules_most) (rule_of next_line) none ≡ some (rule_as rule) = rw (lt-ltb count rules_most room) (sym read_on.rule) in
+          rw (e, rules_from) (ap (λ (l : List ℕ). ahead_of_rule (rule_as rule) (rules_from (suc count) (lines_of l))) (sym read_on.next.behind))
 
-      pub loop-more : Looping text first next (count + 1) (set rules count rule)
-      loop-more =
-          let l : count < length rules = omega (arith, v .long) in
+      pub loop_more : Looping text first next (count + 1) (set rules count rule)
+      loop_more =
+          let l : count < length rules = omega (arith, v.long) in
           record {
-            inside = read-on .next .inside;
+            inside = read_on.next.inside;
             few = omega arith;
-            long = length-set rules count rule ∙ v .long;
-            read = rw (add-one count) (read-line ∙ ap (aheadAll (take count rules)) a-rule
-                ∙ sym (ahead-snoc (take count rules) rule (rulesFrom (suc count) (linesOf (drop next text))))
-                ∙ ap (λ (rs : List Rule). aheadAll rs (rulesFrom (suc count) (linesOf (drop next text)))) (sym (take-suc-set rules count rule l)));
+            long = length-set rules count rule ∙ v.long;
+            read = rw (add-one count) (read_line ∙ ap (ahead_all (take count rules)) a_rule
+                ∙ sym (ahead_snoc (take count rules) rule (rules_from (suc count) (lines_of (drop next text))))
+                ∙ ap (λ (rs : List Rule). ahead_all rs (rules_from (suc count) (lines_of (drop next text)))) (sym (take-suc-set rules count rule l)));
           }
 
-pub loop-done : (text : List ℕ) (first at count : ℕ) (rules : List Rule) → Looping text first at count rules → length text ≤ at
+pub loop_done : (text : List ℕ) (first at count : ℕ) (rules : List Rule) → Looping text first at count rules → length text ≤ at
     → RulesAs text first (record { verdict = verdict.Rules count; rules = rules })
-unfolding rulesFrom linesOf
-loop-done text first at count rules v h =
-    let d : drop at text ≡ [] = drop-of-length-le text h in
-    let e : rulesFrom 0 (linesOf (drop first text)) ≡ ok (rulesAs (take count rules)) =
-    v .read ∙ ap (λ (l : List ℕ). aheadAll (take count rules) (rulesFrom count (linesOf l))) d ∙ ahead-all (take count rules) in
-    record { outcome = sym e; few = v .few }
+unfolding rules_from lines_of
+loop_done text first at count rules v h =
+    let d : drop at text ≡ [] = drop_of_length-le text h in
+    let e : rules_from 0 (lines_of (drop first text)) ≡ ok (rules_as (take count rules)) =
+    v.read ∙ ap (λ (l : List ℕ). ahead_all (take count rules) (rules_from count (lines_of l))) d ∙ ahead_all_holds (take count rules) in
+    record { outcome = sym e; few = v.few }

@@ -1,34 +1,38 @@
 // The reader of a table of permitted senders: any bytes in; its rules, or the line that refusal 18 reports, out.
+#![tactic(auto)]
+
+ghost use Rattle.std.specs.Prelude.{◌≡◌, ◌≤◌, length};
+ghost use Rattle.line.specs.Parts.{Cut};
+ghost use Rattle.sender_table.specs.Table.{NamesIn, NamesAs, RuleIn, RuleAs, RulesAs, TableAs};
+
 use coverage::Rule;
 use fields::Numeral;
-use line::Cuts;
-use line::Split;
+use line::{Cuts, Split};
 use model::RULES_MOST;
-ghost use mathlib.Core.Path.{_≡_};
-ghost use Prim.Native.Nat.{_≤_};
-ghost use lib.ListN.{length};
-ghost use Rattle·line.specs.Parts.{Cut};
-ghost use Rattle·sender_table·specs.specs.Table.{NamesIn, NamesAs, RuleIn, RuleAs, RulesAs, TableAs};
 
 // Where the first rule begins, behind the names.
+#[derive(Clone, Copy)]
 enum Names {
     Before(usize),
     Other,
 }
 
 // A rule, and where the next one begins.
+#[derive(Clone, Copy)]
 enum Reading {
     Rule(Rule, usize),
     Malformed,
 }
 
 // So many rules; or the first bad line, 0 for the table's length.
+#[derive(Clone, Copy)]
 pub enum Verdict {
     Rules(usize),
     Malformed(usize),
 }
 
 // The rules that the verdict counts stand first.
+#[derive(Clone, Copy)]
 pub struct Table {
     pub verdict: Verdict,
     pub rules: [Rule; RULES_MOST],
@@ -36,7 +40,7 @@ pub struct Table {
 
 // Reads a table: its names line and at most 64 rules.
 pub fn read_table(table: &[u8]) -> Table
-    ensures { λ r. ⌜ TableAs (now (table .entry)) r ⌝ }
+    ensures { TableAs table.now result }
 {
     if table.len() == 0 {
         return malformed(0);
@@ -52,7 +56,7 @@ pub fn read_table(table: &[u8]) -> Table
 
 // A table that is refused, with the line reported.
 fn malformed(line: usize) -> Table
-    ensures { λ r. ⌜ r .verdict ≡ Verdict.Malformed line ⌝ }
+    ensures { result.verdict ≡ Verdict.Malformed line }
 {
     let rules = no_rules();
     Table {
@@ -72,7 +76,7 @@ fn no_rules() -> [Rule; RULES_MOST] {
 
 // The names line, which is the table's first.
 fn names_of(table: &[u8]) -> Names
-    ensures { λ r. ⌜ NamesAs (now (table .entry)) r ⌝ }
+    ensures { NamesAs table.now result }
 {
     let Split::Three(cuts) = line::cut(table, 0) else {
         return Names::Other;
@@ -82,8 +86,8 @@ fn names_of(table: &[u8]) -> Names
 
 // The three fields are the names, in their order.
 fn names_in(table: &[u8], cuts: Cuts) -> Names
-    requires { ⌜ Cut (now table) cuts ⌝ }
-    ensures { λ r. ⌜ NamesIn (now (table .entry)) cuts r ⌝ }
+    requires { Cut table.now cuts }
+    ensures { NamesIn table.now cuts result }
 {
     if fields::is_name(table, cuts, 0, b"from") {
         if fields::is_name(table, cuts, 1, b"to") {
@@ -97,8 +101,8 @@ fn names_in(table: &[u8], cuts: Cuts) -> Names
 
 // All rules from `first` on, which is behind the names.
 fn rules_from(table: &[u8], first: usize) -> Table
-    requires { ⌜ first ≤ length (now table) ⌝ }
-    ensures { λ r. ⌜ RulesAs (now (table .entry)) first r ⌝ }
+    requires { first ≤ length table.now }
+    ensures { RulesAs table.now first result }
 {
     let mut rules = no_rules();
     let mut at = first;
@@ -127,8 +131,8 @@ fn rules_from(table: &[u8], first: usize) -> Table
 
 // The rule at `at`.
 fn rule_at(table: &[u8], at: usize) -> Reading
-    requires { ⌜ at ≤ length (now table) ⌝ }
-    ensures { λ r. ⌜ RuleAs (now (table .entry)) at r ⌝ }
+    requires { at ≤ length table.now }
+    ensures { RuleAs table.now at result }
 {
     let Split::Three(cuts) = line::cut(table, at) else {
         return Reading::Malformed;
@@ -138,8 +142,8 @@ fn rule_at(table: &[u8], at: usize) -> Reading
 
 // The rule of three fields: two sets and a verdict.
 fn rule_in(table: &[u8], cuts: Cuts) -> Reading
-    requires { ⌜ Cut (now table) cuts ⌝ }
-    ensures { λ r. ⌜ RuleIn (now (table .entry)) cuts r ⌝ }
+    requires { Cut table.now cuts }
+    ensures { RuleIn table.now cuts result }
 {
     let Numeral::Is(from) = fields::number_up_to(table, cuts, 0, model::SET_MOST) else {
         return Reading::Malformed;

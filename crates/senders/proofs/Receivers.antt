@@ -1,85 +1,85 @@
 -- The search for the lowest faulty receiver. Assumes nothing.
-use Prim.Native.Nat.{ℕ, _+_, _≤_, _<_}
+use Prim.Native.Nat.{ℕ, ◌+◌, ◌≤◌, ◌<◌}
 use native.Mathlib.Numerals.{add-one}
 use native.Mathlib.Omega.{arith}
-use mathlib.Core.Path.{_≡_, refl, sym, _∙_}
+use mathlib.Core.Path.{◌≡◌, refl, sym, ◌∙◌}
 use mathlib.Core.Bool.{Bool, true, false}
 use mathlib.Core.Option.{Option, none, some}
-use Rattle·relation.specs.Rows.{has}
-use Rattle·relation.proofs.Bits.{has-zero}
-use Rattle·model.specs.Limits.{boards, setMost}
-use Rattle·model.specs.Bounded.{every, lowest}
-use Rattle·model.specs.Senders.{inSet}
-use Rattle·model.proofs.Bounded.{every-at, Found, lowest-found, lowest-hit, lowest-miss}
-use Rattle·model.proofs.Senders.{none-of}
-use Rattle·senders·specs.specs.Judgement.{isFault, lowestFault}
+use Rattle.relation.specs.Rows.{has}
+use Rattle.relation.proofs.Bits.{has_zero}
+use Rattle.model.specs.Limits.{boards, set_most}
+use Rattle.model.specs.Bounded.{every, lowest}
+use Rattle.model.specs.Senders.{in_set}
+use Rattle.model.proofs.Bounded.{every_at, Found, lowest_found, lowest_hit, lowest_miss}
+use Rattle.model.proofs.Senders.{none_of}
+use Rattle.senders.specs.Judgement.{is_fault, lowest_fault}
 
 -- one receiver
-pub fault-in : (once twice b : ℕ) (r r′ : Bool) → r ≡ inSet once b → r ≡ true → r′ ≡ inSet twice b → r′ ≡ isFault once twice b
-unfolding isFault
-fault-in once twice b r r′ p h q = rw (← p, h, q)
+pub fault_in : (once twice b : ℕ) (r r' : Bool) → r ≡ in_set once b → r ≡ true → r' ≡ in_set twice b → r' ≡ is_fault once twice b
+unfolding is_fault
+fault_in once twice b r r' p h q = rw (← p, h, q)
 
-pub fault-out : (once twice b : ℕ) (r : Bool) → r ≡ inSet once b → r ≡ false → true ≡ isFault once twice b
-unfolding isFault
-fault-out once twice b r p h = rw (← p, h)
+pub fault_out : (once twice b : ℕ) (r : Bool) → r ≡ in_set once b → r ≡ false → true ≡ is_fault once twice b
+unfolding is_fault
+fault_out once twice b r p h = rw (← p, h)
 
 -- all boards once, and none twice
-all-boards : every boards (λ b. inSet setMost b) ≡ true
-unfolding every inSet
-all-boards = refl
+all_boards : every boards (λ b. in_set set_most b) ≡ true
+unfolding every in_set
+all_boards = refl
 
-no-boards : (b : ℕ) → inSet 0 b ≡ false
-unfolding inSet has
-no-boards b = has-zero b
+no_boards : (b : ℕ) → in_set 0 b ≡ false
+unfolding in_set has
+no_boards b = has_zero b
 
-pub fault-none : (once twice : ℕ) → once ≡ setMost → twice ≡ 0 → boards ≡ lowestFault once twice
-unfolding lowestFault isFault
-fault-none once twice e z =
-    let n : lowest boards (isFault once twice) ≡ none = none-of boards (isFault once twice) (λ b l. rw (e, z, every-at boards (λ k. inSet setMost k) all-boards b l, no-boards b)) in
-    rw (n, lowestFault)
+pub fault_none : (once twice : ℕ) → once ≡ set_most → twice ≡ 0 → boards ≡ lowest_fault once twice
+unfolding lowest_fault is_fault
+fault_none once twice e z =
+    let n : lowest boards (is_fault once twice) ≡ none = none_of boards (is_fault once twice) (λ b l. rw (e, z, every_at boards (λ k. in_set set_most k) all_boards b l, no_boards b)) in
+    rw (n, lowest_fault)
 
 -- the search, receiver by receiver
 pub record Searching (once twice i : ℕ) : Type 0 where
   pub below : i ≤ boards
-  pub none : lowest i (isFault once twice) ≡ none
+  pub none : lowest i (is_fault once twice) ≡ none
 
-pub fault-begin : (once twice : ℕ) → Searching once twice 0
+pub fault_begin : (once twice : ℕ) → Searching once twice 0
 unfolding lowest
-fault-begin once twice = record { below = omega arith; none = refl }
+fault_begin once twice = record { below = omega arith; none = refl }
 
-module _ (once twice i : ℕ) (r : Bool) (s : Searching once twice i) (h : i < boards) (p : r ≡ isFault once twice i) where
-  pub fault-found : r ≡ true → i ≡ lowestFault once twice
-  unfolding lowestFault
-  fault-found t =
-      let f : lowest boards (isFault once twice) ≡ some i = lowest-hit boards i (isFault once twice) (s .none) (sym p ∙ t) h in
-      rw (f, lowestFault)
+module _ (once twice i : ℕ) (r : Bool) (s : Searching once twice i) (h : i < boards) (p : r ≡ is_fault once twice i) where
+  pub fault_found : r ≡ true → i ≡ lowest_fault once twice
+  unfolding lowest_fault
+  fault_found t =
+      let f : lowest boards (is_fault once twice) ≡ some i = lowest_hit boards i (is_fault once twice) s.none (sym p ∙ t) h in
+      rw (f, lowest_fault)
 
-  pub fault-more : r ≡ false → Searching once twice (i + 1)
-  fault-more f = record { below = omega arith; none = rw (add-one i) (lowest-miss i (isFault once twice) (s .none) (sym p ∙ f)) }
+  pub fault_more : r ≡ false → Searching once twice (i + 1)
+  fault_more f = record { below = omega arith; none = rw (add-one i) (lowest_miss i (is_fault once twice) s.none (sym p ∙ f)) }
 
-pub fault-end : (once twice i : ℕ) → Searching once twice i → boards ≤ i → boards ≡ lowestFault once twice
-unfolding lowestFault
-fault-end once twice i s h =
+pub fault_end : (once twice i : ℕ) → Searching once twice i → boards ≤ i → boards ≡ lowest_fault once twice
+unfolding lowest_fault
+fault_end once twice i s h =
     let e : i ≡ boards = omega arith in
-    let n : lowest boards (isFault once twice) ≡ none = rw e at (s .none) in
-    rw (n, lowestFault)
+    let n : lowest boards (is_fault once twice) ≡ none = rw e at s.none in
+    rw (n, lowest_fault)
 
 -- what the lowest faulty receiver says
-module _ (once twice r : ℕ) (e : r ≡ lowestFault once twice) where
-  pub fault-first : r < boards → (isFault once twice r ≡ true) × ((b : ℕ) → b < r → isFault once twice b ≡ false)
-  unfolding lowestFault
-  fault-first h = go (lowest boards (isFault once twice)) (lowest-found boards (isFault once twice)) e
+module _ (once twice r : ℕ) (e : r ≡ lowest_fault once twice) where
+  pub fault_first : r < boards → (is_fault once twice r ≡ true) × ((b : ℕ) → b < r → is_fault once twice b ≡ false)
+  unfolding lowest_fault
+  fault_first h = go (lowest boards (is_fault once twice)) (lowest_found boards (is_fault once twice)) e
     where
-      go : (o : Option ℕ) → Found boards (isFault once twice) o → r ≡ elim o [ none ↦ boards | some k ↦ k ]
-          → (isFault once twice r ≡ true) × ((b : ℕ) → b < r → isFault once twice b ≡ false)
+      go : (o : Option ℕ) → Found boards (is_fault once twice) o → r ≡ elim o [ none ↦ boards | some k ↦ k ]
+          → (is_fault once twice r ≡ true) × ((b : ℕ) → b < r → is_fault once twice b ≡ false)
       go none f d = absurd (omega arith)
-      go (some k) f d = (rw d (f .passes), λ b l. f .first b (omega arith))
+      go (some k) f d = (rw d f.passes, λ b l. f.first b (omega arith))
 
-  pub fault-nowhere : boards ≤ r → (b : ℕ) → b < boards → isFault once twice b ≡ false
-  unfolding lowestFault
-  fault-nowhere h = go (lowest boards (isFault once twice)) (lowest-found boards (isFault once twice)) e
+  pub fault_nowhere : boards ≤ r → (b : ℕ) → b < boards → is_fault once twice b ≡ false
+  unfolding lowest_fault
+  fault_nowhere h = go (lowest boards (is_fault once twice)) (lowest_found boards (is_fault once twice)) e
     where
-      go : (o : Option ℕ) → Found boards (isFault once twice) o → r ≡ elim o [ none ↦ boards | some k ↦ k ]
-          → (b : ℕ) → b < boards → isFault once twice b ≡ false
+      go : (o : Option ℕ) → Found boards (is_fault once twice) o → r ≡ elim o [ none ↦ boards | some k ↦ k ]
+          → (b : ℕ) → b < boards → is_fault once twice b ≡ false
       go none f d b l = f b l
-      go (some k) f d b l = absurd (omega (arith, f .below))
+      go (some k) f d b l = absurd (omega (arith, f.below))

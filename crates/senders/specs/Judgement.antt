@@ -1,28 +1,27 @@
 -- The judgement, as the model's; and a faulty receiver by two sets. Assumes nothing.
-use Prim.Native.Nat.{ℕ}
-use mathlib.Core.Bool.{Bool, not, _||_}
-use mathlib.Core.Option.{none, some}
-use Rattle·model.specs.Limits.{boards}
-use Rattle·model.specs.Bounded.{lowest}
-use Rattle·model.specs.Answer.{Numbers}
-use Rattle·model.specs.Senders.{Soundness, sound, gap, clash, malformed, inSet, tableNumbers}
-use Rattle·senders·specs.specs.declared.Judgement.{Judgement}
-use Rattle·senders·specs.specs.declared.Judgement.the-variants.{Sound, Gap, Clash, Refused}
+use Rattle.std.specs.Prelude.{ℕ, Bool, not, ◌||◌}
+use Rattle.std.proofs.Math.Option.{none, some}
+use Rattle.model.specs.Limits.{boards}
+use Rattle.model.specs.Bounded.{lowest}
+use Rattle.model.specs.Answer.{Numbers}
+use Rattle.model.specs.Senders.{Soundness, sound, gap, clash, malformed, in_set, table_numbers}
+use Rattle.senders.specs.declared.Judgement.{Judgement}
+use Rattle.senders.specs.declared.Judgement.TheVariants.{Sound, Gap, Clash, Refused}
 
-abbrev pub judgementAs : Judgement → Soundness
-judgementAs Sound = sound
-judgementAs (Gap pair) = gap pair
-judgementAs (Clash pair first second) = clash pair first second
-judgementAs (Refused number line) = malformed number line
+abbrev pub judgement_as : Judgement → Soundness
+judgement_as Sound = sound
+judgement_as (Gap pair) = gap pair
+judgement_as (Clash pair first second) = clash pair first second
+judgement_as (Refused number line) = malformed number line
 
 -- the word and three numbers of a judgement
-abbrev pub numbersFor : Judgement → Numbers
-numbersFor r = tableNumbers (judgementAs r)
+abbrev pub numbers_for : Judgement → Numbers
+numbers_for r = table_numbers (judgement_as r)
 
 -- a receiver is faulty: in no rule, or in two or more
-unfoldable pub isFault : ℕ → ℕ → ℕ → Bool
-isFault once twice receiver = not (inSet once receiver) || inSet twice receiver
+unfoldable pub is_fault : ℕ → ℕ → ℕ → Bool
+is_fault once twice receiver = not (in_set once receiver) || in_set twice receiver
 
 -- the lowest such receiver; the number of boards where there is none
-unfoldable pub lowestFault : ℕ → ℕ → ℕ
-lowestFault once twice = elim (lowest boards (isFault once twice)) [ none ↦ boards | some receiver ↦ receiver ]
+unfoldable pub lowest_fault : ℕ → ℕ → ℕ
+lowest_fault once twice = elim (lowest boards (is_fault once twice)) [ none ↦ boards | some receiver ↦ receiver ]

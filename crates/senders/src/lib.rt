@@ -1,18 +1,18 @@
 // The soundness of a table of permitted senders: each ordered pair of boards is in exactly one rule.
+#![tactic(auto)]
+
+ghost use Rattle.std.specs.Prelude.{◌≡◌, true, ◌≤◌, ◌<◌, take};
+ghost use Rattle.model.specs.Limits.{boards, rules_most};
+ghost use Rattle.model.specs.Senders.{pair_of, rules_with, is_faulty, fault_of, soundness_of, TableJudged};
+ghost use Rattle.coverage.specs.Rules.{rules_as};
+ghost use Rattle.senders.specs.Judgement.{judgement_as, numbers_for, is_fault, lowest_fault};
+
 use coverage::Rule;
-use model::BOARDS;
-use model::RULES_MOST;
+use model::{BOARDS, RULES_MOST};
 use sender_table::Verdict;
-ghost use mathlib.Core.Path.{_≡_};
-ghost use mathlib.Core.Bool.{true};
-ghost use Prim.Native.Nat.{_≤_, _<_};
-ghost use lib.ListN.{take};
-ghost use Rattle·model.specs.Limits.{boards, rulesMost};
-ghost use Rattle·model.specs.Senders.{pairOf, rulesWith, isFaulty, faultOf, soundnessOf, TableJudged};
-ghost use Rattle·coverage.specs.Rules.{rulesAs};
-ghost use Rattle·senders·specs.specs.Judgement.{judgementAs, numbersFor, isFault, lowestFault};
 
 // Sound; or the lowest faulty pair: a gap, in no rule, or a clash, with the lines of its first two rules; or refused, with number and line.
+#[derive(Clone, Copy)]
 pub enum Judgement {
     Sound,
     Gap(usize),
@@ -22,7 +22,7 @@ pub enum Judgement {
 
 // The judgement of any table.
 pub fn check_senders(table: &[u8]) -> Judgement
-    ensures { λ r. ⌜ TableJudged (now (table .entry)) (numbersFor r) ⌝ }
+    ensures { TableJudged table.now (numbers_for result) }
 {
     let read = sender_table::read_table(table);
     let verdict = read.verdict;
@@ -35,8 +35,8 @@ pub fn check_senders(table: &[u8]) -> Judgement
 
 // The judgement of the first `count` rules: sender by sender, the lowest faulty pair.
 pub fn judge(rules: [Rule; RULES_MOST], count: usize) -> Judgement
-    requires { ⌜ count ≤ rulesMost ⌝ }
-    ensures { λ r. ⌜ judgementAs r ≡ soundnessOf (rulesAs (take count rules)) ⌝ }
+    requires { count ≤ rules_most }
+    ensures { judgement_as result ≡ soundness_of (rules_as (take count rules)) }
 {
     let mut sender = 0;
     while sender < BOARDS {
@@ -52,7 +52,7 @@ pub fn judge(rules: [Rule; RULES_MOST], count: usize) -> Judgement
 
 // The lowest receiver that is in no rule or in two or more; `BOARDS` where there is none.
 fn faulty_receiver(once: u16, twice: u16) -> usize
-    ensures { λ r. ⌜ r ≡ lowestFault once twice ⌝ }
+    ensures { result ≡ lowest_fault once twice }
 {
     if once == model::SET_MOST as u16 {
         if twice == 0 {
@@ -71,7 +71,7 @@ fn faulty_receiver(once: u16, twice: u16) -> usize
 
 // The receiver is in no rule or in two or more.
 fn is_fault(once: u16, twice: u16, receiver: usize) -> bool
-    ensures { λ r. ⌜ r ≡ isFault once twice receiver ⌝ }
+    ensures { result ≡ is_fault once twice receiver }
 {
     if board_set::in_set(once, receiver) {
         board_set::in_set(twice, receiver)
@@ -82,9 +82,9 @@ fn is_fault(once: u16, twice: u16, receiver: usize) -> bool
 
 // A faulty pair, with the lines of its first two rules where it is in two or more.
 fn fault(rules: [Rule; RULES_MOST], count: usize, sender: usize, receiver: usize) -> Judgement
-    requires { ⌜ (count ≤ rulesMost) × (sender < boards) × (receiver < boards) ⌝ }
-    requires { ⌜ isFaulty (rulesAs (take count rules)) (pairOf sender receiver) ≡ true ⌝ }
-    ensures { λ r. ⌜ judgementAs r ≡ faultOf (pairOf sender receiver) (rulesWith (pairOf sender receiver) 0 (rulesAs (take count rules))) ⌝ }
+    requires count_le_rules_most { (count ≤ rules_most) × (sender < boards) × (receiver < boards) }
+    requires receiver_value { is_faulty (rules_as (take count rules)) (pair_of sender receiver) ≡ true }
+    ensures { judgement_as result ≡ fault_of (pair_of sender receiver) (rules_with (pair_of sender receiver) 0 (rules_as (take count rules))) }
 {
     let met = rule_search::search_among(rules, count, coverage::begin(sender, receiver));
     let pair = BOARDS * sender + receiver;

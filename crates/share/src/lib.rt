@@ -1,27 +1,26 @@
 // The race search of a job, spread over its turns: a turn looks at half a row of one message.
-ghost use mathlib.Core.Path.{_≡_};
-ghost use mathlib.Core.Bool.{_&&_};
-ghost use Prim.Native.Nat.{_*_, _<_, _≤_};
-ghost use lib.ListN.{length};
-ghost use Rattle·model.specs.Limits.{messagesMost};
-ghost use Rattle·model.specs.Bounded.{lowest};
-ghost use Rattle·model.specs.Order.{event};
-ghost use Rattle·model.specs.Race.{isRace};
-ghost use Rattle·relation.specs.Width.{width, wordBits};
-ghost use Rattle·relation.specs.Own.{foundIn};
-ghost use Rattle·relation.specs.Scenario.{scenarioIn};
-ghost use Rattle·race.specs.Bridge.{ruleIn};
-ghost use Rattle·share·specs.specs.Search.{inWords, shareOf, Looks};
+#![tactic(auto)]
+
+ghost use Rattle.std.specs.Prelude.{◌≡◌, ◌&&◌, ◌*◌, ◌<◌, ◌≤◌, length};
+ghost use Rattle.model.specs.Limits.{messages_most};
+ghost use Rattle.model.specs.Bounded.{lowest};
+ghost use Rattle.model.specs.Order.{event};
+ghost use Rattle.model.specs.Race.{is_race};
+ghost use Rattle.relation.specs.Width.{width, word_bits};
+ghost use Rattle.relation.specs.Own.{found_in};
+ghost use Rattle.relation.specs.Scenario.{scenario_in};
+ghost use Rattle.race.specs.Bridge.{rule_in};
+ghost use Rattle.share.specs.Search.{in_words, share_of, Looks};
+
 use race::Rule;
-use relation::Found;
-use relation::WIDTH;
-use relation::WORD_BITS;
+use relation::{Found, WIDTH, WORD_BITS};
 
 // The words of a row that the first of a message's two turns looks at.
 const HALF: usize = WIDTH / 2;
 
 // What the search has found so far: nothing where `found` is 0, else the race named.
 #[repr(C)]
+#[derive(Clone, Copy)]
 pub struct Race {
     pub found: u32,
     pub message: u32,
@@ -29,7 +28,7 @@ pub struct Race {
 }
 
 fn wide(bits: u32) -> usize
-    ensures { λ r. ⌜ r ≡ bits ⌝ }
+    ensures { result ≡ bits }
 {
     bits as usize
 }
@@ -44,9 +43,9 @@ fn lowest_between(
     from: usize,
     to: usize,
 ) -> Found
-    requires { ⌜ (wordBits * width ≤ length (now boards)) × (2 * count * width ≤ length (now words)) ⌝ }
-    requires { ⌜ (e < count) × (count ≤ messagesMost) × (to ≤ width) ⌝ }
-    ensures { λ r. ⌜ foundIn r ≡ lowest (2 * count) (λ x. inWords from to x && isRace (scenarioIn count (now (boards .entry)) (now (words .entry))) (ruleIn rule) e (event x)) ⌝ }
+    requires width_in_bounds { (word_bits * width ≤ length boards.now) × (2 * count * width ≤ length words.now) }
+    requires e_lt_count { (e < count) × (count ≤ messages_most) × (to ≤ width) }
+    ensures { found_in result ≡ lowest (2 * count) (λ x. in_words from to x && is_race (scenario_in count boards.now words.now) (rule_in rule) e (event x)) }
 {
     for w in from..to {
         let word = race::race_word_unmasked(words, boards, count, rule, e, w);
@@ -59,9 +58,9 @@ fn lowest_between(
 
 // The share of turn t: the lowest event that races with message t / 2, in the half of its row that the turn looks at.
 fn share(words: &[u64], boards: &[u8], count: usize, rule: Rule, t: usize) -> Found
-    requires { ⌜ (wordBits * width ≤ length (now boards)) × (2 * count * width ≤ length (now words)) ⌝ }
-    requires { ⌜ (t < 2 * count) × (count ≤ messagesMost) ⌝ }
-    ensures { λ r. ⌜ foundIn r ≡ shareOf (scenarioIn count (now (boards .entry)) (now (words .entry))) (ruleIn rule) t ⌝ }
+    requires width_in_bounds { (word_bits * width ≤ length boards.now) × (2 * count * width ≤ length words.now) }
+    requires t_bound { (t < 2 * count) × (count ≤ messages_most) }
+    ensures { found_in result ≡ share_of (scenario_in count boards.now words.now) (rule_in rule) t }
 {
     let e = t / 2;
     if t % 2 == 0 {
@@ -79,8 +78,8 @@ pub fn looked(
     code: usize,
     t: usize,
 ) -> Race
-    requires { ⌜ length (now words) ≡ 2 * messagesMost * width ⌝ }
-    ensures { λ r. ⌜ Looks count (now (boards .entry)) (now (words .entry)) code t earlier r ⌝ }
+    requires { length words.now ≡ 2 * messages_most * width }
+    ensures { Looks count boards.now words.now code t earlier result }
 {
     if earlier.found != 0 {
         return earlier;

@@ -1,183 +1,183 @@
 -- The loop over the rows keeps to `Reading`: each row judged, and stored. Assumes nothing.
-use Prim.Native.Nat.{ℕ, zero, suc, _+_, _-_, _*_, _≤_, _<_}
+use Prim.Native.Nat.{ℕ, zero, suc, ◌+◌, ◌-◌, ◌*◌, ◌≤◌, ◌<◌}
 use native.Mathlib.Nat.{add-zero, zero-add}
 use native.Mathlib.Numerals.{add-one}
 use native.Mathlib.Omega.{arith}
-use mathlib.Core.Path.{_≡_, refl, sym, _∙_, ap, subst}
+use mathlib.Core.Path.{◌≡◌, refl, sym, ◌∙◌, ap, subst}
 use mathlib.Core.Bool.{Bool}
-use mathlib.Core.List.{List, [], _∷_, _++_}
-use lib.ListN.{length, getD, drop, set, replicate, length-set, length-replicate, drop-of-length-le}
-use lib.Seq.{getD-set-same, getD-set-other}
-use Rattle·model.specs.Limits.{sheets, rowsMost, messagesMost}
-use Rattle·model.specs.Refusal.{Out, ok, refusal}
-use Rattle·model.specs.Text.{Line, Columns, linesOf}
-use Rattle·model.specs.Rows.{Row}
-use Rattle·model.specs.Place.{lineOf}
-use Rattle·line.specs.Scan.{firstLine, behindLine}
-use Rattle·line.proofs.Lines.{lines-at}
-use Rattle·relation.specs.Width.{width}
-use Rattle·row.specs.Judged.{Reader, readerOf, judgedBy, StepAs}
-use Rattle·row.specs.declared.Step.{Step}
-use Rattle·row.specs.declared.Step.the-variants as step
-use Rattle·presence.specs.AbsentCalls.{presenceIn}
-use Rattle·presence.specs.declared.Presence.{Presence}
-use Rattle·sheet·specs.specs.Bridge.{rowFrom, rowsAt, rowsOf, storeOf, Sized}
-use Rattle·sheet·specs.specs.Store.{verdictOn, BodyAs}
-use Rattle·sheet·specs.specs.declared.Verdict.{Verdict}
-use Rattle·sheet·specs.specs.declared.Verdict.the-variants as verdict
-use Rattle·sheet·proofs.proofs.Reading.{Kept, aheadOf, readFrom, fresh}
-use Rattle·sheet·proofs.proofs.Body.{body-refused, body-complete}
+use mathlib.Core.List.{List, [], ◌∷◌, ◌++◌}
+use lib.ListN.{length, get_or, drop, set, replicate, length-set, length-replicate, drop_of_length-le}
+use lib.Seq.{get_or-set_same, get_or-set_other}
+use Rattle.model.specs.Limits.{sheets, rows_most, messages_most}
+use Rattle.model.specs.Refusal.{Out, ok, refusal}
+use Rattle.model.specs.Text.{Line, Columns, lines_of}
+use Rattle.model.specs.Rows.{Row}
+use Rattle.model.specs.Place.{line_of}
+use Rattle.line.specs.Scan.{first_line, behind_line}
+use Rattle.line.proofs.Lines.{lines_at}
+use Rattle.relation.specs.Width.{width}
+use Rattle.row.specs.Judged.{Reader, reader_of, judged_by, StepAs}
+use Rattle.row.specs.declared.Step.{Step}
+use Rattle.row.specs.declared.Step.TheVariants as step
+use Rattle.presence.specs.AbsentCalls.{presence_in}
+use Rattle.presence.specs.declared.Presence.{Presence}
+use Rattle.sheet.specs.Bridge.{row_from, rows_at, rows_of, store_of, Sized}
+use Rattle.sheet.specs.Store.{verdict_on, BodyAs}
+use Rattle.sheet.specs.declared.Verdict.{Verdict}
+use Rattle.sheet.specs.declared.Verdict.TheVariants as verdict
+use Rattle.sheet.proofs.Reading.{Kept, ahead_of, read_from, fresh}
+use Rattle.sheet.proofs.Body.{body_refused, body_complete}
 
 -- rows ahead of the one that is stored, and that one
-rows-set : (kind one two : List ℕ) (row k a b i n : ℕ) → i + n ≤ row
-    → rowsAt (set kind row k) (set one row a) (set two row b) i n ≡ rowsAt kind one two i n
-unfolding rowsAt
-rows-set kind one two row k a b i zero h = refl
-rows-set kind one two row k a b i (suc n) h =
+rows_set : (kind one two : List ℕ) (row k a b i n : ℕ) → i + n ≤ row
+    → rows_at (set kind row k) (set one row a) (set two row b) i n ≡ rows_at kind one two i n
+unfolding rows_at
+rows_set kind one two row k a b i zero h = refl
+rows_set kind one two row k a b i (suc n) h =
     rw (
-      getD-set-other kind row i k 0 (λ e. omega arith),
-      getD-set-other one row i a 0 (λ e. omega arith),
-      getD-set-other two row i b 0 (λ e. omega arith),
-      rows-set kind one two row k a b (suc i) n (omega arith),
+      get_or-set_other kind row i k 0 (λ e. omega arith),
+      get_or-set_other one row i a 0 (λ e. omega arith),
+      get_or-set_other two row i b 0 (λ e. omega arith),
+      rows_set kind one two row k a b (suc i) n (omega arith),
     )
 
-rows-snoc : (kind one two : List ℕ) (i n : ℕ)
-    → rowsAt kind one two i (suc n) ≡ rowsAt kind one two i n ++ (rowFrom (getD kind (i + n) 0) (getD one (i + n) 0) (getD two (i + n) 0) ∷ [])
-unfolding rowsAt
-rows-snoc kind one two i zero = rw add-zero
-rows-snoc kind one two i (suc n) =
+rows_snoc : (kind one two : List ℕ) (i n : ℕ)
+    → rows_at kind one two i (suc n) ≡ rows_at kind one two i n ++ (row_from (get_or kind (i + n) 0) (get_or one (i + n) 0) (get_or two (i + n) 0) ∷ [])
+unfolding rows_at
+rows_snoc kind one two i zero = rw add-zero
+rows_snoc kind one two i (suc n) =
     let e : suc i + n ≡ i + suc n = omega arith in
-    ap (λ (l : List Row). rowFrom (getD kind i 0) (getD one i 0) (getD two i 0) ∷ l)
-    (rows-snoc kind one two (suc i) n
-    ∙ ap (λ (j : ℕ). rowsAt kind one two (suc i) n ++ (rowFrom (getD kind j 0) (getD one j 0) (getD two j 0) ∷ [])) e)
+    ap (λ (l : List Row). row_from (get_or kind i 0) (get_or one i 0) (get_or two i 0) ∷ l)
+    (rows_snoc kind one two (suc i) n
+    ∙ ap (λ (j : ℕ). rows_at kind one two (suc i) n ++ (row_from (get_or kind j 0) (get_or one j 0) (get_or two j 0) ∷ [])) e)
 
 -- rows ahead of what is still to be read
-pub aheadAll : List Row → Out Kept → Out Kept
-aheadAll [] o = o
-aheadAll (r ∷ rs) o = aheadOf r (aheadAll rs o)
+pub ahead_all : List Row → Out Kept → Out Kept
+ahead_all [] o = o
+ahead_all (r ∷ rs) o = ahead_of r (ahead_all rs o)
 
-ahead-snoc : (rs : List Row) (r : Row) (o : Out Kept) → aheadAll (rs ++ (r ∷ [])) o ≡ aheadAll rs (aheadOf r o)
-unfolding aheadAll
-ahead-snoc [] r o = refl
-ahead-snoc (q ∷ rs) r o = ap (aheadOf q) (ahead-snoc rs r o)
+ahead_snoc : (rs : List Row) (r : Row) (o : Out Kept) → ahead_all (rs ++ (r ∷ [])) o ≡ ahead_all rs (ahead_of r o)
+unfolding ahead_all
+ahead_snoc [] r o = refl
+ahead_snoc (q ∷ rs) r o = ap (ahead_of q) (ahead_snoc rs r o)
 
-ahead-refused : (rs : List Row) (number line : ℕ) → aheadAll rs (refusal number line) ≡ refusal number line
-unfolding aheadAll aheadOf
-ahead-refused [] number line = refl
-ahead-refused (r ∷ rs) number line = ap (aheadOf r) (ahead-refused rs number line)
+ahead_refused : (rs : List Row) (number line : ℕ) → ahead_all rs (refusal number line) ≡ refusal number line
+unfolding ahead_all ahead_of
+ahead_refused [] number line = refl
+ahead_refused (r ∷ rs) number line = ap (ahead_of r) (ahead_refused rs number line)
 
-ahead-all : (rs : List Row) (starts : List ℕ) → aheadAll rs (ok (record { rows = []; starts = starts })) ≡ ok (record { rows = rs; starts = starts })
-unfolding aheadAll aheadOf
-ahead-all [] starts = refl
-ahead-all (r ∷ rs) starts = ap (aheadOf r) (ahead-all rs starts)
+ahead_all_holds : (rs : List Row) (starts : List ℕ) → ahead_all rs (ok (record { rows = []; starts = starts })) ≡ ok (record { rows = rs; starts = starts })
+unfolding ahead_all ahead_of
+ahead_all_holds [] starts = refl
+ahead_all_holds (r ∷ rs) starts = ap (ahead_of r) (ahead_all_holds rs starts)
 
 -- one row judged, and the others behind it
-read-ok : (choices : Bool) (c : Columns) (i : ℕ) (s : Reader) (l : Line) (ls : List Line) (r : Row) (q : Reader) → ok (r, q) ≡ judgedBy choices c i s l
-    → readFrom choices c i s (l ∷ ls) ≡ aheadOf r (readFrom choices c (suc i) q ls)
-unfolding readFrom
-read-ok choices c i s l ls r q e = rw (← e, readFrom)
+read_ok : (choices : Bool) (c : Columns) (i : ℕ) (s : Reader) (l : Line) (ls : List Line) (r : Row) (q : Reader) → ok (r, q) ≡ judged_by choices c i s l
+    → read_from choices c i s (l ∷ ls) ≡ ahead_of r (read_from choices c (suc i) q ls)
+unfolding read_from
+read_ok choices c i s l ls r q e = rw (← e, read_from)
 
-read-refused : (choices : Bool) (c : Columns) (i : ℕ) (s : Reader) (l : Line) (ls : List Line) (number line′ : ℕ) → refusal number line′ ≡ judgedBy choices c i s l
-    → readFrom choices c i s (l ∷ ls) ≡ refusal number line′
-unfolding readFrom
-read-refused choices c i s l ls number line′ e = rw (← e, readFrom)
+read_refused : (choices : Bool) (c : Columns) (i : ℕ) (s : Reader) (l : Line) (ls : List Line) (number line' : ℕ) → refusal number line' ≡ judged_by choices c i s l
+    → read_from choices c i s (l ∷ ls) ≡ refusal number line'
+unfolding read_from
+read_refused choices c i s l ls number line' e = rw (← e, read_from)
 
 -- the loop over the rows: those read, and what the reader holds; it began with the words lent
 pub record Looping (choices : Bool) (c : Columns) (text : List ℕ) (first at row messages : ℕ) (kind one two start boards lent words : List ℕ) : Type 0 where
   pub inside : at ≤ length text
-  pub few : messages ≤ messagesMost
-  pub count : row ≤ rowsMost
-  pub sized : Sized (storeOf kind one two start)
-  pub allBoards : length boards ≡ 2 * messagesMost
-  pub allLent : length lent ≡ 2 * messagesMost * width
-  pub allWords : length words ≡ 2 * messagesMost * width
-  pub read : readFrom choices c 0 (fresh lent) (linesOf (drop first text))
-      ≡ aheadAll (rowsOf kind one two row) (readFrom choices c row (readerOf start boards messages words) (linesOf (drop at text)))
+  pub few : messages ≤ messages_most
+  pub count : row ≤ rows_most
+  pub sized : Sized (store_of kind one two start)
+  pub all_boards : length boards ≡ 2 * messages_most
+  pub all_lent : length lent ≡ 2 * messages_most * width
+  pub all_words : length words ≡ 2 * messages_most * width
+  pub read : read_from choices c 0 (fresh lent) (lines_of (drop first text))
+      ≡ ahead_all (rows_of kind one two row) (read_from choices c row (reader_of start boards messages words) (lines_of (drop at text)))
 
-pub loop-begin : (choices : Bool) (c : Columns) (text : List ℕ) (first : ℕ) (kind one two start words : List ℕ) → first ≤ length text → Sized (storeOf kind one two start)
-    → length words ≡ 2 * messagesMost * width
-    → Looping choices c text first first 0 0 kind one two (replicate sheets 0) (replicate (2 * messagesMost) 0) words words
-unfolding aheadAll rowsAt
-loop-begin choices c text first kind one two start words h z l =
+pub loop_begin : (choices : Bool) (c : Columns) (text : List ℕ) (first : ℕ) (kind one two start words : List ℕ) → first ≤ length text → Sized (store_of kind one two start)
+    → length words ≡ 2 * messages_most * width
+    → Looping choices c text first first 0 0 kind one two (replicate sheets 0) (replicate (2 * messages_most) 0) words words
+unfolding ahead_all rows_at
+loop_begin choices c text first kind one two start words h z l =
     record {
       inside = h;
       few = omega arith;
       count = omega arith;
-      sized = record { kind = z .kind; one = z .one; two = z .two; start = length-replicate {A = ℕ} sheets 0 };
-      allBoards = length-replicate {A = ℕ} (2 * messagesMost) 0;
-      allLent = l;
-      allWords = l;
+      sized = record { kind = z.kind; one = z.one; two = z.two; start = length-replicate {A = ℕ} sheets 0 };
+      all_boards = length-replicate {A = ℕ} (2 * messages_most) 0;
+      all_lent = l;
+      all_words = l;
       read = refl;
     }
 
-module _ (choices : Bool) (c : Columns) (text : List ℕ) (first at row messages : ℕ) (kind one two start boards lent words start′ boards′ words′ : List ℕ) (r : Step)
-    (p : StepAs choices c text at row (readerOf start boards messages words) start′ boards′ words′ r)
+module _ (choices : Bool) (c : Columns) (text : List ℕ) (first at row messages : ℕ) (kind one two start boards lent words start' boards' words' : List ℕ) (r : Step)
+    (p : StepAs choices c text at row (reader_of start boards messages words) start' boards' words' r)
     (v : Looping choices c text first at row messages kind one two start boards lent words) (h : at < length text) where
   -- what is read, with the line at the position ahead of the others
-  read-line : readFrom choices c 0 (fresh lent) (linesOf (drop first text))
-      ≡ aheadAll (rowsOf kind one two row) (readFrom choices c row (readerOf start boards messages words) (firstLine (drop at text) ∷ linesOf (behindLine (drop at text))))
-  read-line = v .read ∙ ap (λ (ls : List Line). aheadAll (rowsOf kind one two row) (readFrom choices c row (readerOf start boards messages words) ls)) (lines-at text at h)
+  read_line : read_from choices c 0 (fresh lent) (lines_of (drop first text))
+      ≡ ahead_all (rows_of kind one two row) (read_from choices c row (reader_of start boards messages words) (first_line (drop at text) ∷ lines_of (behind_line (drop at text))))
+  read_line = v.read ∙ ap (λ (ls : List Line). ahead_all (rows_of kind one two row) (read_from choices c row (reader_of start boards messages words) ls)) (lines_at text at h)
 
-  pub loop-refused : (number : ℕ) → r ≡ step.Refused number → BodyAs choices c text first (storeOf kind one two start′) (verdict.Refused number (row + 2))
-  loop-refused number e =
-      let p′ : StepAs choices c text at row (readerOf start boards messages words) start′ boards′ words′ (step.Refused number) =
-      subst (λ (x : Step). StepAs choices c text at row (readerOf start boards messages words) start′ boards′ words′ x) e p in
-      body-refused choices c text first kind one two start′ lent (v .allLent) number (lineOf row)
-      (read-line ∙ ap (aheadAll (rowsOf kind one two row)) (read-refused choices c row _ _ _ number (lineOf row) (p′ .step))
-      ∙ ahead-refused (rowsOf kind one two row) number (lineOf row))
+  pub loop_refused : (number : ℕ) → r ≡ step.Refused number → BodyAs choices c text first (store_of kind one two start') (verdict.Refused number (row + 2))
+  loop_refused number e =
+      let p' : StepAs choices c text at row (reader_of start boards messages words) start' boards' words' (step.Refused number) =
+      subst (λ (x : Step). StepAs choices c text at row (reader_of start boards messages words) start' boards' words' x) e p in
+      body_refused choices c text first kind one two start' lent v.all_lent number (line_of row)
+      (read_line ∙ ap (ahead_all (rows_of kind one two row)) (read_refused choices c row _ _ _ number (line_of row) p'.step)
+      ∙ ahead_refused (rows_of kind one two row) number (line_of row))
 
   module _ (k a b next after : ℕ) (e : r ≡ step.Row k a b next after) where
-    stepped : StepAs choices c text at row (readerOf start boards messages words) start′ boards′ words′ (step.Row k a b next after)
-    stepped = subst (λ (x : Step). StepAs choices c text at row (readerOf start boards messages words) start′ boards′ words′ x) e p
+    stepped : StepAs choices c text at row (reader_of start boards messages words) start' boards' words' (step.Row k a b next after)
+    stepped = subst (λ (x : Step). StepAs choices c text at row (reader_of start boards messages words) start' boards' words' x) e p
 
-    pub loop-room : row < rowsMost
-    loop-room = stepped .on .room
+    pub loop_room : row < rows_most
+    loop_room = stepped.on.room
 
-    pub loop-further : length text - next < length text - at
-    loop-further = omega (arith, stepped .on .onward .further, stepped .on .onward .inside)
+    pub loop_further : length text - next < length text - at
+    loop_further = omega (arith, stepped.on.onward.further, stepped.on.onward.inside)
 
-    rows-more : rowsOf (set kind row k) (set one row a) (set two row b) (suc row) ≡ rowsOf kind one two row ++ (rowFrom k a b ∷ [])
-    rows-more =
-        rows-snoc (set kind row k) (set one row a) (set two row b) 0 row
+    rows_more : rows_of (set kind row k) (set one row a) (set two row b) (suc row) ≡ rows_of kind one two row ++ (row_from k a b ∷ [])
+    rows_more =
+        rows_snoc (set kind row k) (set one row a) (set two row b) 0 row
         ∙ rw (
           zero-add row,
-          rows-set kind one two row k a b 0 row (omega arith),
-          getD-set-same kind row k 0 (omega (arith, loop-room, v .sized .kind)),
-          getD-set-same one row a 0 (omega (arith, loop-room, v .sized .one)),
-          getD-set-same two row b 0 (omega (arith, loop-room, v .sized .two)),
+          rows_set kind one two row k a b 0 row (omega arith),
+          get_or-set_same kind row k 0 (omega (arith, loop_room, v.sized.kind)),
+          get_or-set_same one row a 0 (omega (arith, loop_room, v.sized.one)),
+          get_or-set_same two row b 0 (omega (arith, loop_room, v.sized.two)),
         )
 
-    pub loop-more : Looping choices c text first next (row + 1) after (set kind row k) (set one row a) (set two row b) start′ boards′ lent words′
-    loop-more =
-        let on = stepped .on in
-        let rest : Out Kept = readFrom choices c (suc row) (readerOf start′ boards′ after words′) (linesOf (drop next text)) in
-        let new : readFrom choices c row (readerOf start boards messages words) (firstLine (drop at text) ∷ linesOf (behindLine (drop at text))) ≡ aheadOf (rowFrom k a b) rest =
-        read-ok choices c row _ _ _ (rowFrom k a b) (readerOf start′ boards′ after words′) (stepped .step)
-        ∙ ap (λ (l : List ℕ). aheadOf (rowFrom k a b) (readFrom choices c (suc row) (readerOf start′ boards′ after words′) (linesOf l))) (sym (on .onward .behind)) in
+    pub loop_more : Looping choices c text first next (row + 1) after (set kind row k) (set one row a) (set two row b) start' boards' lent words'
+    loop_more =
+        let on = stepped.on in
+        let rest : Out Kept = read_from choices c (suc row) (reader_of start' boards' after words') (lines_of (drop next text)) in
+        let new : read_from choices c row (reader_of start boards messages words) (first_line (drop at text) ∷ lines_of (behind_line (drop at text))) ≡ ahead_of (row_from k a b) rest =
+        read_ok choices c row _ _ _ (row_from k a b) (reader_of start' boards' after words') stepped.step
+        ∙ ap (λ (l : List ℕ). ahead_of (row_from k a b) (read_from choices c (suc row) (reader_of start' boards' after words') (lines_of l))) (sym on.onward.behind) in
         record {
-          inside = on .onward .inside;
-          few = on .few;
-          count = omega (arith, on .room);
+          inside = on.onward.inside;
+          few = on.few;
+          count = omega (arith, on.room);
           sized = record {
-            kind = length-set kind row k ∙ v .sized .kind;
-            one = length-set one row a ∙ v .sized .one;
-            two = length-set two row b ∙ v .sized .two;
-            start = on .allStarts;
+            kind = length-set kind row k ∙ v.sized.kind;
+            one = length-set one row a ∙ v.sized.one;
+            two = length-set two row b ∙ v.sized.two;
+            start = on.all_starts;
           };
-          allBoards = on .allBoards;
-          allLent = v .allLent;
-          allWords = on .allWords;
-          read = rw (add-one row) (read-line ∙ ap (aheadAll (rowsOf kind one two row)) new ∙ sym (ahead-snoc (rowsOf kind one two row) (rowFrom k a b) rest)
-              ∙ ap (λ (l : List Row). aheadAll l rest) (sym rows-more));
+          all_boards = on.all_boards;
+          all_lent = v.all_lent;
+          all_words = on.all_words;
+          read = rw (add-one row) (read_line ∙ ap (ahead_all (rows_of kind one two row)) new ∙ sym (ahead_snoc (rows_of kind one two row) (row_from k a b) rest)
+              ∙ ap (λ (l : List Row). ahead_all l rest) (sym rows_more));
         }
 
-pub loop-done : (choices : Bool) (c : Columns) (text : List ℕ) (first at row messages : ℕ) (kind one two start boards lent words : List ℕ) (f : Presence) (r : Verdict)
-    → Looping choices c text first at row messages kind one two start boards lent words → length text ≤ at → f ≡ presenceIn kind one two start row → r ≡ verdictOn f row
-    → BodyAs choices c text first (storeOf kind one two start) r
-unfolding readFrom linesOf
-loop-done choices c text first at row messages kind one two start boards lent words f r v h g e =
-    let d : drop at text ≡ [] = drop-of-length-le text h in
-    body-complete choices c text first kind one two start lent (v .allLent) row r
-    (v .read ∙ ap (λ (l : List ℕ). aheadAll (rowsOf kind one two row) (readFrom choices c row (readerOf start boards messages words) (linesOf l))) d
-    ∙ ahead-all (rowsOf kind one two row) start)
-    (v .count) (v .sized) (e ∙ ap (λ (x : Presence). verdictOn x row) g)
+pub loop_done : (choices : Bool) (c : Columns) (text : List ℕ) (first at row messages : ℕ) (kind one two start boards lent words : List ℕ) (f : Presence) (r : Verdict)
+    → Looping choices c text first at row messages kind one two start boards lent words → length text ≤ at → f ≡ presence_in kind one two start row → r ≡ verdict_on f row
+    → BodyAs choices c text first (store_of kind one two start) r
+unfolding read_from lines_of
+loop_done choices c text first at row messages kind one two start boards lent words f r v h g e =
+    let d : drop at text ≡ [] = drop_of_length-le text h in
+    body_complete choices c text first kind one two start lent v.all_lent row r
+    (v.read ∙ ap (λ (l : List ℕ). ahead_all (rows_of kind one two row) (read_from choices c row (reader_of start boards messages words) (lines_of l))) d
+    ∙ ahead_all_holds (rows_of kind one two row) start)
+    v.count v.sized (e ∙ ap (λ (x : Presence). verdict_on x row) g)

@@ -1,40 +1,36 @@
 -- From the reader's data to the model: three columns are rows, a table says where each sheet starts, a verdict is an outcome.
 -- Assumes nothing.
-use Prim.Native.Nat.{ℕ, zero, suc, _≤_}
-use mathlib.Core.Path.{_≡_}
-use mathlib.Core.Bool.{Bool, cond}
-use mathlib.Core.List.{List, [], _∷_}
-use lib.ListN.{length, getD}
-use Rattle·model.specs.Limits.{sheets, rowsMost}
-use Rattle·model.specs.Bounded.{among}
-use Rattle·model.specs.Refusal.{Out, ok, refusal}
-use Rattle·model.specs.Rows.{Row}
-use Rattle·model.specs.Place.{opens, readWith}
-use Rattle·model.specs.Expansion.{startOf}
-use Rattle·model.specs.Closure.{cells}
-unfoldable pub use Rattle·place.specs.Letters.{rowFrom}
-use Rattle·sheet·specs.specs.declared.Verdict.{Verdict}
-use Rattle·sheet·specs.specs.declared.Verdict.the-variants.{Rows, Refused}
+use Rattle.std.specs.Prelude.{ℕ, zero, suc, ◌≤◌, ◌≡◌, Bool, cond, List, [], ◌∷◌, length, get_or}
+use Rattle.model.specs.Limits.{sheets, rows_most}
+use Rattle.model.specs.Bounded.{among}
+use Rattle.model.specs.Refusal.{Out, ok, refusal}
+use Rattle.model.specs.Rows.{Row}
+use Rattle.model.specs.Place.{opens, read_with}
+use Rattle.model.specs.Expansion.{start_of}
+use Rattle.model.specs.Closure.{cells}
+unfoldable pub use Rattle.place.specs.Letters.{row_from}
+use Rattle.sheet.specs.declared.Verdict.{Verdict}
+use Rattle.sheet.specs.declared.Verdict.TheVariants.{Rows, Refused}
 
 -- so many rows of the three columns, from row i on
-unfoldable pub rowsAt : List ℕ → List ℕ → List ℕ → ℕ → ℕ → List Row
-rowsAt kind one two i zero = []
-rowsAt kind one two i (suc n) = rowFrom (getD kind i 0) (getD one i 0) (getD two i 0) ∷ rowsAt kind one two (suc i) n
+unfoldable pub rows_at : List ℕ → List ℕ → List ℕ → ℕ → ℕ → List Row
+rows_at kind one two i zero = []
+rows_at kind one two i (suc n) = row_from (get_or kind i 0) (get_or one i 0) (get_or two i 0) ∷ rows_at kind one two (suc i) n
 
-abbrev pub rowsOf : List ℕ → List ℕ → List ℕ → ℕ → List Row
-rowsOf kind one two count = rowsAt kind one two 0 count
+abbrev pub rows_of : List ℕ → List ℕ → List ℕ → ℕ → List Row
+rows_of kind one two count = rows_at kind one two 0 count
 
 -- the number of the row behind `S n`; 0 where no row opens sheet n
-unfoldable pub startIn : List Row → ℕ → ℕ
-startIn rs n = cond (among n (opens rs)) (startOf n rs) 0
+unfoldable pub start_in : List Row → ℕ → ℕ
+start_in rs n = cond (among n (opens rs)) (start_of n rs) 0
 
-abbrev pub startsOf : List Row → List ℕ
-startsOf rs = cells sheets (startIn rs)
+abbrev pub starts_of : List Row → List ℕ
+starts_of rs = cells sheets (start_in rs)
 
 -- a verdict, with the columns that it speaks of
-abbrev pub outcomeOf : Verdict → List ℕ → List ℕ → List ℕ → Out (List Row)
-outcomeOf (Rows count) kind one two = ok (rowsOf kind one two count)
-outcomeOf (Refused number line) kind one two = refusal number line
+abbrev pub outcome_of : Verdict → List ℕ → List ℕ → List ℕ → Out (List Row)
+outcome_of (Rows count) kind one two = ok (rows_of kind one two count)
+outcome_of (Refused number line) kind one two = refusal number line
 
 -- the columns and the table of starts together, and each with its length
 pub record Store : Type 0 where
@@ -43,22 +39,22 @@ pub record Store : Type 0 where
   pub two : List ℕ
   pub start : List ℕ
 
-abbrev pub storeOf : List ℕ → List ℕ → List ℕ → List ℕ → Store
-storeOf kind one two start = record { kind = kind; one = one; two = two; start = start }
+abbrev pub store_of : List ℕ → List ℕ → List ℕ → List ℕ → Store
+store_of kind one two start = record { kind = kind; one = one; two = two; start = start }
 
 pub record Sized (s : Store) : Type 0 where
-  pub kind : length (s .kind) ≡ rowsMost
-  pub one : length (s .one) ≡ rowsMost
-  pub two : length (s .two) ≡ rowsMost
-  pub start : length (s .start) ≡ sheets
+  pub kind : length s.kind ≡ rows_most
+  pub one : length s.one ≡ rows_most
+  pub two : length s.two ≡ rows_most
+  pub start : length s.start ≡ sheets
 
 -- where there are rows, there are at most 512, and all has kept its length
 abbrev pub KeptOn : Store → Verdict → Type 0
-KeptOn s (Rows count) = (count ≤ rowsMost) × Sized s
+KeptOn s (Rows count) = (count ≤ rows_most) × Sized s
 KeptOn s (Refused number line) = Unit {0}
 
 -- The verdict is the paper's, with or without A rows let through, and where there are rows the table has the start of each sheet.
 pub record ReadAs (choices : Bool) (text kind one two start : List ℕ) (v : Verdict) : Type 0 where
-  pub outcome : outcomeOf v kind one two ≡ readWith choices text
-  pub starts : (rs : List Row) → readWith choices text ≡ ok rs → start ≡ startsOf rs
-  pub kept : KeptOn (storeOf kind one two start) v
+  pub outcome : outcome_of v kind one two ≡ read_with choices text
+  pub starts : (rs : List Row) → read_with choices text ≡ ok rs → start ≡ starts_of rs
+  pub kept : KeptOn (store_of kind one two start) v

@@ -1,21 +1,20 @@
 // The reader of sheet files: any bytes in; the rows, or refusal 3 to 7 or 11 with its line, out.
-use heading::Columns;
-use heading::Heading;
-use model::EVENTS_MOST;
-use model::ROWS_MOST;
-use model::SHEETS;
+#![tactic(auto)]
+
+ghost use Rattle.std.specs.Prelude.{◌≡◌, ◌*◌, ◌≤◌, length};
+ghost use Rattle.model.specs.Limits.{messages_most};
+ghost use Rattle.relation.specs.Width.{width};
+ghost use Rattle.heading.specs.Names.{Below, columns_from};
+ghost use Rattle.sheet.specs.Bridge.{store_of, Sized, ReadAs};
+ghost use Rattle.sheet.specs.Store.{verdict_on, BodyAs};
+
+use heading::{Columns, Heading};
+use model::{EVENTS_MOST, ROWS_MOST, SHEETS};
 use presence::Presence;
 use row::Step;
-ghost use mathlib.Core.Path.{_≡_};
-ghost use Prim.Native.Nat.{_*_, _≤_};
-ghost use lib.ListN.{length};
-ghost use Rattle·model.specs.Limits.{messagesMost};
-ghost use Rattle·relation.specs.Width.{width};
-ghost use Rattle·heading.specs.Names.{Below, columnsFrom};
-ghost use Rattle·sheet·specs.specs.Bridge.{storeOf, Sized, ReadAs};
-ghost use Rattle·sheet·specs.specs.Store.{verdictOn, BodyAs};
 
 // So many rows; or the refusal's number and line.
+#[derive(Clone, Copy)]
 pub enum Verdict {
     Rows(usize),
     Refused(u8, usize),
@@ -32,8 +31,8 @@ pub fn read(
     start: &mut [u16; SHEETS],
     words: &mut [u64],
 ) -> Verdict
-    requires { ⌜ Sized (storeOf (now kind) (now one) (now two) (now start)) × (length (now words) ≡ 2 * messagesMost * width) ⌝ }
-    ensures { λ r. ⌜ ReadAs choices (now (text .entry)) (now (kind .exit)) (now (one .exit)) (now (two .exit)) (now (start .exit)) r ⌝ }
+    requires { Sized (store_of kind.old one.old two.old start.old) × (length words.old ≡ 2 * messages_most * width) }
+    ensures { ReadAs choices text.now kind.new one.new two.new start.new result }
 {
     if text.len() == 0 {
         return Verdict::Refused(model::LENGTH, 0);
@@ -59,8 +58,8 @@ fn rows(
     start: &mut [u16; SHEETS],
     words: &mut [u64],
 ) -> Verdict
-    requires { ⌜ (first ≤ length (now text)) × Below columns × Sized (storeOf (now kind) (now one) (now two) (now start)) × (length (now words) ≡ 2 * messagesMost * width) ⌝ }
-    ensures { λ r. ⌜ BodyAs choices (columnsFrom columns) (now (text .entry)) first (storeOf (now (kind .exit)) (now (one .exit)) (now (two .exit)) (now (start .exit))) r ⌝ }
+    requires { (first ≤ length text.now) × Below columns × Sized (store_of kind.old one.old two.old start.old) × (length words.old ≡ 2 * messages_most * width) }
+    ensures { BodyAs choices (columns_from columns) text.now first (store_of kind.new one.new two.new start.new) result }
 {
     *start = [0u16; SHEETS];
     let mut boards = [0u8; EVENTS_MOST];
@@ -98,7 +97,7 @@ fn rows(
 
 // The verdict on so many rows, by whether every sheet that they need is there.
 fn verdict_on(presence: Presence, count: usize) -> Verdict
-    ensures { λ r. ⌜ r ≡ verdictOn presence count ⌝ }
+    ensures { result ≡ verdict_on presence count }
 {
     match presence {
         Presence::Absent(line) => Verdict::Refused(model::ABSENT, line),

@@ -1,71 +1,71 @@
 -- What `list` is to show, from the way to the scenario, the lines and the numbers told. Assumes nothing.
-use Prim.Native.Nat.{ℕ, zero, suc, _*_, _<_, _≤_}
+use Prim.Native.Nat.{ℕ, zero, suc, ◌*◌, ◌<◌, ◌≤◌}
 use native.Mathlib.Omega.{arith}
-use mathlib.Core.Path.{_≡_, refl, sym, _∙_, ap, subst}
-use mathlib.Core.List.{List, [], _∷_, _++_}
-use lib.ListN.{length, getD, take, drop, List·getD-append}
-use lib.Seq.{length-take-le, getD-take}
-use Rattle·model.specs.Limits.{messagesMost, rowsMost}
-use Rattle·model.specs.Refusal.{Out, ok, refusal}
-use Rattle·model.specs.Place.{lineOf}
-use Rattle·model.specs.Order.{Scenario}
-use Rattle·model.specs.Answer.{sheetOf}
-use Rattle·model.specs.Senders.{linesMet}
-use Rattle·model.specs.Holdings.{HoldingNumbers, messagesTold, messagesAnswer, messagesLeft}
-use Rattle·model.proofs.Lines.{Well, sheet-well}
-use Rattle·relation.specs.Scenario.{scenarioIn}
-use Rattle·expansion.specs.declared.Expanded.{Expanded}
-use Rattle·expansion.specs.declared.Expanded.the-variants as expanded
-use Rattle·scenario.specs.Contract.{SheetIn}
-use Rattle·scenario.proofs.Laws.{sheet-refused, sheet-is, sheet-fits}
-use Rattle·message_lines.proofs.Counted.{lines-count}
-use Rattle·sheet_messages·specs.specs.Listing.{listedAs, refusedAs, Told, Lists}
+use mathlib.Core.Path.{◌≡◌, refl, sym, ◌∙◌, ap, subst}
+use mathlib.Core.List.{List, [], ◌∷◌, ◌++◌}
+use lib.ListN.{length, get_or, take, drop, get_or-append}
+use lib.Seq.{length-take-le, get_or-take}
+use Rattle.model.specs.Limits.{messages_most, rows_most}
+use Rattle.model.specs.Refusal.{Out, ok, refusal}
+use Rattle.model.specs.Place.{line_of}
+use Rattle.model.specs.Order.{Scenario}
+use Rattle.model.specs.Answer.{sheet_of}
+use Rattle.model.specs.Senders.{lines_met}
+use Rattle.model.specs.Holdings.{HoldingNumbers, messages_told, messages_answer, messages_left}
+use Rattle.model.proofs.Lines.{Well, sheet_well}
+use Rattle.relation.specs.Scenario.{scenario_in}
+use Rattle.expansion.specs.declared.Expanded.{Expanded}
+use Rattle.expansion.specs.declared.Expanded.TheVariants as expanded
+use Rattle.scenario.specs.Contract.{SheetIn}
+use Rattle.scenario.proofs.Laws.{sheet_refused, sheet_is, sheet_fits}
+use Rattle.message_lines.proofs.Counted.{lines_count}
+use Rattle.sheet_messages.specs.Listing.{listed_as, refused_as, Told, Lists}
 
 -- only the lines of the messages told matter
-told-alike : (n : ℕ) (lines others : List ℕ) (S : Scenario) → ((m : ℕ) → m < n → getD lines m 0 ≡ getD others m 0) → messagesTold n lines S ≡ messagesTold n others S
-unfolding messagesTold
-told-alike zero lines others S h = refl
-told-alike (suc n) lines others S h =
-    ap (λ (l : List ℕ). l ++ (getD lines n 0 ∷ S .source n ∷ S .target n ∷ [])) (told-alike n lines others S (λ m k. h m (omega arith)))
-    ∙ ap (λ (a : ℕ). messagesTold n others S ++ (a ∷ S .source n ∷ S .target n ∷ [])) (h n (omega arith))
+told_alike : (n : ℕ) (lines others : List ℕ) (S : Scenario) → ((m : ℕ) → m < n → get_or lines m 0 ≡ get_or others m 0) → messages_told n lines S ≡ messages_told n others S
+unfolding messages_told
+told_alike zero lines others S h = refl
+told_alike (suc n) lines others S h =
+    ap (λ (l : List ℕ). l ++ (get_or lines n 0 ∷ S.source n ∷ S.target n ∷ [])) (told_alike n lines others S (λ m k. h m (omega arith)))
+    ∙ ap (λ (a : ℕ). messages_told n others S ++ (a ∷ S.source n ∷ S.target n ∷ [])) (h n (omega arith))
 
 -- what a sheet's outcome gives
-lists-from : (text output outputExit : List ℕ) (r : HoldingNumbers) (o : Out Scenario) → sheetOf text ≡ o → r ≡ messagesAnswer o
-    → outputExit ≡ messagesLeft o (linesMet text) output → Lists text output outputExit r
-lists-from text output outputExit r o e a l =
-    record { answer = a ∙ ap messagesAnswer (sym e); outputLeft = l ∙ ap (λ (p : Out Scenario). messagesLeft p (linesMet text) output) (sym e) }
+lists_from : (text output output_exit : List ℕ) (r : HoldingNumbers) (o : Out Scenario) → sheet_of text ≡ o → r ≡ messages_answer o
+    → output_exit ≡ messages_left o (lines_met text) output → Lists text output output_exit r
+lists_from text output output_exit r o e a l =
+    record { answer = a ∙ ap messages_answer (sym e); output_left = l ∙ ap (λ (p : Out Scenario). messages_left p (lines_met text) output) (sym e) }
 
 module _ (text boards words : List ℕ) (v : Expanded) (p : SheetIn text boards words v) where
   module _ (number line : ℕ) (i : v ≡ expanded.Refused number line) where
-    is : sheetOf text ≡ refusal number line
-    is = sheet-refused text boards words v p number line i
+    is : sheet_of text ≡ refusal number line
+    is = sheet_refused text boards words v p number line i
 
-    pub refusal-line : line ≤ lineOf rowsMost
-    refusal-line = let w : Well {A = Scenario} (lineOf rowsMost) (refusal number line) = subst (λ (o : Out Scenario). Well (lineOf rowsMost) o) is (sheet-well text) in omega (arith, w .within)
+    pub refusal_line : line ≤ line_of rows_most
+    refusal_line = let w : Well {A = Scenario} (line_of rows_most) (refusal number line) = subst (λ (o : Out Scenario). Well (line_of rows_most) o) is (sheet_well text) in omega (arith, w.within)
 
-    pub lists-refused : (output : List ℕ) (r : HoldingNumbers) → r ≡ refusedAs number line → Lists text output output r
-    unfolding messagesAnswer messagesLeft
-    lists-refused output r e = lists-from text output output r (refusal number line) is e refl
+    pub lists_refused : (output : List ℕ) (r : HoldingNumbers) → r ≡ refused_as number line → Lists text output output r
+    unfolding messages_answer messages_left
+    lists_refused output r e = lists_from text output output r (refusal number line) is e refl
 
   module _ (count : ℕ) (i : v ≡ expanded.Messages count) where
     abbrev S : Scenario
-    S = scenarioIn count boards words
+    S = scenario_in count boards words
 
-    lines-many : length (linesMet text) ≡ count
-    lines-many = lines-count text S (sheet-is text boards words v p count i)
+    lines_many : length (lines_met text) ≡ count
+    lines_many = lines_count text S (sheet_is text boards words v p count i)
 
-    pub messages-few : count ≤ messagesMost
-    messages-few = sheet-fits text boards words v p count i .few
+    pub messages_few : count ≤ messages_most
+    messages_few = (sheet_fits text boards words v p count i).few
 
-    pub lines-asked : count ≤ length (linesMet text)
-    lines-asked = omega (arith, lines-many)
+    pub lines_asked : count ≤ length (lines_met text)
+    lines_asked = omega (arith, lines_many)
 
-    pub lists-told : (lines given output now : List ℕ) (r : HoldingNumbers) → lines ≡ take count (linesMet text) ++ drop count given
-        → Told lines boards output count now → r ≡ listedAs count → Lists text output now r
-    unfolding messagesAnswer messagesLeft
-    lists-told lines given output now r e t a =
-        let long : length (take count (linesMet text)) ≡ count = length-take-le count (linesMet text) lines-asked in
-        let same : (m : ℕ) → m < count → getD lines m 0 ≡ getD (linesMet text) m 0
-        = λ m h. ap (λ (l : List ℕ). getD l m 0) e ∙ List·getD-append (take count (linesMet text)) (drop count given) 0 m (omega arith) ∙ getD-take count (linesMet text) m 0 h in
-        lists-from text output now r (ok S) (sheet-is text boards words v p count i) a
-        (t .told count words ∙ ap (λ (l : List ℕ). l ++ drop (3 * count) output) (told-alike count lines (linesMet text) S same))
+    pub lists_told : (lines given output now : List ℕ) (r : HoldingNumbers) → lines ≡ take count (lines_met text) ++ drop count given
+        → Told lines boards output count now → r ≡ listed_as count → Lists text output now r
+    unfolding messages_answer messages_left
+    lists_told lines given output now r e t a =
+        let long : length (take count (lines_met text)) ≡ count = length-take-le count (lines_met text) lines_asked in
+        let same : (m : ℕ) → m < count → get_or lines m 0 ≡ get_or (lines_met text) m 0
+        = λ m h. ap (λ (l : List ℕ). get_or l m 0) e ∙ get_or-append (take count (lines_met text)) (drop count given) 0 m (omega arith) ∙ get_or-take count (lines_met text) m 0 h in
+        lists_from text output now r (ok S) (sheet_is text boards words v p count i) a
+        (t.told count words ∙ ap (λ (l : List ℕ). l ++ drop (3 * count) output) (told_alike count lines (lines_met text) S same))

@@ -1,68 +1,68 @@
 -- What `judge` is to show, from the way to the scenario and the races listed of it. Assumes nothing.
-use mathlib.Core.Path.{_≡_, refl, sym, _∙_, ap, subst, subst⁻¹}
-use mathlib.Core.List.{List, _++_}
-use Prim.Native.Nat.{ℕ, _*_, _/_, _≤_}
-use native.Mathlib.Nat.{min-le-right}
+use mathlib.Core.Path.{◌≡◌, refl, ◌∙◌, subst, subst⁻¹}
+use mathlib.Core.List.{List}
+use Prim.Native.Nat.{ℕ, ◌/◌, ◌≤◌}
+use native.Mathlib.Nat.{min-le_right}
 use native.Mathlib.Omega.{arith}
-use lib.ListN.{length, take, drop, length-take}
-use Rattle·model.specs.Limits.{rowsMost}
-use Rattle·model.specs.Refusal.{Out, ok, refusal}
-use Rattle·model.specs.Place.{lineOf}
-use Rattle·model.specs.Order.{Scenario}
-use Rattle·model.specs.Race.{RaceRule, raceRuleOf}
-use Rattle·model.specs.Answer.{sheetOf}
-use Rattle·model.specs.Holdings.{HoldingNumbers, racesBelow, racesTold, racesAnswer, racesLeft}
-use Rattle·model.proofs.Lines.{Well, sheet-well}
-use Rattle·relation.specs.Scenario.{scenarioIn}
-use Rattle·at_or_before.specs.Lent.{Lent}
-use Rattle·race.specs.declared.Rule.{Rule}
-use Rattle·race.specs.Bridge.{ruleIn}
-use Rattle·expansion.specs.declared.Expanded.{Expanded}
-use Rattle·expansion.specs.declared.Expanded.the-variants as expanded
-use Rattle·scenario.specs.Contract.{SheetIn}
-use Rattle·scenario.proofs.Laws.{sheet-refused, sheet-is, sheet-fits}
-use Rattle·race_list.specs.declared.Told.{Told}
-use Rattle·race_list.specs.Listing.{racesMost, Tells}
-use Rattle·sheet_races·specs.specs.Numbers.{listedNumbers, refusedNumbers, Answers}
+use lib.ListN.{length, length-take}
+use Rattle.model.specs.Limits.{rows_most}
+use Rattle.model.specs.Refusal.{Out}
+use Rattle.model.specs.Place.{line_of}
+use Rattle.model.specs.Order.{Scenario}
+use Rattle.model.specs.Race.{RaceRule, race_rule_of}
+use Rattle.model.specs.Answer.{sheet_of}
+use Rattle.model.specs.Holdings.{HoldingNumbers, races_below, races_answer, races_left}
+use Rattle.model.proofs.Lines.{Well, sheet_well}
+use Rattle.relation.specs.Scenario.{scenario_in}
+use Rattle.at_or_before.specs.Lent.{Lent}
+use Rattle.race.specs.declared.Rule.{Rule}
+use Rattle.race.specs.Bridge.{rule_in}
+use Rattle.expansion.specs.declared.Expanded.{Expanded}
+use Rattle.expansion.specs.declared.Expanded.TheVariants as expanded
+use Rattle.scenario.specs.Contract.{SheetIn}
+use Rattle.scenario.proofs.Laws.{sheet_refused, sheet_is, sheet_fits}
+use Rattle.race_list.specs.declared.Told.{Told}
+use Rattle.race_list.specs.Listing.{races_most, Tells}
+use Rattle.sheet_races.specs.Numbers.{listed_numbers, refused_numbers, Answers}
 
 -- of so many races no more stand in the output
-pub all-few : (races : List (ℕ × ℕ)) (output exit : List ℕ) (r : Told) → Tells races output exit r → r .all ≤ racesMost
-all-few races output exit r t = omega (arith, t .all, t .most)
+pub all_few : (races : List (ℕ × ℕ)) (output exit : List ℕ) (r : Told) → Tells races output exit r → r.all ≤ races_most
+all_few races output exit r t = omega (arith, t.all, t.most)
 
-pub listed-few : (races : List (ℕ × ℕ)) (output exit : List ℕ) (r : Told) → Tells races output exit r → r .listed ≤ racesMost
-listed-few races output exit r t =
-    omega (arith, t .listed, t .most, length-take (length output / 2) races, min-le-right (length output / 2) (length races))
+pub listed_few : (races : List (ℕ × ℕ)) (output exit : List ℕ) (r : Told) → Tells races output exit r → r.listed ≤ races_most
+listed_few races output exit r t =
+    omega (arith, t.listed, t.most, length-take (length output / 2) races, min-le_right (length output / 2) (length races))
 
 module _ (text boards words : List ℕ) (v : Expanded) (p : SheetIn text boards words v) where
   -- the line of a refusal is one of the text
-  pub line-known : (number line : ℕ) → v ≡ expanded.Refused number line → line ≤ lineOf rowsMost
-  line-known number line i =
-      subst (Well (lineOf rowsMost)) (sheet-refused text boards words v p number line i) (sheet-well text) .within
+  pub line_known : (number line : ℕ) → v ≡ expanded.Refused number line → line ≤ line_of rows_most
+  line_known number line i =
+      (subst (Well (line_of rows_most)) (sheet_refused text boards words v p number line i) (sheet_well text)).within
 
-  pub scenario-refused : (number line code : ℕ) (output : List ℕ) (n : HoldingNumbers) → v ≡ expanded.Refused number line → n ≡ refusedNumbers number line
-      → Answers (sheetOf text) code output output n
-  unfolding racesAnswer racesLeft
-  scenario-refused number line code output n i e =
-      subst⁻¹ (λ (o : Out Scenario). Answers o code output output n) (sheet-refused text boards words v p number line i) (record { answer = e; outputLeft = refl })
+  pub scenario_refused : (number line code : ℕ) (output : List ℕ) (n : HoldingNumbers) → v ≡ expanded.Refused number line → n ≡ refused_numbers number line
+      → Answers (sheet_of text) code output output n
+  unfolding races_answer races_left
+  scenario_refused number line code output n i e =
+      subst⁻¹ (λ (o : Out Scenario). Answers o code output output n) (sheet_refused text boards words v p number line i) (record { answer = e; output_left = refl })
 
   module _ (count : ℕ) (i : v ≡ expanded.Messages count) where
-    pub scenario-lent : Lent count boards words
-    scenario-lent =
-        let F = sheet-fits text boards words v p count i in
+    pub scenario_lent : Lent count boards words
+    scenario_lent =
+        let F = sheet_fits text boards words v p count i in
         record {
-          boardsLong = omega (arith, F .few, F .boardsLong);
-          wordsLong = omega (arith, F .few, F .wordsLong);
-          rowLong = omega (arith, F .few);
-          boardsBelow = F .boardsBelow;
+          boards_long = omega (arith, F.few, F.boards_long);
+          words_long = omega (arith, F.few, F.words_long);
+          row_long = omega (arith, F.few);
+          boards_below = F.boards_below;
         }
 
-    pub scenario-listed : (code : ℕ) (rule : Rule) (output exit : List ℕ) (r : Told) (n : HoldingNumbers)
-        → Tells (racesBelow (scenarioIn count boards words) (ruleIn rule) count) output exit r → ruleIn rule ≡ raceRuleOf code
-        → n ≡ listedNumbers (r .all) (r .listed) → Answers (sheetOf text) code output exit n
-    unfolding racesAnswer racesLeft
-    scenario-listed code rule output exit r n t q e =
-        let S = scenarioIn count boards words in
-        let T : Tells (racesBelow S (raceRuleOf code) count) output exit r =
-        subst (λ (k : RaceRule). Tells (racesBelow S k count) output exit r) q t in
-        subst⁻¹ (λ (o : Out Scenario). Answers o code output exit n) (sheet-is text boards words v p count i)
-        (record { answer = e ∙ (λ j. listedNumbers (T .all j) (T .listed j)); outputLeft = T .left })
+    pub scenario_listed : (code : ℕ) (rule : Rule) (output exit : List ℕ) (r : Told) (n : HoldingNumbers)
+        → Tells (races_below (scenario_in count boards words) (rule_in rule) count) output exit r → rule_in rule ≡ race_rule_of code
+        → n ≡ listed_numbers r.all r.listed → Answers (sheet_of text) code output exit n
+    unfolding races_answer races_left
+    scenario_listed code rule output exit r n t q e =
+        let S = scenario_in count boards words in
+        let T : Tells (races_below S (race_rule_of code) count) output exit r =
+        subst (λ (k : RaceRule). Tells (races_below S k count) output exit r) q t in
+        subst⁻¹ (λ (o : Out Scenario). Answers o code output exit n) (sheet_is text boards words v p count i)
+        (record { answer = e ∙ (λ j. listed_numbers (T.all j) (T.listed j)); output_left = T.left })

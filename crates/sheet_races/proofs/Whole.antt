@@ -1,49 +1,49 @@
 -- The whole promise, from what the parts of the call hand on. Assumes nothing.
-use mathlib.Core.Path.{_≡_, refl, sym, _∙_, ap}
-use mathlib.Core.List.{List, _++_}
-use Prim.Native.Nat.{ℕ, _<_, _≤_}
+use mathlib.Core.Path.{◌≡◌, refl, sym, ◌∙◌, ap}
+use mathlib.Core.List.{List, ◌++◌}
+use Prim.Native.Nat.{ℕ, ◌<◌, ◌≤◌}
 use native.Mathlib.Omega.{arith}
 use borrow.Author.Tests.{lt-ltb, le-ltb, le-leb}
 use lib.ListN.{length, drop}
-use Rattle·model.specs.Limits.{channels, scratchLeast}
-use Rattle·model.specs.Refusal.{Out, refusal, channelRefusal, benchRefusal}
-use Rattle·model.specs.Order.{Scenario}
-use Rattle·model.specs.Answer.{sheetOf, scratchBehind}
-use Rattle·model.specs.Monitor.{watchable}
-use Rattle·model.specs.Holdings.{HoldingNumbers, racesAnswer, racesLeft, RacesTold}
-use Rattle·model.proofs.Holdings.{races-told}
-use Rattle·relation.specs.Rows.{cleared}
-use Rattle·relation.proofs.Cleared.{cleared-all}
-use Rattle·scenario.proofs.Laws.{scratch-behind}
-use Rattle·sheet_races·specs.specs.Numbers.{refusedNumbers, Answers}
+use Rattle.model.specs.Limits.{channels, scratch_least}
+use Rattle.model.specs.Refusal.{Out, refusal, channel_refusal, bench_refusal}
+use Rattle.model.specs.Order.{Scenario}
+use Rattle.model.specs.Answer.{sheet_of, scratch_behind}
+use Rattle.model.specs.Monitor.{watchable}
+use Rattle.model.specs.Holdings.{HoldingNumbers, races_answer, races_left, RacesTold}
+use Rattle.model.proofs.Holdings.{races_told}
+use Rattle.relation.specs.Rows.{cleared}
+use Rattle.relation.proofs.Cleared.{cleared_all}
+use Rattle.scenario.proofs.Laws.{scratch_behind_holds}
+use Rattle.sheet_races.specs.Numbers.{refused_numbers, Answers}
 
 -- What each return of `sheet_races` is to show: refusal 1 for a code above 5, refusal 2 for a short scratch, else what is answered of the sheet.
 module _ (text : List ℕ) (code : ℕ) (scratch output : List ℕ) where
-  told-from : (scratchExit outputExit : List ℕ) (n : HoldingNumbers) (o : Out Scenario) → watchable text code (length scratch) ≡ o
-      → n ≡ racesAnswer o code (length output) → scratchExit ≡ scratchBehind o scratch → outputExit ≡ racesLeft o code output
-      → RacesTold text code scratch scratchExit output outputExit n
-  told-from scratchExit outputExit n o e a s l =
-      races-told text code scratch scratchExit output outputExit n (a ∙ ap (λ (p : Out Scenario). racesAnswer p code (length output)) (sym e))
-      (s ∙ ap (λ (p : Out Scenario). scratchBehind p scratch) (sym e)) (l ∙ ap (λ (p : Out Scenario). racesLeft p code output) (sym e))
+  told_from : (scratch_exit output_exit : List ℕ) (n : HoldingNumbers) (o : Out Scenario) → watchable text code (length scratch) ≡ o
+      → n ≡ races_answer o code (length output) → scratch_exit ≡ scratch_behind o scratch → output_exit ≡ races_left o code output
+      → RacesTold text code scratch scratch_exit output output_exit n
+  told_from scratch_exit output_exit n o e a s l =
+      races_told text code scratch scratch_exit output output_exit n (a ∙ ap (λ (p : Out Scenario). races_answer p code (length output)) (sym e))
+      (s ∙ ap (λ (p : Out Scenario). scratch_behind p scratch) (sym e)) (l ∙ ap (λ (p : Out Scenario). races_left p code output) (sym e))
 
-  refuses : (number : ℕ) (n : HoldingNumbers) → number ≤ benchRefusal → watchable text code (length scratch) ≡ refusal number 0
-      → n ≡ refusedNumbers number 0 → RacesTold text code scratch scratch output output n
-  unfolding scratchBehind racesAnswer racesLeft
-  refuses number n l e i = told-from scratch output n (refusal number 0) e i (sym (rw (le-leb number benchRefusal l))) refl
+  refuses : (number : ℕ) (n : HoldingNumbers) → number ≤ bench_refusal → watchable text code (length scratch) ≡ refusal number 0
+      → n ≡ refused_numbers number 0 → RacesTold text code scratch scratch output output n
+  unfolding scratch_behind races_answer races_left
+  refuses number n l e i = told_from scratch output n (refusal number 0) e i (sym (rw (le-leb number bench_refusal l))) refl
 
-  pub refuses-channel : (n : HoldingNumbers) → n ≡ refusedNumbers channelRefusal 0 → channels ≤ code → RacesTold text code scratch scratch output output n
+  pub refuses_channel : (n : HoldingNumbers) → n ≡ refused_numbers channel_refusal 0 → channels ≤ code → RacesTold text code scratch scratch output output n
   unfolding watchable
-  refuses-channel n i h = refuses channelRefusal n (omega arith) (rw (le-ltb code channels h)) i
+  refuses_channel n i h = refuses channel_refusal n (omega arith) (rw (le-ltb code channels h)) i
 
-  pub refuses-scratch : (n : HoldingNumbers) → n ≡ refusedNumbers benchRefusal 0 → code < channels → length scratch < scratchLeast
+  pub refuses_scratch : (n : HoldingNumbers) → n ≡ refused_numbers bench_refusal 0 → code < channels → length scratch < scratch_least
       → RacesTold text code scratch scratch output output n
   unfolding watchable
-  refuses-scratch n i h l = refuses benchRefusal n (omega arith) (rw (lt-ltb code channels h, lt-ltb (length scratch) scratchLeast l)) i
+  refuses_scratch n i h l = refuses bench_refusal n (omega arith) (rw (lt-ltb code channels h, lt-ltb (length scratch) scratch_least l)) i
 
-  pub answers : (scratchExit outputExit used : List ℕ) (k : ℕ) (n : HoldingNumbers) (w : ℕ) → code < channels → scratchLeast ≤ length scratch
-      → length used ≡ k → k ≤ scratchLeast → scratchExit ≡ cleared w (used ++ drop k scratch) → w ≡ scratchLeast → Answers (sheetOf text) code output outputExit n
-      → RacesTold text code scratch scratchExit output outputExit n
+  pub answers : (scratch_exit output_exit used : List ℕ) (k : ℕ) (n : HoldingNumbers) (w : ℕ) → code < channels → scratch_least ≤ length scratch
+      → length used ≡ k → k ≤ scratch_least → scratch_exit ≡ cleared w (used ++ drop k scratch) → w ≡ scratch_least → Answers (sheet_of text) code output output_exit n
+      → RacesTold text code scratch scratch_exit output output_exit n
   unfolding watchable
-  answers scratchExit outputExit used k n w h l e m s all a =
-      told-from scratchExit outputExit n (sheetOf text) (rw (lt-ltb code channels h, le-ltb (length scratch) scratchLeast l)) (a .answer)
-      (cleared-all scratchLeast w (used ++ drop k scratch) scratchExit s all ∙ scratch-behind text scratch used k e m) (a .outputLeft)
+  answers scratch_exit output_exit used k n w h l e m s all a =
+      told_from scratch_exit output_exit n (sheet_of text) (rw (lt-ltb code channels h, le-ltb (length scratch) scratch_least l)) a.answer
+      (cleared_all scratch_least w (used ++ drop k scratch) scratch_exit s all ∙ scratch_behind_holds text scratch used k e m) a.output_left

@@ -1,24 +1,21 @@
 -- The numbers that C gets of a sheet's races, and what is answered of its scenario. Assumes nothing.
-use Prim.Native.Nat.{ℕ}
-use mathlib.Core.Path.{_≡_}
-use mathlib.Core.List.{List}
-use lib.ListN.{length}
-use Rattle·model.specs.Refusal.{Out}
-use Rattle·model.specs.Order.{Scenario}
-use Rattle·model.specs.Holdings.{HoldingNumbers, listedWord, refusedWord, racesAnswer, racesLeft}
-use Rattle·sheet_races·specs.specs.declared.SheetRacesAnswer.{SheetRacesAnswer}
+use Rattle.std.specs.Prelude.{ℕ, ◌≡◌, List, length}
+use Rattle.model.specs.Refusal.{Out}
+use Rattle.model.specs.Order.{Scenario}
+use Rattle.model.specs.Holdings.{HoldingNumbers, listed_word, refused_word, races_answer, races_left}
+use Rattle.sheet_races.specs.declared.SheetRacesAnswer.{SheetRacesAnswer}
 
 -- the three numbers handed to C
-abbrev pub numbersIn : SheetRacesAnswer → HoldingNumbers
-numbersIn r = record { word = r .word; one = r .one; two = r .two }
+abbrev pub numbers_in : SheetRacesAnswer → HoldingNumbers
+numbers_in r = record { word = r.word; one = r.one; two = r.two }
 
-abbrev pub listedNumbers : ℕ → ℕ → HoldingNumbers
-listedNumbers all listed = record { word = listedWord; one = all; two = listed }
+abbrev pub listed_numbers : ℕ → ℕ → HoldingNumbers
+listed_numbers all listed = record { word = listed_word; one = all; two = listed }
 
-abbrev pub refusedNumbers : ℕ → ℕ → HoldingNumbers
-refusedNumbers number line = record { word = refusedWord; one = number; two = line }
+abbrev pub refused_numbers : ℕ → ℕ → HoldingNumbers
+refused_numbers number line = record { word = refused_word; one = number; two = line }
 
 -- what is answered of a sheet, accepted or refused, and left in the output
 pub record Answers (sheet : Out Scenario) (code : ℕ) (output exit : List ℕ) (r : HoldingNumbers) : Type 0 where
-  pub answer : r ≡ racesAnswer sheet code (length output)
-  pub outputLeft : exit ≡ racesLeft sheet code output
+  pub answer : r ≡ races_answer sheet code (length output)
+  pub output_left : exit ≡ races_left sheet code output

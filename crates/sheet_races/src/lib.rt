@@ -1,21 +1,22 @@
 // All races of a sheet on a channel: a text, a channel code, scratch words and an output of any length in; how many there are, or a refusal, out.
-ghost use mathlib.Core.Path.{_≡_};
-ghost use Prim.Native.Nat.{_*_, _<_, _≤_};
-ghost use lib.ListN.{length};
-ghost use Rattle·model.specs.Limits.{channels, messagesMost, rowsMost};
-ghost use Rattle·model.specs.Place.{lineOf};
-ghost use Rattle·model.specs.Answer.{sheetOf};
-ghost use Rattle·model.specs.Holdings.{RacesTold};
-ghost use Rattle·relation.specs.Width.{width};
-ghost use Rattle·race_list.specs.Listing.{racesMost};
-ghost use Rattle·sheet_races·specs.specs.Numbers.{numbersIn, listedNumbers, refusedNumbers, Answers};
-use answer_words::listed::LISTED;
-use answer_words::listed::REFUSED;
+#![tactic(auto)]
+
+ghost use Rattle.std.specs.Prelude.{◌≡◌, ◌*◌, ◌<◌, ◌≤◌, length};
+ghost use Rattle.model.specs.Limits.{channels, messages_most, rows_most};
+ghost use Rattle.model.specs.Place.{line_of};
+ghost use Rattle.model.specs.Answer.{sheet_of};
+ghost use Rattle.model.specs.Holdings.{RacesTold};
+ghost use Rattle.relation.specs.Width.{width};
+ghost use Rattle.race_list.specs.Listing.{races_most};
+ghost use Rattle.sheet_races.specs.Numbers.{numbers_in, listed_numbers, refused_numbers, Answers};
+
+use answer_words::listed::{LISTED, REFUSED};
 use expansion::Expanded;
 use race_list::Told;
 
 // word 0 listed (one is how many races there are, two how many of them stand in the output), 1 refused (one is the number, two the line).
 #[repr(C)]
+#[derive(Clone, Copy)]
 pub struct SheetRacesAnswer {
     pub word: u32,
     pub one: u32,
@@ -23,8 +24,8 @@ pub struct SheetRacesAnswer {
 }
 
 fn listed(told: Told) -> SheetRacesAnswer
-    requires { ⌜ (told .all ≤ racesMost) × (told .listed ≤ racesMost) ⌝ }
-    ensures { λ r. ⌜ numbersIn r ≡ listedNumbers (told .all) (told .listed) ⌝ }
+    requires { (told.all ≤ races_most) × (told.listed ≤ races_most) }
+    ensures { numbers_in result ≡ listed_numbers told.all told.listed }
 {
     SheetRacesAnswer {
         word: LISTED,
@@ -34,8 +35,8 @@ fn listed(told: Told) -> SheetRacesAnswer
 }
 
 fn refused(number: u8, line: usize) -> SheetRacesAnswer
-    requires { ⌜ line ≤ lineOf rowsMost ⌝ }
-    ensures { λ r. ⌜ numbersIn r ≡ refusedNumbers number line ⌝ }
+    requires { line ≤ line_of rows_most }
+    ensures { numbers_in result ≡ refused_numbers number line }
 {
     SheetRacesAnswer {
         word: REFUSED,
@@ -46,9 +47,9 @@ fn refused(number: u8, line: usize) -> SheetRacesAnswer
 
 // A text: its scenario, in the words of the relation, and its races.
 fn judge(text: &[u8], code: usize, words: &mut [u64], output: &mut [u16]) -> SheetRacesAnswer
-    requires { ⌜ length (now words) ≡ 2 * messagesMost * width ⌝ }
-    requires { ⌜ code < channels ⌝ }
-    ensures { λ r. ⌜ Answers (sheetOf (now (text .entry))) code (now (output .entry)) (now (output .exit)) (numbersIn r) ⌝ }
+    requires words_len { length words.old ≡ 2 * messages_most * width }
+    requires code_lt_channels { code < channels }
+    ensures { Answers (sheet_of text.now) code output.old output.new (numbers_in result) }
 {
     let mut boards = [0u8; model::EVENTS_MOST];
     let outcome = scenario::scenario_of(text, &mut boards, words);
@@ -68,7 +69,7 @@ pub fn sheet_races(
     scratch: &mut [u64],
     output: &mut [u16],
 ) -> SheetRacesAnswer
-    ensures { λ r. ⌜ RacesTold (now (text .entry)) code (now (scratch .entry)) (now (scratch .exit)) (now (output .entry)) (now (output .exit)) (numbersIn r) ⌝ }
+    ensures { RacesTold text.now code scratch.old scratch.new output.old output.new (numbers_in result) }
 {
     let channel = code as usize;
     if model::CHANNELS <= channel {

@@ -1,13 +1,14 @@
 // Two taps on one machine: a text, scratch words and two lists of event numbers in; one course of events for both, a clash or a refusal out.
-ghost use mathlib.Core.Path.{_≡_};
-ghost use Prim.Native.Nat.{_*_, _≤_};
-ghost use lib.ListN.{length};
-ghost use Rattle·model.specs.Limits.{messagesMost, tapNumbersLeast};
-ghost use Rattle·model.specs.Refusal.{andThen};
-ghost use Rattle·model.specs.Answer.{sheetOf};
-ghost use Rattle·model.specs.Taps.{withLists, TapsChecked};
-ghost use Rattle·relation.specs.Width.{width};
-ghost use Rattle·taps.specs.Parts.{numbersFor, Decides};
+#![tactic(auto)]
+
+ghost use Rattle.std.specs.Prelude.{◌≡◌, ◌*◌, ◌≤◌, length};
+ghost use Rattle.model.specs.Limits.{messages_most, tap_numbers_least};
+ghost use Rattle.model.specs.Refusal.{and_then};
+ghost use Rattle.model.specs.Answer.{sheet_of};
+ghost use Rattle.model.specs.Taps.{with_lists, TapsChecked};
+ghost use Rattle.relation.specs.Width.{width};
+ghost use Rattle.taps.specs.Parts.{numbers_for, Decides};
+
 use expansion::Expanded;
 use taps::Answer;
 
@@ -19,9 +20,9 @@ fn judge(
     second: &[u16],
     output: &mut [u16],
 ) -> Answer
-    requires { ⌜ length (now words) ≡ 2 * messagesMost * width ⌝ }
-    requires { ⌜ tapNumbersLeast ≤ length (now output) ⌝ }
-    ensures { λ r. ⌜ Decides (now (first .entry)) (now (second .entry)) (andThen (sheetOf (now (text .entry))) (withLists (now (first .entry)) (now (second .entry)))) (now (output .entry)) (now (output .exit)) r ⌝ }
+    requires words_len { length words.old ≡ 2 * messages_most * width }
+    requires tap_numbers_least_in_bounds { tap_numbers_least ≤ length output.old }
+    ensures { Decides first.now second.now (and_then (sheet_of text.now) (with_lists first.now second.now)) output.old output.new result }
 {
     let mut boards = [0u8; model::EVENTS_MOST];
     let outcome = scenario::scenario_of(text, &mut boards, words);
@@ -39,7 +40,7 @@ pub fn fit(
     second: &[u16],
     output: &mut [u16],
 ) -> Answer
-    ensures { λ r. ⌜ TapsChecked (now (text .entry)) (now (scratch .entry)) (now (scratch .exit)) (now (first .entry)) (now (second .entry)) (now (output .entry)) (now (output .exit)) (numbersFor r) ⌝ }
+    ensures { TapsChecked text.now scratch.old scratch.new first.now second.now output.old output.new (numbers_for result) }
 {
     if scratch.len() < model::SCRATCH_LEAST {
         return Answer::Refused(model::BENCH, 0);

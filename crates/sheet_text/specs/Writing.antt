@@ -1,10 +1,7 @@
 -- What a writer does to the rest of the output that it is lent. Assumes nothing.
-use mathlib.Core.Path.{_≡_}
-use mathlib.Core.List.{List, _++_}
-use Prim.Native.Nat.{ℕ, _+_, _≤_}
-use lib.ListN.{length, drop}
-use lib.Seq.{sets}
-use Rattle·model.specs.Cure.{Written}
+use Rattle.std.specs.Prelude.{◌≡◌, List, ◌++◌, ℕ, ◌+◌, ◌≤◌, length, drop}
+use Rattle.std.proofs.lemmas.List.Edits.{sets}
+use Rattle.model.specs.Cure.{Written}
 
 -- the text is put at a place of the rest, byte by byte, and n is the place behind it
 pub record Puts (at : ℕ) (text rest exit : List ℕ) (n : ℕ) : Type 0 where
@@ -18,16 +15,16 @@ pub record Writes (text rest exit : List ℕ) (n : ℕ) : Type 0 where
   pub long : n ≡ length text
   pub room : length text ≤ length rest
 
-abbrev pub rowOf : ℕ → ℕ → ℕ → Written
-rowOf letter one two = record { letter = letter; one = one; two = two }
+abbrev pub row_of : ℕ → ℕ → ℕ → Written
+row_of letter one two = record { letter = letter; one = one; two = two }
 
 -- the most digits of a number
-abbrev pub digitsMost : ℕ
-digitsMost = 3
+abbrev pub digits_most : ℕ
+digits_most = 3
 
 -- a letter, two numbers of at most three digits, two spaces and the line end
-abbrev pub rowBytesMost : ℕ
-rowBytesMost = 10
+abbrev pub row_bytes_most : ℕ
+row_bytes_most = 10
 
-abbrev pub headingBytes : ℕ
-headingBytes = 13
+abbrev pub heading_bytes : ℕ
+heading_bytes = 13

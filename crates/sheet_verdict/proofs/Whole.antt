@@ -1,52 +1,52 @@
 -- The whole promise, from what the parts of the check hand on. Assumes nothing.
-use mathlib.Core.Path.{_≡_, refl, _∙_}
+use mathlib.Core.Path.{◌≡◌, refl, ◌∙◌}
 use mathlib.Core.Bool.{or-true}
-use mathlib.Core.List.{List, _++_}
-use Prim.Native.Nat.{ℕ, _<_, _≤_}
+use mathlib.Core.List.{List, ◌++◌}
+use Prim.Native.Nat.{ℕ, ◌<◌, ◌≤◌}
 use native.Mathlib.Omega.{arith}
 use borrow.Author.Tests.{lt-ltb, le-ltb, le-leb}
 use lib.Dec.{ltb}
 use lib.ListN.{length, drop}
-use Rattle·model.specs.Limits.{channels, scratchLeast, traceLeast}
-use Rattle·model.specs.Refusal.{refusal, channelRefusal, benchRefusal}
-use Rattle·model.specs.Answer.{refusedWord, sheetOf, acceptedOf, answerFor, scratchBehind, traceAfter}
-use Rattle·model.specs.Verdict.{Checked}
-use Rattle·model.proofs.PointThree.{checked-from}
-use Rattle·relation.specs.Rows.{cleared}
-use Rattle·relation.proofs.Cleared.{cleared-all}
-use Rattle·scenario.proofs.Laws.{scratch-behind}
-use Rattle·verdict.specs.declared.Answer.{Answer}
-use Rattle·verdict.specs.Parts.{numbersFor, Decides}
+use Rattle.model.specs.Limits.{channels, scratch_least, trace_least}
+use Rattle.model.specs.Refusal.{refusal, channel_refusal, bench_refusal}
+use Rattle.model.specs.Answer.{refused_word, sheet_of, accepted_of, answer_for, scratch_behind, trace_after}
+use Rattle.model.specs.Verdict.{Checked}
+use Rattle.model.proofs.PointThree.{checked_from}
+use Rattle.relation.specs.Rows.{cleared}
+use Rattle.relation.proofs.Cleared.{cleared_all}
+use Rattle.scenario.proofs.Laws.{scratch_behind_holds}
+use Rattle.verdict.specs.declared.Answer.{Answer}
+use Rattle.verdict.specs.Parts.{numbers_for, Decides}
 
 -- What each return of `check` is to show: refusal 1 for a code above 5, refusal 2 for a short buffer, else what the sheet decides.
 module _ (text : List ℕ) (code : ℕ) (scratch trace : List ℕ) where
-  refuses : (number : ℕ) → number ≤ benchRefusal → acceptedOf text code (length scratch) (length trace) ≡ refusal number 0
-      → Checked text code scratch scratch trace trace (record { word = refusedWord; one = number; two = 0; three = 0 })
-  unfolding scratchBehind answerFor traceAfter
-  refuses number l e = checked-from text code scratch scratch trace trace _ (refusal number 0) e refl (rw (le-leb number benchRefusal l)) refl
+  refuses : (number : ℕ) → number ≤ bench_refusal → accepted_of text code (length scratch) (length trace) ≡ refusal number 0
+      → Checked text code scratch scratch trace trace (record { word = refused_word; one = number; two = 0; three = 0 })
+  unfolding scratch_behind answer_for trace_after
+  refuses number l e = checked_from text code scratch scratch trace trace _ (refusal number 0) e refl (rw (le-leb number bench_refusal l)) refl
 
-  pub refuses-channel : channels ≤ code
-      → Checked text code scratch scratch trace trace (record { word = refusedWord; one = channelRefusal; two = 0; three = 0 })
-  unfolding acceptedOf
-  refuses-channel h = refuses channelRefusal (omega arith) (rw (le-ltb code channels h))
+  pub refuses_channel : channels ≤ code
+      → Checked text code scratch scratch trace trace (record { word = refused_word; one = channel_refusal; two = 0; three = 0 })
+  unfolding accepted_of
+  refuses_channel h = refuses channel_refusal (omega arith) (rw (le-ltb code channels h))
 
-  pub refuses-scratch : code < channels → length scratch < scratchLeast
-      → Checked text code scratch scratch trace trace (record { word = refusedWord; one = benchRefusal; two = 0; three = 0 })
-  unfolding acceptedOf
-  refuses-scratch h l = refuses benchRefusal (omega arith) (rw (lt-ltb code channels h, lt-ltb (length scratch) scratchLeast l))
+  pub refuses_scratch : code < channels → length scratch < scratch_least
+      → Checked text code scratch scratch trace trace (record { word = refused_word; one = bench_refusal; two = 0; three = 0 })
+  unfolding accepted_of
+  refuses_scratch h l = refuses bench_refusal (omega arith) (rw (lt-ltb code channels h, lt-ltb (length scratch) scratch_least l))
 
-  pub refuses-trace : code < channels → length trace < traceLeast
-      → Checked text code scratch scratch trace trace (record { word = refusedWord; one = benchRefusal; two = 0; three = 0 })
-  unfolding acceptedOf
-  refuses-trace h l =
-      refuses benchRefusal (omega arith)
-      (rw (lt-ltb code channels h, lt-ltb (length trace) traceLeast l, or-true (ltb (length scratch) scratchLeast)))
+  pub refuses_trace : code < channels → length trace < trace_least
+      → Checked text code scratch scratch trace trace (record { word = refused_word; one = bench_refusal; two = 0; three = 0 })
+  unfolding accepted_of
+  refuses_trace h l =
+      refuses bench_refusal (omega arith)
+      (rw (lt-ltb code channels h, lt-ltb (length trace) trace_least l, or-true (ltb (length scratch) scratch_least)))
 
-  pub answers : (scratchExit traceExit used : List ℕ) (n : ℕ) (r : Answer) (w : ℕ) → code < channels → scratchLeast ≤ length scratch → traceLeast ≤ length trace
-      → length used ≡ n → n ≤ scratchLeast → scratchExit ≡ cleared w (used ++ drop n scratch) → w ≡ scratchLeast → Decides (sheetOf text) code trace traceExit r
-      → Checked text code scratch scratchExit trace traceExit (numbersFor r)
-  unfolding acceptedOf
-  answers scratchExit traceExit used n r w h l k e m s all d =
-      checked-from text code scratch scratchExit trace traceExit (numbersFor r) (sheetOf text)
-      (rw (lt-ltb code channels h, le-ltb (length scratch) scratchLeast l, le-ltb (length trace) traceLeast k))
-      (d .answer) (cleared-all scratchLeast w (used ++ drop n scratch) scratchExit s all ∙ scratch-behind text scratch used n e m) (d .traceLeft)
+  pub answers : (scratch_exit trace_exit used : List ℕ) (n : ℕ) (r : Answer) (w : ℕ) → code < channels → scratch_least ≤ length scratch → trace_least ≤ length trace
+      → length used ≡ n → n ≤ scratch_least → scratch_exit ≡ cleared w (used ++ drop n scratch) → w ≡ scratch_least → Decides (sheet_of text) code trace trace_exit r
+      → Checked text code scratch scratch_exit trace trace_exit (numbers_for r)
+  unfolding accepted_of
+  answers scratch_exit trace_exit used n r w h l k e m s all d =
+      checked_from text code scratch scratch_exit trace trace_exit (numbers_for r) (sheet_of text)
+      (rw (lt-ltb code channels h, le-ltb (length scratch) scratch_least l, le-ltb (length trace) trace_least k))
+      d.answer (cleared_all scratch_least w (used ++ drop n scratch) scratch_exit s all ∙ scratch_behind_holds text scratch used n e m) d.trace_left

@@ -1,20 +1,21 @@
 // The check of a sheet on a channel: a text, a channel code, scratch words and trace bytes in; free, locked or refused out.
-ghost use mathlib.Core.Path.{_≡_};
-ghost use Prim.Native.Nat.{_*_, _<_, _≤_};
-ghost use lib.ListN.{length};
-ghost use Rattle·model.specs.Limits.{channels, messagesMost, traceLeast};
-ghost use Rattle·model.specs.Answer.{sheetOf};
-ghost use Rattle·model.specs.Verdict.{Checked};
-ghost use Rattle·relation.specs.Width.{width};
-ghost use Rattle·verdict.specs.Parts.{numbersFor, Decides};
+#![tactic(auto)]
+
+ghost use Rattle.std.specs.Prelude.{◌≡◌, ◌*◌, ◌<◌, ◌≤◌, length};
+ghost use Rattle.model.specs.Limits.{channels, messages_most, trace_least};
+ghost use Rattle.model.specs.Answer.{sheet_of};
+ghost use Rattle.model.specs.Verdict.{Checked};
+ghost use Rattle.relation.specs.Width.{width};
+ghost use Rattle.verdict.specs.Parts.{numbers_for, Decides};
+
 use expansion::Expanded;
 use verdict::Answer;
 
 // A text: its scenario, in the words of the relation, and what is decided of it.
 fn judge(text: &[u8], code: usize, words: &mut [u64], trace: &mut [u8]) -> Answer
-    requires { ⌜ length (now words) ≡ 2 * messagesMost * width ⌝ }
-    requires { ⌜ (code < channels) × (traceLeast ≤ length (now trace)) ⌝ }
-    ensures { λ r. ⌜ Decides (sheetOf (now (text .entry))) code (now (trace .entry)) (now (trace .exit)) r ⌝ }
+    requires words_len { length words.old ≡ 2 * messages_most * width }
+    requires code_lt_channels { (code < channels) × (trace_least ≤ length trace.old) }
+    ensures { Decides (sheet_of text.now) code trace.old trace.new result }
 {
     let mut boards = [0u8; model::EVENTS_MOST];
     let outcome = scenario::scenario_of(text, &mut boards, words);
@@ -26,7 +27,7 @@ fn judge(text: &[u8], code: usize, words: &mut [u64], trace: &mut [u8]) -> Answe
 
 // The check: refusals 1 and 2 touch nothing; behind every other answer the scratch is cleared.
 pub fn check(text: &[u8], code: u32, scratch: &mut [u64], trace: &mut [u8]) -> Answer
-    ensures { λ r. ⌜ Checked (now (text .entry)) code (now (scratch .entry)) (now (scratch .exit)) (now (trace .entry)) (now (trace .exit)) (numbersFor r) ⌝ }
+    ensures { Checked text.now code scratch.old scratch.new trace.old trace.new (numbers_for result) }
 {
     let channel = code as usize;
     if model::CHANNELS <= channel {

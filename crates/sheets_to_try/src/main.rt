@@ -1,13 +1,15 @@
 // Runs the paper's sheets that are not in the proved table, 9 and 10, and sheets for each refusal, each limit from both sides, on all six
 // channels, and compares: a line of the list has a file's name and what must come, channel by channel, the last for all channels that are
 // left. Then the limits of what is lent. A line is printed for each, which says whether it came.
-ghost use Prim.Native.Nat.{_≤_};
-ghost use lib.ListN.{length};
-use answer_words::checked::FREE;
-use answer_words::checked::LOCKED;
-use answer_words::checked::REFUSED;
+#![tactic(auto)]
+
+ghost use Rattle.std.specs.Prelude.{◌≤◌, length};
+
+use answer_words::checked::{FREE, LOCKED, REFUSED};
 use answers::ChannelCheckAnswer;
 use input::Input;
+use std::io;
+use std::io::Write;
 
 // Room for the list.
 const LIST_MOST: usize = 8192;
@@ -18,6 +20,7 @@ const ROOM: usize = model::TEXT_MOST + 256;
 const LINE_END: u8 = 10;
 
 // What must come: the word and the three numbers.
+#[derive(Clone, Copy)]
 struct Expected {
     word: u32,
     one: u32,
@@ -25,12 +28,24 @@ struct Expected {
     three: u32,
 }
 
+// The place of the first such byte from there on; the end of the text where there is none.
+fn find(text: &[u8], at: usize, byte: u8) -> usize
+    requires { at ≤ length text.now }
+    ensures from { at ≤ result }
+    ensures within { result ≤ length text.now }
+{
+    match text[at..].iter().position(|b| *b == byte) {
+        Some(ahead) => at + ahead,
+        None => text.len(),
+    }
+}
+
 // The place behind the field that starts there and behind its space.
 fn behind_field(line: &[u8], at: usize) -> usize
-    requires { ⌜ at ≤ length (now line) ⌝ }
-    ensures { λ r. ⌜ r ≤ length (now (line .entry)) ⌝ }
+    requires { at ≤ length line.now }
+    ensures { result ≤ length line.now }
 {
-    let end = bytes::scan::find(line, at, line.len(), b' ');
+    let end = find(line, at, b' ');
     if end < line.len() { end + 1 } else { end }
 }
 
@@ -70,7 +85,7 @@ fn number_at(line: &[u8], at: usize) -> u32 {
 
 // What the four fields from there on say.
 fn expected_at(line: &[u8], at: usize) -> Expected
-    requires { ⌜ at ≤ length (now line) ⌝ }
+    requires { at ≤ length line.now }
 {
     let first = behind_field(line, at);
     let second = behind_field(line, first);
@@ -85,8 +100,8 @@ fn expected_at(line: &[u8], at: usize) -> Expected
 
 // The place behind four fields; the same place where the line has no more.
 fn behind_answer(line: &[u8], at: usize) -> usize
-    requires { ⌜ at ≤ length (now line) ⌝ }
-    ensures { λ r. ⌜ r ≤ length (now (line .entry)) ⌝ }
+    requires { at ≤ length line.now }
+    ensures { result ≤ length line.now }
 {
     let first = behind_field(line, at);
     let second = behind_field(line, first);
@@ -100,17 +115,23 @@ fn is_expected(a: ChannelCheckAnswer, must: Expected) -> bool {
 }
 
 // Whether it came, behind what it is. False where that could not be printed, which is then told.
-fn tell(what: &[u8], came: bool) -> bool {
-    let printed = printing::print(what) && print_verdict(came);
-    printing::conclude(printed);
-    printed
+fn tell(rt: &HostRuntime, what: &[u8], came: bool) -> bool {
+    let printed = print_came(&mut rt.stdout(), what, came);
+    let taken = printed.is_ok();
+    printing::conclude(&mut rt.stderr(), printed);
+    taken
 }
 
-fn print_verdict(came: bool) -> bool {
+fn print_came<W: Write>(out: &mut W, what: &[u8], came: bool) -> io::Result<()> {
+    printing::print(out, what)?;
+    print_verdict(out, came)
+}
+
+fn print_verdict<W: Write>(out: &mut W, came: bool) -> io::Result<()> {
     if came {
-        printing::print(b": came\n")
+        printing::print(out, b": came\n")
     } else {
-        printing::print(b": DID NOT COME\n")
+        printing::print(out, b": DID NOT COME\n")
     }
 }
 
@@ -123,7 +144,7 @@ fn answer_on(text: &[u8], code: u32) -> ChannelCheckAnswer {
 
 // What must come of the text, by the fields of the line from `from` on, came on every channel.
 fn came_of(text: &[u8], line: &[u8], from: usize) -> bool
-    requires { ⌜ from ≤ length (now line) ⌝ }
+    requires { from ≤ length line.now }
 {
     let mut at = from;
     for code in 0..model::CHANNELS {
@@ -136,22 +157,22 @@ fn came_of(text: &[u8], line: &[u8], from: usize) -> bool
 }
 
 // A line of the list: a file's name, and what must come. False where the file cannot be read, or the line not be printed.
-fn show(line: &[u8]) -> bool {
+fn show(rt: &HostRuntime, line: &[u8]) -> bool {
     let mut text = [0u8; ROOM];
-    let end = bytes::scan::find(line, 0, line.len(), b' ');
+    let end = find(line, 0, b' ');
     let from = behind_field(line, 0);
-    match input::read_file(&line[..end], &mut text) {
+    match input::read_file(rt, &mut rt.stderr(), &line[..end], &mut text) {
         Input::Failed => false,
-        Input::Read(n) => tell(line, came_of(&text[..n], line, from)),
+        Input::Read(n) => tell(rt, line, came_of(&text[..n], line, from)),
     }
 }
 
 // Each line of the list, up to one that fails.
-fn show_all(list: &[u8]) -> bool {
+fn show_all(rt: &HostRuntime, list: &[u8]) -> bool {
     let mut at = 0;
     while at < list.len() {
-        let end = bytes::scan::find(list, at, list.len(), LINE_END);
-        if !show(&list[at..end]) {
+        let end = find(list, at, LINE_END);
+        if !show(rt, &list[at..end]) {
             return false;
         }
         if end == list.len() {
@@ -163,7 +184,14 @@ fn show_all(list: &[u8]) -> bool {
 }
 
 // A sheet without messages on a channel, with these buffers: free, or refused with so much.
-fn show_lent(what: &[u8], code: u32, scratch: &mut [u64], trace: &mut [u8], number: u32) -> bool {
+fn show_lent(
+    rt: &HostRuntime,
+    what: &[u8],
+    code: u32,
+    scratch: &mut [u64],
+    trace: &mut [u8],
+    number: u32,
+) -> bool {
     let a = channel_check::channel_check(b"kind one two\nS 0 0\n", code, scratch, trace);
     let must = Expected {
         word: if number == 0 { FREE } else { REFUSED },
@@ -171,43 +199,43 @@ fn show_lent(what: &[u8], code: u32, scratch: &mut [u64], trace: &mut [u8], numb
         two: 0,
         three: 0,
     };
-    tell(what, is_expected(a, must))
+    tell(rt, what, is_expected(a, must))
 }
 
 // The same with the least buffers that are enough.
-fn show_enough(what: &[u8], code: u32, number: u32) -> bool {
+fn show_enough(rt: &HostRuntime, what: &[u8], code: u32, number: u32) -> bool {
     let mut scratch = [0u64; model::SCRATCH_LEAST];
     let mut trace = [0u8; model::TRACE_LEAST];
-    show_lent(what, code, &mut scratch, &mut trace, number)
+    show_lent(rt, what, code, &mut scratch, &mut trace, number)
 }
 
 // A word of scratch too few; and a byte of trace.
-fn show_short_scratch() -> bool {
+fn show_short_scratch(rt: &HostRuntime) -> bool {
     let mut scratch = [0u64; model::SCRATCH_LEAST - 1];
     let mut trace = [0u8; model::TRACE_LEAST];
-    show_lent(b"4095 words: refused 2", 0, &mut scratch, &mut trace, 2)
+    show_lent(rt, b"4095 words: refused 2", 0, &mut scratch, &mut trace, 2)
 }
 
-fn show_short_trace() -> bool {
+fn show_short_trace(rt: &HostRuntime) -> bool {
     let mut scratch = [0u64; model::SCRATCH_LEAST];
     let mut trace = [0u8; model::TRACE_LEAST - 1];
-    show_lent(b"1535 bytes: refused 2", 0, &mut scratch, &mut trace, 2)
+    show_lent(rt, b"1535 bytes: refused 2", 0, &mut scratch, &mut trace, 2)
 }
 
 // The limits of what is lent.
-fn show_limits() -> bool {
-    show_enough(b"channel 5: free", 5, 0)
-        && show_enough(b"channel 6: refused 1", 6, 1)
-        && show_enough(b"4096 words and 1536 bytes: free", 0, 0)
-        && show_short_scratch()
-        && show_short_trace()
+fn show_limits(rt: &HostRuntime) -> bool {
+    show_enough(rt, b"channel 5: free", 5, 0)
+        && show_enough(rt, b"channel 6: refused 1", 6, 1)
+        && show_enough(rt, b"4096 words and 1536 bytes: free", 0, 0)
+        && show_short_scratch(rt)
+        && show_short_trace(rt)
 }
 
-fn main() {
+fn main(rt: HostRuntime) {
     let mut list = [0u8; LIST_MOST];
-    if let Input::Read(n) = input::read_file(b"list", &mut list) {
-        if show_all(&list[..n]) {
-            show_limits();
+    if let Input::Read(n) = input::read_file(&rt, &mut rt.stderr(), b"list", &mut list) {
+        if show_all(&rt, &list[..n]) {
+            show_limits(&rt);
         }
     }
 }

@@ -1,14 +1,16 @@
 // Where a run stands: finished, stuck or open.
-ghost use mathlib.Core.Path.{_≡_};
-ghost use Prim.Native.Nat.{_<_, _≤_};
-ghost use Rattle·model.specs.Limits.{messagesMost};
-ghost use Rattle·model.specs.Run.{noStep};
-ghost use Rattle·model.specs.Replay.{standing};
-ghost use Rattle·relation.specs.Scenario.{scenarioIn};
-ghost use Rattle·channel_table.specs.Table.{channelIn};
-ghost use Rattle·board.specs.Masks.{Standing};
-ghost use Rattle·run.specs.State.{stateOf};
-ghost use Rattle·standing·specs.specs.Bridge.{standIn, allDone, SaysNoStep};
+#![tactic(auto)]
+
+ghost use Rattle.std.specs.Prelude.{◌≡◌, ◌<◌, ◌≤◌};
+ghost use Rattle.model.specs.Limits.{messages_most};
+ghost use Rattle.model.specs.Run.{no_step};
+ghost use Rattle.model.specs.Replay.{standing};
+ghost use Rattle.relation.specs.Scenario.{scenario_in};
+ghost use Rattle.channel_table.specs.Table.{channel_in};
+ghost use Rattle.board.specs.Masks.{Standing};
+ghost use Rattle.run.specs.State.{state_of};
+ghost use Rattle.standing.specs.Bridge.{stand_in, all_done, SaysNoStep};
+
 use buffers::HELD_WORDS;
 use channel::may_step;
 use channel_table::Channel;
@@ -17,6 +19,7 @@ use run::Run;
 use step::Step;
 
 // All events done; no step allowed, and not all done; or a step allowed.
+#[derive(Clone, Copy)]
 pub enum Stand {
     Finished,
     Stuck,
@@ -25,8 +28,8 @@ pub enum Stand {
 
 // All events are done.
 fn is_finished(done: &[u64; WIDTH], count: usize) -> bool
-    requires { ⌜ count ≤ messagesMost ⌝ }
-    ensures { λ r. ⌜ r ≡ allDone count (now (done .entry)) ⌝ }
+    requires { count ≤ messages_most }
+    ensures { result ≡ all_done count done.now }
 {
     for m in 0..count {
         let send = 2 * m;
@@ -53,9 +56,9 @@ fn is_held_up<'a>(
     rows: &'a [u64; HELD_WORDS],
     m: usize,
 ) -> bool
-    requires { ⌜ Standing count (now boards) (now words) (now masks) ⌝ }
-    requires { ⌜ m < count ⌝ }
-    ensures { λ r. ⌜ SaysNoStep count (now (boards .entry)) (now (words .entry)) c (now (done .entry)) (now (way .entry)) (now (rows .entry)) m r ⌝ }
+    requires standing { Standing count boards.now words.now masks.now }
+    requires m_lt_count { m < count }
+    ensures { SaysNoStep count boards.now words.now c done.now way.now rows.now m result }
 {
     let send = Step::Send(m);
     if may_step(words, masks, boards, count, c, done, way, rows, send) {
@@ -78,8 +81,8 @@ fn has_no_step(
     count: usize,
     c: Channel,
 ) -> bool
-    requires { ⌜ Standing count (now boards) (now words) (now masks) ⌝ }
-    ensures { λ r. ⌜ r ≡ noStep (scenarioIn count (now (boards .entry)) (now (words .entry))) (channelIn c) (stateOf run) ⌝ }
+    requires { Standing count boards.now words.now masks.now }
+    ensures { result ≡ no_step (scenario_in count boards.now words.now) (channel_in c) (state_of run) }
 {
     let done = run.done;
     let way = run.way;
@@ -102,8 +105,8 @@ pub fn stand_of(
     count: usize,
     c: Channel,
 ) -> Stand
-    requires { ⌜ Standing count (now boards) (now words) (now masks) ⌝ }
-    ensures { λ r. ⌜ standIn r ≡ standing (scenarioIn count (now (boards .entry)) (now (words .entry))) (channelIn c) (stateOf run) ⌝ }
+    requires { Standing count boards.now words.now masks.now }
+    ensures { stand_in result ≡ standing (scenario_in count boards.now words.now) (channel_in c) (state_of run) }
 {
     if is_finished(&run.done, count) {
         return Stand::Finished;

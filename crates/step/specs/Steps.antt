@@ -1,27 +1,27 @@
 -- From the code's steps to the model's. Assumes nothing.
-use mathlib.Core.Option.{Option, none, some}
-use Prim.Native.Nat.{ℕ, _+_, _*_}
-use Rattle·model.specs.Run as model
-use Rattle·model.specs.Schedule.{messageOfStep}
-use Rattle·step·specs.specs.declared.Step.{Step}
-use Rattle·step·specs.specs.declared.Step.the-variants as step
-use Rattle·step·specs.specs.declared.StepOrNone.{StepOrNone}
-use Rattle·step·specs.specs.declared.StepOrNone.the-variants as maybe
+use Rattle.std.proofs.Math.Option.{Option, none, some}
+use Rattle.std.specs.Prelude.{ℕ, ◌+◌, ◌*◌}
+use Rattle.model.specs.Run as model
+use Rattle.model.specs.Schedule.{message_of_step}
+use Rattle.step.specs.declared.Step.{Step}
+use Rattle.step.specs.declared.Step.TheVariants as step
+use Rattle.step.specs.declared.StepOrNone.{StepOrNone}
+use Rattle.step.specs.declared.StepOrNone.TheVariants as maybe
 
-abbrev pub stepIn : Step → model.Step
-stepIn (step.Send m) = model.send m
-stepIn (step.Deliver m) = model.deliver m
-stepIn (step.Consume m) = model.consume m
+abbrev pub step_in : Step → model.Step
+step_in (step.Send m) = model.send m
+step_in (step.Deliver m) = model.deliver m
+step_in (step.Consume m) = model.consume m
 
-abbrev pub stepOrNone : StepOrNone → Option model.Step
-stepOrNone (maybe.Step s) = some (stepIn s)
-stepOrNone maybe.Nothing = none
+abbrev pub step_or_none : StepOrNone → Option model.Step
+step_or_none (maybe.Step s) = some (step_in s)
+step_or_none maybe.Nothing = none
 
-abbrev pub messageIn : Step → ℕ
-messageIn s = messageOfStep (stepIn s)
+abbrev pub message_in : Step → ℕ
+message_in s = message_of_step (step_in s)
 
 -- the event on whose board the step is taken
-abbrev pub eventIn : Step → ℕ
-eventIn (step.Send m) = 2 * m
-eventIn (step.Deliver m) = 2 * m + 1
-eventIn (step.Consume m) = 2 * m + 1
+abbrev pub event_in : Step → ℕ
+event_in (step.Send m) = 2 * m
+event_in (step.Deliver m) = 2 * m + 1
+event_in (step.Consume m) = 2 * m + 1

@@ -1,9 +1,11 @@
 // A step of a run, and its two bytes in a trace: the kind, then the message.
-ghost use mathlib.Core.Path.{_≡_};
-ghost use Prim.Native.Nat.{_<_};
-ghost use Rattle·model.specs.Limits.{messagesMost};
-ghost use Rattle·model.specs.Schedule.{kindOf, stepTold};
-ghost use Rattle·step·specs.specs.Steps.{stepIn, messageIn, eventIn, stepOrNone};
+#![tactic(auto)]
+
+ghost use Rattle.std.specs.Prelude.{◌≡◌, ◌<◌};
+ghost use Rattle.model.specs.Limits.{messages_most};
+ghost use Rattle.model.specs.Schedule.{kind_of, step_told};
+ghost use Rattle.step.specs.Steps.{step_in, message_in, event_in, step_or_none};
+
 use answer_words::kinds;
 
 // The kinds, in the width that a caller's number is compared in.
@@ -14,12 +16,14 @@ const DELIVER: usize = kinds::DELIVER as usize;
 const CONSUME: usize = kinds::CONSUME as usize;
 
 // A message is sent, delivered or consumed.
+#[derive(Clone, Copy)]
 pub enum Step {
     Send(usize),
     Deliver(usize),
     Consume(usize),
 }
 
+#[derive(Clone, Copy)]
 pub enum StepOrNone {
     Step(Step),
     Nothing,
@@ -28,7 +32,7 @@ pub enum StepOrNone {
 impl Step {
     // The byte of its kind.
     pub fn kind(self) -> u8
-        ensures { λ r. ⌜ r ≡ kindOf (stepIn self) ⌝ }
+        ensures { result ≡ kind_of (step_in self) }
     {
         match self {
             Step::Send(_) => kinds::SEND,
@@ -39,7 +43,7 @@ impl Step {
 
     // Its message.
     pub fn message(self) -> usize
-        ensures { λ r. ⌜ r ≡ messageIn self ⌝ }
+        ensures { result ≡ message_in self }
     {
         match self {
             Step::Send(m) => m,
@@ -50,8 +54,8 @@ impl Step {
 
     // The event on whose board it is taken: its message's send; else, to deliver or to consume it, the receive.
     pub fn event(self) -> usize
-        requires { ⌜ messageIn self < messagesMost ⌝ }
-        ensures { λ r. ⌜ r ≡ eventIn self ⌝ }
+        requires { message_in self < messages_most }
+        ensures { result ≡ event_in self }
     {
         let send = 2 * self.message();
         let receive = send + 1;
@@ -64,7 +68,7 @@ impl Step {
 
     // The step that a kind and a message tell; any other kind is no step.
     pub fn told(kind: usize, m: usize) -> StepOrNone
-        ensures { λ r. ⌜ stepOrNone r ≡ stepTold kind m ⌝ }
+        ensures { step_or_none result ≡ step_told kind m }
     {
         match kind {
             SEND => StepOrNone::Step(Step::Send(m)),

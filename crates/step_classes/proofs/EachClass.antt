@@ -1,101 +1,101 @@
 -- The classes, one by one. Assumes nothing.
-use mathlib.Core.Path.{_≡_, refl, sym, _∙_, ap, ap₂, subst⁻¹}
+use mathlib.Core.Path.{◌≡◌, refl, sym, ◌∙◌, ap, ap₂, subst⁻¹}
 use mathlib.Core.Bool.{Bool}
-use mathlib.Core.Logic.{_⊎_, ⊎-elim}
-use mathlib.Core.List.{List, [], _∷_}
-use Prim.Native.Nat.{ℕ, _+_, _*_, _<_}
+use mathlib.Core.Logic.{◌⊎◌, ⊎_elim}
+use mathlib.Core.List.{List, [], ◌∷◌}
+use Prim.Native.Nat.{ℕ, ◌+◌, ◌*◌, ◌<◌}
 use native.Mathlib.Omega.{arith}
-use lib.ListN.{getD}
+use lib.ListN.{get_or}
 use lib.Dec.{eqb}
-use denote.Enum.Declared.{tagOf}
-use Rattle·model.specs.Order.{event, atOrBefore, Scenario}
-use Rattle·model.proofs.Events.{send-event, receive-event}
-use Rattle·relation.specs.Width.{width}
-use Rattle·relation.specs.Rows.{holds}
-use Rattle·relation.specs.Scenario.{scenarioIn}
-use Rattle·relation.proofs.Scenario.{before-at}
-use Rattle·step.specs.declared.Step.the-variants.{Send, Deliver, Consume}
-use Rattle·step.specs.Steps.{stepIn, messageIn}
-use Rattle·step_classes·specs.specs.declared.Class.{Class}
-use Rattle·step_classes·specs.specs.declared.Class.the-variants.{AnyConsume, DeliveryOf, NeededDelivery, NeededSend, AnyDelivery, AnySend}
-use Rattle·step_classes·specs.specs.Classes.{classIn, stepFor}
-use Rattle·step_classes·proofs.proofs.Class.{the-type}
+use denote.Enum.Declared.{tag_of}
+use Rattle.model.specs.Order.{event, at_or_before, Scenario}
+use Rattle.model.proofs.Events.{send_event, receive_event}
+use Rattle.relation.specs.Width.{width}
+use Rattle.relation.specs.Rows.{holds}
+use Rattle.relation.specs.Scenario.{scenario_in}
+use Rattle.relation.proofs.Scenario.{before_at}
+use Rattle.step.specs.declared.Step.TheVariants.{Send, Deliver, Consume}
+use Rattle.step.specs.Steps.{step_in, message_in}
+use Rattle.step_classes.specs.declared.Class.{Class}
+use Rattle.step_classes.specs.declared.Class.TheVariants.{AnyConsume, DeliveryOf, NeededDelivery, NeededSend, AnyDelivery, AnySend}
+use Rattle.step_classes.specs.Classes.{class_in, step_for}
+use Rattle.step_classes.specs.contracts.Class.{the_type}
 
 -- what each return of `takes` is to show
 module _ (count : ℕ) (boards words : List ℕ) (e : ℕ) (q : Class) (m : ℕ) where
-  pub takes-one : q ≡ DeliveryOf → eqb m e ≡ (classIn (scenarioIn count boards words) e q) .takes m
-  takes-one i = rw i
+  pub takes_one : q ≡ DeliveryOf → eqb m e ≡ (class_in (scenario_in count boards words) e q).takes m
+  takes_one i = rw i
 
-  pub takes-delivery : (r : Bool) → q ≡ NeededDelivery → r ≡ holds width words (2 * e) (2 * m + 1) → (e < count) × (m < count)
-      → r ≡ (classIn (scenarioIn count boards words) e q) .takes m
-  takes-delivery r i h l =
-      h ∙ sym (before-at count boards words (2 * m + 1) (2 * e) (omega arith) (omega arith))
-      ∙ ap₂ (λ x y. (scenarioIn count boards words) .before x y) (receive-event m) (send-event e)
-      ∙ ap (λ k. (classIn (scenarioIn count boards words) e k) .takes m) (sym i)
+  pub takes_delivery : (r : Bool) → q ≡ NeededDelivery → r ≡ holds width words (2 * e) (2 * m + 1) → (e < count) × (m < count)
+      → r ≡ (class_in (scenario_in count boards words) e q).takes m
+  takes_delivery r i h l =
+      h ∙ sym (before_at count boards words (2 * m + 1) (2 * e) (omega arith) (omega arith))
+      ∙ ap₂ (λ x y. (scenario_in count boards words).before x y) (receive_event m) (send_event e)
+      ∙ ap (λ k. (class_in (scenario_in count boards words) e k).takes m) (sym i)
 
-  pub takes-send : (r : Bool) → q ≡ NeededSend → r ≡ atOrBefore (scenarioIn count boards words) (event (2 * m)) (event (2 * e))
-      → r ≡ (classIn (scenarioIn count boards words) e q) .takes m
-  takes-send r i h =
-      h ∙ ap₂ (λ x y. atOrBefore (scenarioIn count boards words) x y) (send-event m) (send-event e)
-      ∙ ap (λ k. (classIn (scenarioIn count boards words) e k) .takes m) (sym i)
+  pub takes_send : (r : Bool) → q ≡ NeededSend → r ≡ at_or_before (scenario_in count boards words) (event (2 * m)) (event (2 * e))
+      → r ≡ (class_in (scenario_in count boards words) e q).takes m
+  takes_send r i h =
+      h ∙ ap₂ (λ x y. at_or_before (scenario_in count boards words) x y) (send_event m) (send_event e)
+      ∙ ap (λ k. (class_in (scenario_in count boards words) e k).takes m) (sym i)
 
 -- The arm of a match that several classes share: what holds of each of them holds of the class at hand.
 abbrev pub Delivers : Class → Type 0
-Delivers q = (tagOf the-type q ≡ 1) ⊎ ((tagOf the-type q ≡ 2) ⊎ (tagOf the-type q ≡ 4))
+Delivers q = (tag_of the_type q ≡ 1) ⊎ ((tag_of the_type q ≡ 2) ⊎ (tag_of the_type q ≡ 4))
 
 abbrev pub Sends : Class → Type 0
-Sends q = (tagOf the-type q ≡ 3) ⊎ (tagOf the-type q ≡ 5)
+Sends q = (tag_of the_type q ≡ 3) ⊎ (tag_of the_type q ≡ 5)
 
 -- a class is known by its tag
-abbrev classAt : ℕ → Class
-classAt n = getD (AnyConsume ∷ DeliveryOf ∷ NeededDelivery ∷ NeededSend ∷ AnyDelivery ∷ AnySend ∷ []) n AnyConsume
+abbrev class_at : ℕ → Class
+class_at n = get_or (AnyConsume ∷ DeliveryOf ∷ NeededDelivery ∷ NeededSend ∷ AnyDelivery ∷ AnySend ∷ []) n AnyConsume
 
-class-at : (q : Class) → classAt (tagOf the-type q) ≡ q
-class-at AnyConsume = refl
-class-at DeliveryOf = refl
-class-at NeededDelivery = refl
-class-at NeededSend = refl
-class-at AnyDelivery = refl
-class-at AnySend = refl
+class_at_holds : (q : Class) → class_at (tag_of the_type q) ≡ q
+class_at_holds AnyConsume = refl
+class_at_holds DeliveryOf = refl
+class_at_holds NeededDelivery = refl
+class_at_holds NeededSend = refl
+class_at_holds AnyDelivery = refl
+class_at_holds AnySend = refl
 
-class-of : (q k : Class) → tagOf the-type q ≡ tagOf the-type k → q ≡ k
-class-of q k t = sym (class-at q) ∙ ap classAt t ∙ class-at k
+class_of : (q k : Class) → tag_of the_type q ≡ tag_of the_type k → q ≡ k
+class_of q k t = sym (class_at_holds q) ∙ ap class_at t ∙ class_at_holds k
 
 module _ (P : Class → Type 0) (q : Class) where
-  of-tag : (k : Class) → P k → tagOf the-type q ≡ tagOf the-type k → P q
-  of-tag k p t = subst⁻¹ P (class-of q k t) p
+  of_tag : (k : Class) → P k → tag_of the_type q ≡ tag_of the_type k → P q
+  of_tag k p t = subst⁻¹ P (class_of q k t) p
 
-  pub if-delivers : P DeliveryOf → P NeededDelivery → P AnyDelivery → Delivers q → P q
-  if-delivers one needed other t =
-      ⊎-elim (of-tag DeliveryOf one) (⊎-elim (of-tag NeededDelivery needed) (of-tag AnyDelivery other)) t
+  pub if_delivers : P DeliveryOf → P NeededDelivery → P AnyDelivery → Delivers q → P q
+  if_delivers one needed other t =
+      ⊎_elim (of_tag DeliveryOf one) (⊎_elim (of_tag NeededDelivery needed) (of_tag AnyDelivery other)) t
 
-  pub if-sends : P NeededSend → P AnySend → Sends q → P q
-  if-sends needed other t = ⊎-elim (of-tag NeededSend needed) (of-tag AnySend other) t
+  pub if_sends : P NeededSend → P AnySend → Sends q → P q
+  if_sends needed other t = ⊎_elim (of_tag NeededSend needed) (of_tag AnySend other) t
 
 -- What each return of `step_of` is to show.
 module _ (q : Class) (m : ℕ) where
-  pub step-consume : q ≡ AnyConsume → Consume m ≡ stepFor q m
-  step-consume i = rw i
+  pub step_consume : q ≡ AnyConsume → Consume m ≡ step_for q m
+  step_consume i = rw i
 
-  pub step-deliver : Delivers q → Deliver m ≡ stepFor q m
-  step-deliver t = if-delivers (λ (k : Class). Deliver m ≡ stepFor k m) q refl refl refl t
+  pub step_deliver : Delivers q → Deliver m ≡ step_for q m
+  step_deliver t = if_delivers (λ (k : Class). Deliver m ≡ step_for k m) q refl refl refl t
 
-  pub step-send : Sends q → Send m ≡ stepFor q m
-  step-send t = if-sends (λ (k : Class). Send m ≡ stepFor k m) q refl refl t
+  pub step_send : Sends q → Send m ≡ step_for q m
+  step_send t = if_sends (λ (k : Class). Send m ≡ step_for k m) q refl refl t
 
 -- the step of a class is the model's, and its message is m
-pub step-is : (S : Scenario) (e : ℕ) (q : Class) (m : ℕ) → stepIn (stepFor q m) ≡ (classIn S e q) .step m
-step-is S e AnyConsume m = refl
-step-is S e DeliveryOf m = refl
-step-is S e NeededDelivery m = refl
-step-is S e NeededSend m = refl
-step-is S e AnyDelivery m = refl
-step-is S e AnySend m = refl
+pub step_is : (S : Scenario) (e : ℕ) (q : Class) (m : ℕ) → step_in (step_for q m) ≡ (class_in S e q).step m
+step_is S e AnyConsume m = refl
+step_is S e DeliveryOf m = refl
+step_is S e NeededDelivery m = refl
+step_is S e NeededSend m = refl
+step_is S e AnyDelivery m = refl
+step_is S e AnySend m = refl
 
-pub message-is : (q : Class) (m : ℕ) → messageIn (stepFor q m) ≡ m
-message-is AnyConsume m = refl
-message-is DeliveryOf m = refl
-message-is NeededDelivery m = refl
-message-is NeededSend m = refl
-message-is AnyDelivery m = refl
-message-is AnySend m = refl
+pub message_is : (q : Class) (m : ℕ) → message_in (step_for q m) ≡ m
+message_is AnyConsume m = refl
+message_is DeliveryOf m = refl
+message_is NeededDelivery m = refl
+message_is NeededSend m = refl
+message_is AnyDelivery m = refl
+message_is AnySend m = refl

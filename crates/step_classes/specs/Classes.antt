@@ -1,26 +1,26 @@
 -- The code's classes of steps as the model's. Assumes nothing.
-use Prim.Native.Nat.{ℕ}
-use Rattle·model.specs.Order.{Scenario}
-use Rattle·model.specs.Schedule as plan
-use Rattle·step.specs.declared.Step.{Step}
-use Rattle·step.specs.declared.Step.the-variants.{Send, Deliver, Consume}
-use Rattle·step_classes·specs.specs.declared.Class.{Class}
-use Rattle·step_classes·specs.specs.declared.Class.the-variants.{AnyConsume, DeliveryOf, NeededDelivery, NeededSend, AnyDelivery, AnySend}
+use Rattle.std.specs.Prelude.{ℕ}
+use Rattle.model.specs.Order.{Scenario}
+use Rattle.model.specs.Schedule as plan
+use Rattle.step.specs.declared.Step.{Step}
+use Rattle.step.specs.declared.Step.TheVariants.{Send, Deliver, Consume}
+use Rattle.step_classes.specs.declared.Class.{Class}
+use Rattle.step_classes.specs.declared.Class.TheVariants.{AnyConsume, DeliveryOf, NeededDelivery, NeededSend, AnyDelivery, AnySend}
 
 -- a class of the schedule for e
-abbrev pub classIn : Scenario → ℕ → Class → plan.Class
-classIn S e AnyConsume = plan.anyConsume
-classIn S e DeliveryOf = plan.deliveryOf e
-classIn S e NeededDelivery = plan.neededDelivery S e
-classIn S e NeededSend = plan.neededSend S e
-classIn S e AnyDelivery = plan.anyDelivery
-classIn S e AnySend = plan.anySend
+abbrev pub class_in : Scenario → ℕ → Class → plan.Class
+class_in S e AnyConsume = plan.any_consume
+class_in S e DeliveryOf = plan.delivery_of e
+class_in S e NeededDelivery = plan.needed_delivery S e
+class_in S e NeededSend = plan.needed_send S e
+class_in S e AnyDelivery = plan.any_delivery
+class_in S e AnySend = plan.any_send
 
 -- the step of a class on message m
-abbrev pub stepFor : Class → ℕ → Step
-stepFor AnyConsume m = Consume m
-stepFor DeliveryOf m = Deliver m
-stepFor NeededDelivery m = Deliver m
-stepFor NeededSend m = Send m
-stepFor AnyDelivery m = Deliver m
-stepFor AnySend m = Send m
+abbrev pub step_for : Class → ℕ → Step
+step_for AnyConsume m = Consume m
+step_for DeliveryOf m = Deliver m
+step_for NeededDelivery m = Deliver m
+step_for NeededSend m = Send m
+step_for AnyDelivery m = Deliver m
+step_for AnySend m = Send m

@@ -1,12 +1,15 @@
 // The classes of steps that the schedule tries.
-ghost use mathlib.Core.Path.{_≡_};
-ghost use Prim.Native.Nat.{_<_};
-ghost use Rattle·relation.specs.Scenario.{scenarioIn};
-ghost use Rattle·at_or_before.specs.Lent.{Lent};
-ghost use Rattle·step_classes·specs.specs.Classes.{classIn, stepFor};
+#![tactic(auto)]
+
+ghost use Rattle.std.specs.Prelude.{◌≡◌, ◌<◌};
+ghost use Rattle.relation.specs.Scenario.{scenario_in};
+ghost use Rattle.at_or_before.specs.Lent.{Lent};
+ghost use Rattle.step_classes.specs.Classes.{class_in, step_for};
+
 use step::Step;
 
 // The classes of steps, in the order in which they are tried.
+#[derive(Clone, Copy)]
 pub enum Class {
     AnyConsume,
     DeliveryOf,
@@ -18,7 +21,7 @@ pub enum Class {
 
 // The step of a class on message m.
 pub fn step_of(class: Class, m: usize) -> Step
-    ensures { λ r. ⌜ r ≡ stepFor class m ⌝ }
+    ensures { result ≡ step_for class m }
 {
     match class {
         Class::AnyConsume => Step::Consume(m),
@@ -29,9 +32,9 @@ pub fn step_of(class: Class, m: usize) -> Step
 
 // Message m is one of the class, in the schedule for e.
 pub fn takes(words: &[u64], boards: &[u8], count: usize, e: usize, class: Class, m: usize) -> bool
-    requires { ⌜ Lent count (now boards) (now words) ⌝ }
-    requires { ⌜ (e < count) × (m < count) ⌝ }
-    ensures { λ r. ⌜ r ≡ (classIn (scenarioIn count (now (boards .entry)) (now (words .entry))) e class) .takes m ⌝ }
+    requires lent { Lent count boards.now words.now }
+    requires e_lt_count { (e < count) × (m < count) }
+    ensures { result ≡ (class_in (scenario_in count boards.now words.now) e class).takes m }
 {
     let needing = 2 * e;
     let send = 2 * m;

@@ -1,13 +1,12 @@
 // The step rules of each kind of step: sends, deliveries and consumes, by the parts of a run that they read.
-ghost use mathlib.Core.Path.{_≡_};
-ghost use mathlib.Core.Bool.{false};
-ghost use mathlib.Core.List.{List};
-ghost use Prim.Native.Nat.{ℕ, _+_, _*_, _<_, _≤_};
-ghost use lib.ListN.{length};
-ghost use Rattle·relation.specs.Width.{width};
-ghost use Rattle·board.specs.Masks.{maskRows, Standing};
-ghost use Rattle·step.specs.Steps.{messageIn};
-ghost use Rattle·step_rules·specs.specs.Steps.{heldUp, SaysFree, SaysRow};
+#![tactic(auto)]
+
+ghost use Rattle.std.specs.Prelude.{◌≡◌, false, List, ℕ, ◌+◌, ◌*◌, ◌<◌, ◌≤◌, length};
+ghost use Rattle.relation.specs.Width.{width};
+ghost use Rattle.board.specs.Masks.{mask_rows, Standing};
+ghost use Rattle.step.specs.Steps.{message_in};
+ghost use Rattle.step_rules.specs.Steps.{held_up, SaysFree, SaysRow};
+
 use board::board_of;
 use channel_table::Channel;
 use readiness::Readiness;
@@ -25,9 +24,9 @@ fn may_send<'a>(
     way: &'a [u64; WIDTH],
     m: usize,
 ) -> bool
-    requires { ⌜ Standing count (now boards) (now words) (now masks) ⌝ }
-    requires { ⌜ m < count ⌝ }
-    ensures { λ r. ⌜ SaysFree count (now (boards .entry)) (now (words .entry)) c (now (done .entry)) (now (way .entry)) (Step.Send m) r ⌝ }
+    requires standing { Standing count boards.now words.now masks.now }
+    requires m_lt_count { m < count }
+    ensures { SaysFree count boards.now words.now c done.now way.now (Step.Send m) result }
 {
     let send = 2 * m;
     let readiness = readiness::readiness_of(words, masks, boards, count, done, send);
@@ -50,9 +49,9 @@ fn may_deliver(
     way: &[u64; WIDTH],
     m: usize,
 ) -> bool
-    requires { ⌜ Standing count (now boards) (now words) (now masks) ⌝ }
-    requires { ⌜ m < count ⌝ }
-    ensures { λ r. ⌜ ((done : List ℕ) → SaysFree count (now (boards .entry)) (now (words .entry)) c done (now (way .entry)) (Step.Deliver m) r) ⌝ }
+    requires standing { Standing count boards.now words.now masks.now }
+    requires m_lt_count { m < count }
+    ensures { (done : List ℕ) → SaysFree count boards.now words.now c done way.now (Step.Deliver m) result }
 {
     let send = 2 * m;
     if !relation::test(way, 0, send) {
@@ -75,9 +74,9 @@ fn may_consume<'a>(
     y: usize,
     m: usize,
 ) -> bool
-    requires { ⌜ Standing count (now boards) (now words) (now masks) ⌝ }
-    requires { ⌜ (m < count) × (y * width + width ≤ length (now held)) ⌝ }
-    ensures { λ r. ⌜ ((c : Channel) (way : List ℕ) → SaysRow count (now (boards .entry)) (now (words .entry)) c (now (done .entry)) way (now (held .entry)) y (Step.Consume m) r) ⌝ }
+    requires standing { Standing count boards.now words.now masks.now }
+    requires m_lt_count { (m < count) × (y * width + width ≤ length held.now) }
+    ensures { (c : Channel) (way : List ℕ) → SaysRow count boards.now words.now c done.now way held.now y (Step.Consume m) result }
 {
     let send = 2 * m;
     if !relation::test(held, y, send) {
@@ -95,9 +94,9 @@ fn may_consume<'a>(
 // A send or a delivery on a board that is not free, its buffer being row y of those held. Asked ahead of the rest: most steps that a search
 // tries are held up, and it is soon told.
 pub fn held_up(masks: &[u64], eager: bool, held: &[u64], y: usize, step: Step) -> bool
-    requires { ⌜ maskRows * width ≤ length (now masks) ⌝ }
-    requires { ⌜ y * width + width ≤ length (now held) ⌝ }
-    ensures { λ r. ⌜ r ≡ heldUp eager (now (masks .entry)) (now (held .entry)) y step ⌝ }
+    requires width_in_bounds { mask_rows * width ≤ length masks.now }
+    requires width_in_bounds_2 { y * width + width ≤ length held.now }
+    ensures { result ≡ held_up eager masks.now held.now y step }
 {
     match step {
         Step::Send(_) => !rules::board_free(masks, eager, held, y),
@@ -120,10 +119,10 @@ pub fn allowed_by<'a>(
     y: usize,
     step: Step,
 ) -> bool
-    requires { ⌜ Standing count (now boards) (now words) (now masks) ⌝ }
-    requires { ⌜ (messageIn step < count) × (y * width + width ≤ length (now held)) ⌝ }
-    requires { ⌜ heldUp (c .eager) (now masks) (now held) y step ≡ false ⌝ }
-    ensures { λ r. ⌜ SaysRow count (now (boards .entry)) (now (words .entry)) c (now (done .entry)) (now (way .entry)) (now (held .entry)) y step r ⌝ }
+    requires standing { Standing count boards.now words.now masks.now }
+    requires step_bound { (message_in step < count) × (y * width + width ≤ length held.now) }
+    requires step_value { held_up c.eager masks.now held.now y step ≡ false }
+    ensures { SaysRow count boards.now words.now c done.now way.now held.now y step result }
 {
     match step {
         Step::Send(m) => may_send(words, masks, boards, count, c, done, way, m),

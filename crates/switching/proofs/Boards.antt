@@ -1,76 +1,76 @@
 -- The boards, looked at one after the other, and what bars a switch. Assumes nothing.
-use mathlib.Core.Path.{_≡_, refl, sym, _∙_, ap}
-use mathlib.Core.Bool.{Bool, true, false, not, _&&_, _||_}
-use Prim.Native.Nat.{ℕ, suc, _+_, _*_, _<_, _≤_}
+use mathlib.Core.Path.{◌≡◌, refl, sym, ◌∙◌, ap}
+use mathlib.Core.Bool.{Bool, true, false, not, ◌&&◌, ◌||◌}
+use Prim.Native.Nat.{ℕ, suc, ◌+◌, ◌*◌, ◌<◌, ◌≤◌}
 use native.Mathlib.Omega.{arith}
-use borrow.Author.Tests.{le-leb, lt-leb, not-false, eq-eqb, ne-eqb}
+use borrow.Author.Tests.{le-leb, lt-leb, not-false, eq-eqb, ne_eqb}
 use lib.Dec.{eqb, leb}
-use Rattle·model.specs.Limits.{boards, messagesMost}
-use Rattle·model.specs.Bounded.{every, any, howMany}
-use Rattle·model.specs.Run.{State}
-use Rattle·model.specs.Monitor.{isBarred}
-use Rattle·model.specs.Channel.{channelOf}
-use Rattle·model.specs.Channel as model
-use Rattle·model.proofs.Bounded.{any-from, or-left}
-use Rattle·channel_table.specs.declared.Channel.{Channel}
-use Rattle·channel_table.specs.Table.{channelIn}
-use Rattle·run.specs.declared.Run.{Run}
-use Rattle·run.specs.State.{inRow, bufferOf, stateOf}
-use Rattle·switching·specs.specs.TwoOrMore.{holdsTwo, isFull}
+use Rattle.model.specs.Limits.{boards, messages_most}
+use Rattle.model.specs.Bounded.{every, any, how_many}
+use Rattle.model.specs.Run.{State}
+use Rattle.model.specs.Monitor.{is_barred}
+use Rattle.model.specs.Channel.{channel_of}
+use Rattle.model.specs.Channel as model
+use Rattle.model.proofs.Bounded.{any_from, or_left}
+use Rattle.channel_table.specs.declared.Channel.{Channel}
+use Rattle.channel_table.specs.Table.{channel_in}
+use Rattle.run.specs.declared.Run.{Run}
+use Rattle.run.specs.State.{in_row, buffer_of, state_of}
+use Rattle.switching.specs.TwoOrMore.{holds_two, is_full}
 
 -- board b holds two messages or more
 abbrev pub crowd : State → ℕ → Bool
-crowd s b = leb 2 (howMany messagesMost (s .holds b))
+crowd s b = leb 2 (how_many messages_most (s.holds b))
 
 -- none of the boards passed does
 pub record Passed (run : Run) (b : ℕ) : Type 0 where
-  pub none : any b (crowd (stateOf run)) ≡ false
+  pub none : any b (crowd (state_of run)) ≡ false
   pub most : b ≤ boards
 
-pub passed-none : (run : Run) → Passed run 0
+pub passed_none : (run : Run) → Passed run 0
 unfolding any every
-passed-none run = record { none = refl; most = omega arith }
+passed_none run = record { none = refl; most = omega arith }
 
-pub two-here : (run : Run) (b n : ℕ) → n ≡ howMany messagesMost (λ m. inRow (bufferOf run b .held) (2 * m)) → 2 ≤ n → b < boards
-    → true ≡ holdsTwo (stateOf run)
-two-here run b n e l k = sym (any-from boards (crowd (stateOf run)) b k (ap (leb 2) (sym e) ∙ le-leb 2 n l))
+pub two_here : (run : Run) (b n : ℕ) → n ≡ how_many messages_most (λ m. in_row (buffer_of run b).held (2 * m)) → 2 ≤ n → b < boards
+    → true ≡ holds_two (state_of run)
+two_here run b n e l k = sym (any_from boards (crowd (state_of run)) b k (ap (leb 2) (sym e) ∙ le-leb 2 n l))
 
-pub passed-one : (run : Run) (b n : ℕ) → Passed run b → n ≡ howMany messagesMost (λ m. inRow (bufferOf run b .held) (2 * m)) → n < 2 → b < boards
+pub passed_one : (run : Run) (b n : ℕ) → Passed run b → n ≡ how_many messages_most (λ m. in_row (buffer_of run b).held (2 * m)) → n < 2 → b < boards
     → Passed run (b + 1)
 unfolding any every
-passed-one run b n p e l k =
-    let here : crowd (stateOf run) b ≡ false = ap (leb 2) (sym e) ∙ lt-leb 2 n l in
-    let last : any (suc b) (crowd (stateOf run)) ≡ false = rw (not-false (every b (λ k. not (crowd (stateOf run) k))) (p .none), here) in
+passed_one run b n p e l k =
+    let here : crowd (state_of run) b ≡ false = ap (leb 2) (sym e) ∙ lt-leb 2 n l in
+    let last : any (suc b) (crowd (state_of run)) ≡ false = rw (not-false (every b (λ k. not (crowd (state_of run) k))) p.none, here) in
     let next : b + 1 ≡ suc b = omega arith in
-    record { none = ap (λ m. any m (crowd (stateOf run))) next ∙ last; most = omega (arith, k) }
+    record { none = ap (λ m. any m (crowd (state_of run))) next ∙ last; most = omega (arith, k) }
 
-pub passed-all : (run : Run) (b : ℕ) → Passed run b → boards ≤ b → false ≡ holdsTwo (stateOf run)
-passed-all run b p l = let e : b ≡ boards = omega (arith, p .most) in sym (ap (λ n. any n (crowd (stateOf run))) (sym e) ∙ p .none)
+pub passed_all : (run : Run) (b : ℕ) → Passed run b → boards ≤ b → false ≡ holds_two (state_of run)
+passed_all run b p l = let e : b ≡ boards = omega (arith, p.most) in sym (ap (λ n. any n (crowd (state_of run))) (sym e) ∙ p.none)
 
 -- each part of what bars a switch
-pub eager-bars : (run : Run) (eager r : Bool) → eager ≡ true → r ≡ holdsTwo (stateOf run) → r ≡ (eager && holdsTwo (stateOf run))
-eager-bars run eager r e i = rw e i
+pub eager_bars : (run : Run) (eager r : Bool) → eager ≡ true → r ≡ holds_two (state_of run) → r ≡ (eager && holds_two (state_of run))
+eager_bars run eager r e i = rw e i
 
-pub ring-bars : (run : Run) (code n : ℕ) → code ≡ 5 → n ≡ howMany messagesMost (λ m. inRow (run .way) (2 * m))
-    → leb 2 n ≡ (eqb code 5 && isFull (stateOf run))
-ring-bars run code n e i = rw (eq-eqb code 5 e) (ap (leb 2) i)
+pub ring_bars : (run : Run) (code n : ℕ) → code ≡ 5 → n ≡ how_many messages_most (λ m. in_row run.way (2 * m))
+    → leb 2 n ≡ (eqb code 5 && is_full (state_of run))
+ring_bars run code n e i = rw (eq-eqb code 5 e) (ap (leb 2) i)
 
-pub others-pass : (run : Run) (code : ℕ) → (code ≡ 5 → ⊥) → false ≡ (eqb code 5 && isFull (stateOf run))
-others-pass run code e = rw (ne-eqb code 5 e)
+pub others_pass : (run : Run) (code : ℕ) → (code ≡ 5 → ⊥) → false ≡ (eqb code 5 && is_full (state_of run))
+others_pass run code e = rw (ne_eqb code 5 e)
 
 -- and both
-pub barred-by-buffers : (run : Run) (code : ℕ) (c : Channel) (r : Bool) → channelIn c ≡ channelOf code → r ≡ (c .eager && holdsTwo (stateOf run)) → r ≡ true
-    → true ≡ isBarred code (stateOf run)
-unfolding isBarred
-barred-by-buffers run code c r i e t =
-    let s = stateOf run in
-    let held : (channelOf code .eager && holdsTwo s) ≡ true = ap (λ (k : model.Channel). k .eager && holdsTwo s) (sym i) ∙ sym e ∙ t in
-    sym (or-left _ (eqb code 5 && isFull s) held)
+pub barred_by_buffers : (run : Run) (code : ℕ) (c : Channel) (r : Bool) → channel_in c ≡ channel_of code → r ≡ (c.eager && holds_two (state_of run)) → r ≡ true
+    → true ≡ is_barred code (state_of run)
+unfolding is_barred
+barred_by_buffers run code c r i e t =
+    let s = state_of run in
+    let held : ((channel_of code).eager && holds_two s) ≡ true = ap (λ (k : model.Channel). k.eager && holds_two s) (sym i) ∙ sym e ∙ t in
+    sym (or_left _ (eqb code 5 && is_full s) held)
 
-pub barred-by-way : (run : Run) (code : ℕ) (c : Channel) (r w : Bool) → channelIn c ≡ channelOf code → r ≡ (c .eager && holdsTwo (stateOf run)) → r ≡ false
-    → w ≡ (eqb code 5 && isFull (stateOf run)) → w ≡ isBarred code (stateOf run)
-unfolding isBarred
-barred-by-way run code c r w i e t f =
-    let s = stateOf run in
-    let free : (channelOf code .eager && holdsTwo s) ≡ false = ap (λ (k : model.Channel). k .eager && holdsTwo s) (sym i) ∙ sym e ∙ t in
-    f ∙ ap (λ (b : Bool). b || (eqb code 5 && isFull s)) (sym free)
+pub barred_by_way : (run : Run) (code : ℕ) (c : Channel) (r w : Bool) → channel_in c ≡ channel_of code → r ≡ (c.eager && holds_two (state_of run)) → r ≡ false
+    → w ≡ (eqb code 5 && is_full (state_of run)) → w ≡ is_barred code (state_of run)
+unfolding is_barred
+barred_by_way run code c r w i e t f =
+    let s = state_of run in
+    let free : ((channel_of code).eager && holds_two s) ≡ false = ap (λ (k : model.Channel). k.eager && holds_two s) (sym i) ∙ sym e ∙ t in
+    f ∙ ap (λ (b : Bool). b || (eqb code 5 && is_full s)) (sym free)

@@ -1,16 +1,15 @@
 // Whether the state of a run bars a switch to another channel (refusal 14).
-ghost use mathlib.Core.Path.{_≡_};
-ghost use mathlib.Core.Bool.{_&&_};
-ghost use lib.Dec.{eqb};
-ghost use Prim.Native.Nat.{_*_, _<_};
-ghost use Rattle·model.specs.Limits.{channels, messagesMost};
-ghost use Rattle·model.specs.Bounded.{howMany};
-ghost use Rattle·model.specs.Monitor.{isBarred};
-ghost use Rattle·relation.specs.Rows.{has};
-ghost use Rattle·run.specs.State.{inRow, stateOf};
-ghost use Rattle·switching·specs.specs.TwoOrMore.{halfWord, holdsTwo, isFull};
-use relation::SENDS;
-use relation::WIDTH;
+#![tactic(auto)]
+
+ghost use Rattle.std.specs.Prelude.{◌≡◌, ◌&&◌, eqb, ◌*◌, ◌<◌};
+ghost use Rattle.model.specs.Limits.{channels, messages_most};
+ghost use Rattle.model.specs.Bounded.{how_many};
+ghost use Rattle.model.specs.Monitor.{is_barred};
+ghost use Rattle.relation.specs.Rows.{has};
+ghost use Rattle.run.specs.State.{in_row, state_of};
+ghost use Rattle.switching.specs.TwoOrMore.{half_word, holds_two, is_full};
+
+use relation::{SENDS, WIDTH};
 use run::Run;
 
 // The channel with room for one message under way.
@@ -18,14 +17,14 @@ const TOKEN_RING: usize = 5;
 
 // How many messages a word of a row has.
 fn messages_of(word: u64) -> usize
-    ensures { λ r. ⌜ r ≡ howMany halfWord (λ j. has word (2 * j)) ⌝ }
+    ensures { result ≡ how_many half_word (λ j. has word (2 * j)) }
 {
     u64::count_ones(word & SENDS) as usize
 }
 
 // How many messages a row has, as bits of their sends.
 fn messages_in(row: [u64; WIDTH]) -> usize
-    ensures { λ r. ⌜ r ≡ howMany messagesMost (λ m. inRow row (2 * m)) ⌝ }
+    ensures { result ≡ how_many messages_most (λ m. in_row row (2 * m)) }
 {
     let mut count = 0;
     for i in 0..WIDTH {
@@ -36,7 +35,7 @@ fn messages_in(row: [u64; WIDTH]) -> usize
 
 // Some board holds two messages or more.
 fn holds_two(run: Run) -> bool
-    ensures { λ r. ⌜ r ≡ holdsTwo (stateOf run) ⌝ }
+    ensures { result ≡ holds_two (state_of run) }
 {
     for board in 0..model::BOARDS {
         let buffer = run.buffers[board];
@@ -50,7 +49,7 @@ fn holds_two(run: Run) -> bool
 
 // An eager channel has no room for a board that holds two messages or more.
 fn bars_buffers(run: Run, eager: bool) -> bool
-    ensures { λ r. ⌜ r ≡ (eager && holdsTwo (stateOf run)) ⌝ }
+    ensures { result ≡ (eager && holds_two (state_of run)) }
 {
     if eager {
         return holds_two(run);
@@ -60,7 +59,7 @@ fn bars_buffers(run: Run, eager: bool) -> bool
 
 // Token ring has no room for two messages or more under way.
 fn bars_way(run: Run, code: usize) -> bool
-    ensures { λ r. ⌜ r ≡ (eqb code 5 && isFull (stateOf run)) ⌝ }
+    ensures { result ≡ (eqb code 5 && is_full (state_of run)) }
 {
     if code == TOKEN_RING {
         let way = run.way;
@@ -71,8 +70,8 @@ fn bars_way(run: Run, code: usize) -> bool
 
 // The state bars a switch to the code.
 pub fn is_barred(run: Run, code: usize) -> bool
-    requires { ⌜ code < channels ⌝ }
-    ensures { λ r. ⌜ r ≡ isBarred code (stateOf run) ⌝ }
+    requires { code < channels }
+    ensures { result ≡ is_barred code (state_of run) }
 {
     let c = channel_table::channel_of(code);
     if bars_buffers(run, c.eager) {

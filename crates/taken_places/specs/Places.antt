@@ -1,32 +1,28 @@
 -- How many jobs of a queue are held and where, and the lowest free place. Assumes nothing.
-use mathlib.Core.Path.{_≡_}
-use mathlib.Core.Bool.{Bool, not, _&&_}
-use mathlib.Core.List.{List}
-use mathlib.Core.Option.{Option, none, some}
-use Prim.Native.Nat.{ℕ, _<_}
-use lib.Dec.{ltb}
-use Rattle·model.specs.Limits.{jobsMost}
-use Rattle·model.specs.Dispatcher as model
-use Rattle·relation.specs.Rows.{has}
-use Rattle·queue.specs.declared.Queue.{Queue}
-use Rattle·queue.specs.declared.Taken.{Taken}
-use Rattle·queue.specs.Bridge.{queueIn, Counted, PlacesOf, freePlaceIn}
-use Rattle·taken_places·specs.specs.declared.Place.{Place}
-use Rattle·taken_places·specs.specs.declared.Place.the-variants as place
+use Rattle.std.specs.Prelude.{◌≡◌, Bool, not, ◌&&◌, List, ℕ, ◌<◌, ltb}
+use Rattle.std.proofs.Math.Option.{Option, none, some}
+use Rattle.model.specs.Limits.{jobs_most}
+use Rattle.model.specs.Dispatcher as model
+use Rattle.relation.specs.Rows.{has}
+use Rattle.queue.specs.declared.Queue.{Queue}
+use Rattle.queue.specs.declared.Taken.{Taken}
+use Rattle.queue.specs.Bridge.{queue_in, Counted, PlacesOf, free_place_in}
+use Rattle.taken_places.specs.declared.Place.{Place}
+use Rattle.taken_places.specs.declared.Place.TheVariants as place
 
 -- a job may be put in the place, bit p of the word standing for place p: it is one of the eight, and not taken
 pub record MayStand (taken place : ℕ) (r : Bool) : Type 0 where
-  pub is : r ≡ (ltb place jobsMost && not (has taken place))
+  pub is : r ≡ (ltb place jobs_most && not (has taken place))
 
 pub record TakenIn (q : Queue) (r : Taken) : Type 0 where
-  pub counted : Counted q (r .count)
-  pub taken : PlacesOf (queueIn q) (r .places)
+  pub counted : Counted q r.count
+  pub taken : PlacesOf (queue_in q) r.places
 
-abbrev pub placeIn : Place → Option ℕ
-placeIn (place.At p) = some p
-placeIn place.Nothing = none
+abbrev pub place_in : Place → Option ℕ
+place_in (place.At p) = some p
+place_in place.Nothing = none
 
 -- the lowest free place, where there is one; one of the eight in any case
 pub record SparePlace (js : List model.Job) (p : ℕ) : Type 0 where
-  pub below : p < jobsMost
-  pub lowest : (k : ℕ) → freePlaceIn js ≡ some k → p ≡ k
+  pub below : p < jobs_most
+  pub lowest : (k : ℕ) → free_place_in js ≡ some k → p ≡ k

@@ -1,12 +1,15 @@
 // The places that the jobs of a queue hold, how many these are, and the lowest free place.
-ghost use mathlib.Core.Path.{_≡_};
-ghost use Rattle·queue.specs.Bridge.{queueIn, PlacesOf, freePlaceIn};
-ghost use Rattle·taken_places·specs.specs.Places.{MayStand, TakenIn, placeIn, SparePlace};
+#![tactic(auto)]
+
+ghost use Rattle.std.specs.Prelude.{◌≡◌};
+ghost use Rattle.queue.specs.Bridge.{queue_in, PlacesOf, free_place_in};
+ghost use Rattle.taken_places.specs.Places.{MayStand, TakenIn, place_in, SparePlace};
+
 use model::JOBS_MOST;
-use queue::Queue;
-use queue::Taken;
+use queue::{Queue, Taken};
 
 // A place, if one is free.
+#[derive(Clone, Copy)]
 pub enum Place {
     At(usize),
     Nothing,
@@ -14,7 +17,7 @@ pub enum Place {
 
 // A job may be put in the place: it is one of the eight, and none of those taken.
 fn may_stand(taken: u64, place: usize) -> bool
-    ensures { λ r. ⌜ MayStand taken place r ⌝ }
+    ensures { MayStand taken place result }
 {
     if JOBS_MOST <= place {
         return false;
@@ -27,7 +30,7 @@ fn may_stand(taken: u64, place: usize) -> bool
 
 // How many jobs are held, and where.
 pub fn taken(queue: Queue) -> Taken
-    ensures { λ r. ⌜ TakenIn queue r ⌝ }
+    ensures { TakenIn queue result }
 {
     let mut places = 0;
     for i in 0..JOBS_MOST {
@@ -49,7 +52,7 @@ pub fn taken(queue: Queue) -> Taken
 
 // The places of the jobs: bit p is place p.
 pub fn places(queue: Queue) -> u64
-    ensures { λ r. ⌜ PlacesOf (queueIn queue) r ⌝ }
+    ensures { PlacesOf (queue_in queue) result }
 {
     let taken = taken(queue);
     taken.places
@@ -57,7 +60,7 @@ pub fn places(queue: Queue) -> u64
 
 // The lowest free place.
 pub fn free_place(queue: Queue) -> Place
-    ensures { λ r. ⌜ placeIn r ≡ freePlaceIn (queueIn queue) ⌝ }
+    ensures { place_in result ≡ free_place_in (queue_in queue) }
 {
     let taken = places(queue);
     for place in 0..JOBS_MOST {
@@ -70,7 +73,7 @@ pub fn free_place(queue: Queue) -> Place
 
 // The lowest free place, where there is one: one of the eight in any case.
 pub fn spare_place(queue: Queue) -> usize
-    ensures { λ r. ⌜ SparePlace (queueIn queue) r ⌝ }
+    ensures { SparePlace (queue_in queue) result }
 {
     let found = free_place(queue);
     match found {

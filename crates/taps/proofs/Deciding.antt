@@ -1,150 +1,150 @@
 -- What each part of the call is to show, from what its own parts handed on. Assumes nothing.
-use mathlib.Core.Path.{_≡_, refl, sym, _∙_, ap, subst⁻¹}
+use mathlib.Core.Path.{◌≡◌, refl, sym, ◌∙◌, ap, subst⁻¹}
 use mathlib.Core.Bool.{Bool, true, false, not}
-use mathlib.Core.List.{List, [], _++_}
+use mathlib.Core.List.{List, [], ◌++◌}
 use mathlib.Core.Option.{Option, none, some}
-use Prim.Native.Nat.{ℕ, _*_}
+use Prim.Native.Nat.{ℕ, ◌*◌}
 use native.Mathlib.Omega.{arith}
 use lib.ListN.{length, drop}
 use borrow.Author.Tests.{not-true, not-false}
-use Rattle·model.specs.Bounded.{lowest, eachOnce}
-use Rattle·model.specs.Refusal.{Out, ok, refusal, tapRefusal}
-use Rattle·model.specs.Order.{Scenario}
-use Rattle·model.specs.Taps.{Tapped, withLists, isSooner, precedes, courseOf, fit, clash, fitWord, tappedOn, tappedFor, tapNumbersOf, outputAfter}
-use Rattle·relation.specs.Width.{width}
-use Rattle·relation.specs.Order.{before, Transitive}
-use Rattle·relation.specs.Own.{isOwn, foundIn}
-use Rattle·relation.specs.Scenario.{scenarioIn}
-use Rattle·relation.specs.declared.Found.{Found}
-use Rattle·relation.specs.declared.Found.the-variants as found
-use Rattle·course.specs.Links.{Room, linkedBy}
-use Rattle·course.specs.Left.{NoCircle}
-use Rattle·course.proofs.Closing.{linked-by, twice-long, own-circle, no-circle, course-same, course-long}
-use Rattle·taps·specs.specs.declared.Answer.{Answer}
-use Rattle·taps·specs.specs.declared.Answer.the-variants.{Fit, Clash, Refused}
-use Rattle·taps·specs.specs.Parts.{numbersFor, Lent, Decides, DecidesFor}
+use Rattle.model.specs.Bounded.{lowest, each_once}
+use Rattle.model.specs.Refusal.{Out, ok, refusal, tap_refusal}
+use Rattle.model.specs.Order.{Scenario}
+use Rattle.model.specs.Taps.{Tapped, with_lists, is_sooner, precedes, course_of, fit, clash, fit_word, tapped_on, tapped_for, tap_numbers_of, output_after}
+use Rattle.relation.specs.Width.{width}
+use Rattle.relation.specs.Order.{before, Transitive}
+use Rattle.relation.specs.Own.{is_own, found_in}
+use Rattle.relation.specs.Scenario.{scenario_in}
+use Rattle.relation.specs.declared.Found.{Found}
+use Rattle.relation.specs.declared.Found.TheVariants as found
+use Rattle.course.specs.Links.{Room, linked_by}
+use Rattle.course.specs.Left.{NoCircle}
+use Rattle.course.proofs.Closing.{linked_by_holds, twice_long, own_circle, no_circle, course_same, course_long}
+use Rattle.taps.specs.declared.Answer.{Answer}
+use Rattle.taps.specs.declared.Answer.TheVariants.{Fit, Clash, Refused}
+use Rattle.taps.specs.Parts.{numbers_for, Lent, Decides, DecidesFor}
 
 -- the words have the room that the links ask for
-pub lent-room : (count : ℕ) (words output : List ℕ) → Lent count words output → Room (2 * count) words
-lent-room count words output L = record { rows = omega (arith, L .few, L .wordsLong); bits = omega (arith, L .few) }
+pub lent_room : (count : ℕ) (words output : List ℕ) → Lent count words output → Room (2 * count) words
+lent_room count words output L = record { rows = omega (arith, L.few, L.words_long); bits = omega (arith, L.few) }
 
 -- and still have it when a list is linked
-pub room-linked : (events : ℕ) (words list : List ℕ) → Room events words → Transitive events (before width words) → eachOnce events list ≡ true
-    → (once : List ℕ) → once ≡ linkedBy width events list words → Room events once
-room-linked events words list R closed listOnce once e =
-    let K = linked-by events words R closed list listOnce in
-    subst⁻¹ (Room events) e (record { rows = omega (arith, R .rows, K .long); bits = R .bits })
+pub room_linked : (events : ℕ) (words list : List ℕ) → Room events words → Transitive events (before width words) → each_once events list ≡ true
+    → (once : List ℕ) → once ≡ linked_by width events list words → Room events once
+room_linked events words list R closed list_once once e =
+    let K = linked_by_holds events words R closed list list_once in
+    subst⁻¹ (Room events) e (record { rows = omega (arith, R.rows, K.long); bits = R.bits })
 
 -- one list behind the other
-pub both-linked : (events : ℕ) (words first second once twice : List ℕ) → once ≡ linkedBy width events first words
-    → twice ≡ linkedBy width events second once → twice ≡ linkedBy width events second (linkedBy width events first words)
-both-linked events words first second once twice e d = d ∙ ap (linkedBy width events second) e
+pub both_linked : (events : ℕ) (words first second once twice : List ℕ) → once ≡ linked_by width events first words
+    → twice ≡ linked_by width events second once → twice ≡ linked_by width events second (linked_by width events first words)
+both_linked events words first second once twice e d = d ∙ ap (linked_by width events second) e
 
 -- what the model says of a scenario by what the search for a circle finds
 module _ (first second : List ℕ) (S : Scenario) where
   abbrev circle : ℕ → Bool
   circle x = precedes S first second x x
 
-  abbrev byCircle : Option ℕ → Tapped
-  byCircle o = elim o [ none ↦ fit (courseOf (2 * S .count) (isSooner S first second) (2 * S .count)) | some x ↦ clash x ]
+  abbrev by_circle : Option ℕ → Tapped
+  by_circle o = elim o [ none ↦ fit (course_of (2 * S.count) (is_sooner S first second) (2 * S.count)) | some x ↦ clash x ]
 
-  tapped-by : (o : Option ℕ) → lowest (2 * S .count) circle ≡ o → tappedOn first second S ≡ byCircle o
-  unfolding tappedOn
-  tapped-by o e = ap byCircle e
+  tapped_by : (o : Option ℕ) → lowest (2 * S.count) circle ≡ o → tapped_on first second S ≡ by_circle o
+  unfolding tapped_on
+  tapped_by o e = ap by_circle e
 
   -- both lists have events of the sheet, each once: the scenario stands; else the first list that has not
-  module _ (firstOnce : eachOnce (2 * S .count) first ≡ true) where
-    pub lists-stand : eachOnce (2 * S .count) second ≡ true → withLists first second S ≡ ok S
-    unfolding withLists
-    lists-stand secondOnce = rw (firstOnce, secondOnce)
+  module _ (first_once : each_once (2 * S.count) first ≡ true) where
+    pub lists_stand : each_once (2 * S.count) second ≡ true → with_lists first second S ≡ ok S
+    unfolding with_lists
+    lists_stand second_once = rw (first_once, second_once)
 
-    lists-second : eachOnce (2 * S .count) second ≡ false → withLists first second S ≡ refusal tapRefusal 2
-    unfolding withLists
-    lists-second f = rw (firstOnce, f)
+    lists_second : each_once (2 * S.count) second ≡ false → with_lists first second S ≡ refusal tap_refusal 2
+    unfolding with_lists
+    lists_second f = rw (first_once, f)
 
-  lists-first : eachOnce (2 * S .count) first ≡ false → withLists first second S ≡ refusal tapRefusal 1
-  unfolding withLists
-  lists-first f = rw f
+  lists_first : each_once (2 * S.count) first ≡ false → with_lists first second S ≡ refusal tap_refusal 1
+  unfolding with_lists
+  lists_first f = rw f
 
 -- a refusal handed on
 pub refuses : (first second : List ℕ) (number line : ℕ) (o : Out Scenario) (output : List ℕ) → o ≡ refusal number line
     → Decides first second o output output (Refused number line)
-unfolding tappedFor outputAfter
+unfolding tapped_for output_after
 refuses first second number line o output e =
     subst⁻¹ (λ (p : Out Scenario). Decides first second p output output (Refused number line)) e
-    (record { answer = refl; outputLeft = refl })
+    (record { answer = refl; output_left = refl })
 
 -- The lists, one by one: refusal 20 at the first that is not in order.
 module _ (count : ℕ) (words first second output : List ℕ) (r : Bool) where
-  pub refuses-first : r ≡ eachOnce (2 * count) first → not r ≡ true → DecidesFor count words first second output output (Refused tapRefusal 1)
-  refuses-first e f boards =
-      refuses first second tapRefusal 1 _ output (lists-first first second (scenarioIn count boards words) (sym e ∙ not-true r f))
+  pub refuses_first : r ≡ each_once (2 * count) first → not r ≡ true → DecidesFor count words first second output output (Refused tap_refusal 1)
+  refuses_first e f boards =
+      refuses first second tap_refusal 1 _ output (lists_first first second (scenario_in count boards words) (sym e ∙ not-true r f))
 
-  pub refuses-second : (q : Bool) → q ≡ eachOnce (2 * count) first → not q ≡ false → r ≡ eachOnce (2 * count) second → not r ≡ true
-      → DecidesFor count words first second output output (Refused tapRefusal 2)
-  refuses-second q d t e f boards =
-      refuses first second tapRefusal 2 _ output (lists-second first second (scenarioIn count boards words) (sym d ∙ not-false q t) (sym e ∙ not-true r f))
+  pub refuses_second : (q : Bool) → q ≡ each_once (2 * count) first → not q ≡ false → r ≡ each_once (2 * count) second → not r ≡ true
+      → DecidesFor count words first second output output (Refused tap_refusal 2)
+  refuses_second q d t e f boards =
+      refuses first second tap_refusal 2 _ output (lists_second first second (scenario_in count boards words) (sym d ∙ not-false q t) (sym e ∙ not-true r f))
 
 -- a list that is not refused
-pub list-stands : (n : ℕ) (list : List ℕ) (r : Bool) → r ≡ eachOnce n list → not r ≡ false → eachOnce n list ≡ true
-list-stands n list r e t = sym e ∙ not-false r t
+pub list_stands : (n : ℕ) (list : List ℕ) (r : Bool) → r ≡ each_once n list → not r ≡ false → each_once n list ≡ true
+list_stands n list r e t = sym e ∙ not-false r t
 
 -- Both linked: what the search for a circle finds decides.
-module _ (count : ℕ) (words output first second : List ℕ) (lent : Lent count words output) (firstOnce : eachOnce (2 * count) first ≡ true)
-    (secondOnce : eachOnce (2 * count) second ≡ true) (twice : List ℕ)
-    (is-linked : twice ≡ linkedBy width (2 * count) second (linkedBy width (2 * count) first words)) where
+module _ (count : ℕ) (words output first second : List ℕ) (lent : Lent count words output) (first_once : each_once (2 * count) first ≡ true)
+    (second_once : each_once (2 * count) second ≡ true) (twice : List ℕ)
+    (is-linked : twice ≡ linked_by width (2 * count) second (linked_by width (2 * count) first words)) where
   abbrev linked : List ℕ
-  linked = linkedBy width (2 * count) second (linkedBy width (2 * count) first words)
+  linked = linked_by width (2 * count) second (linked_by width (2 * count) first words)
 
-  pub linked-long : length twice ≡ length words
-  linked-long =
-      ap length is-linked ∙ twice-long count [] words first second (lent-room count words output lent) (lent .closed) firstOnce secondOnce
+  pub linked_long : length twice ≡ length words
+  linked_long =
+      ap length is-linked ∙ twice_long count [] words first second (lent_room count words output lent) lent.closed first_once second_once
 
-  module _ (v : Found) (f : foundIn v ≡ lowest (2 * count) (isOwn width twice)) where
-    found-circle : (boards : List ℕ) (o : Option ℕ) → foundIn v ≡ o
-        → lowest (2 * count) (λ x. precedes (scenarioIn count boards words) first second x x) ≡ o
-    found-circle boards o i =
-        sym (own-circle count boards words first second (lent-room count words output lent) (lent .closed) firstOnce secondOnce)
-        ∙ ap (λ (l : List ℕ). lowest (2 * count) (isOwn width l)) (sym is-linked)
+  module _ (v : Found) (f : found_in v ≡ lowest (2 * count) (is_own width twice)) where
+    found_circle : (boards : List ℕ) (o : Option ℕ) → found_in v ≡ o
+        → lowest (2 * count) (λ x. precedes (scenario_in count boards words) first second x x) ≡ o
+    found_circle boards o i =
+        sym (own_circle count boards words first second (lent_room count words output lent) lent.closed first_once second_once)
+        ∙ ap (λ (l : List ℕ). lowest (2 * count) (is_own width l)) (sym is-linked)
         ∙ sym f
         ∙ i
 
     decides : (boards : List ℕ) (a : Tapped) (behind : List ℕ) (r : Answer)
-        → tappedOn first second (scenarioIn count boards words) ≡ a
-        → numbersFor r ≡ tapNumbersOf a → behind ≡ outputAfter a output
-        → Decides first second (withLists first second (scenarioIn count boards words)) output behind r
-    unfolding tappedFor
+        → tapped_on first second (scenario_in count boards words) ≡ a
+        → numbers_for r ≡ tap_numbers_of a → behind ≡ output_after a output
+        → Decides first second (with_lists first second (scenario_in count boards words)) output behind r
+    unfolding tapped_for
     decides boards a behind r i n b =
         subst⁻¹ (λ (p : Out Scenario). Decides first second p output behind r)
-        (lists-stand first second (scenarioIn count boards words) firstOnce secondOnce)
-        (record { answer = n ∙ ap tapNumbersOf (sym i); outputLeft = b ∙ ap (λ (p : Tapped). outputAfter p output) (sym i) })
+        (lists_stand first second (scenario_in count boards words) first_once second_once)
+        (record { answer = n ∙ ap tap_numbers_of (sym i); output_left = b ∙ ap (λ (p : Tapped). output_after p output) (sym i) })
 
     pub clashes : (x : ℕ) → v ≡ found.Event x → DecidesFor count words first second output output (Clash x)
-    unfolding outputAfter
+    unfolding output_after
     clashes x i boards =
         decides boards (clash x) output (Clash x)
-        (tapped-by first second (scenarioIn count boards words) (some x) (found-circle boards (some x) (ap foundIn i))) refl refl
+        (tapped_by first second (scenario_in count boards words) (some x) (found_circle boards (some x) (ap found_in i))) refl refl
 
     module _ (i : v ≡ found.Nothing) where
-      none-own : lowest (2 * count) (isOwn width linked) ≡ none
-      none-own = ap (λ (l : List ℕ). lowest (2 * count) (isOwn width l)) (sym is-linked) ∙ sym f ∙ ap foundIn i
+      none_own_holds : lowest (2 * count) (is_own width linked) ≡ none
+      none_own_holds = ap (λ (l : List ℕ). lowest (2 * count) (is_own width l)) (sym is-linked) ∙ sym f ∙ ap found_in i
 
-      pub fits-without-circle : NoCircle (2 * count) twice
-      fits-without-circle =
+      pub fits_without_circle : NoCircle (2 * count) twice
+      fits_without_circle =
           subst⁻¹ (NoCircle (2 * count)) is-linked
-          (no-circle count [] words first second (lent-room count words output lent) (lent .closed) firstOnce secondOnce none-own)
+          (no_circle count [] words first second (lent_room count words output lent) lent.closed first_once second_once none_own_holds)
 
-      pub fits : (behind : List ℕ) → behind ≡ courseOf (2 * count) (before width twice) (2 * count) ++ drop (2 * count) output
+      pub fits : (behind : List ℕ) → behind ≡ course_of (2 * count) (before width twice) (2 * count) ++ drop (2 * count) output
           → DecidesFor count words first second output behind (Fit (2 * count))
-      unfolding outputAfter
+      unfolding output_after
       fits behind b boards =
-          let S = scenarioIn count boards words in
-          let room = lent-room count words output lent in
-          let long = course-long count boards words first second room (lent .closed) firstOnce secondOnce none-own in
-          let same = course-same count boards words first second room (lent .closed) firstOnce secondOnce none-own in
-          decides boards (fit (courseOf (2 * count) (isSooner S first second) (2 * count))) behind (Fit (2 * count))
-          (tapped-by first second S none (found-circle boards none (ap foundIn i)))
-          (ap (λ (k : ℕ). record { word = fitWord; one = k; two = 0 }) (sym long))
-          (b ∙ ap (λ (l : List ℕ). courseOf (2 * count) (before width l) (2 * count) ++ drop (2 * count) output) is-linked
+          let S = scenario_in count boards words in
+          let room = lent_room count words output lent in
+          let long = course_long count boards words first second room lent.closed first_once second_once none_own_holds in
+          let same = course_same count boards words first second room lent.closed first_once second_once none_own_holds in
+          decides boards (fit (course_of (2 * count) (is_sooner S first second) (2 * count))) behind (Fit (2 * count))
+          (tapped_by first second S none (found_circle boards none (ap found_in i)))
+          (ap (λ (k : ℕ). record { word = fit_word; one = k; two = 0 }) (sym long))
+          (b ∙ ap (λ (l : List ℕ). course_of (2 * count) (before width l) (2 * count) ++ drop (2 * count) output) is-linked
           ∙ ap (λ (l : List ℕ). l ++ drop (2 * count) output) (sym same)
-          ∙ ap (λ (k : ℕ). courseOf (2 * count) (isSooner S first second) (2 * count) ++ drop k output) (sym long))
+          ∙ ap (λ (k : ℕ). course_of (2 * count) (is_sooner S first second) (2 * count) ++ drop k output) (sym long))

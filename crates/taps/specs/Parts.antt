@@ -1,39 +1,36 @@
 -- The answer's numbers, and what the parts of the call promise each other. Assumes nothing.
-use mathlib.Core.Path.{_≡_}
-use mathlib.Core.List.{List}
-use Prim.Native.Nat.{ℕ, _*_, _≤_}
-use lib.ListN.{length}
-use Rattle·model.specs.Limits.{messagesMost, tapNumbersLeast}
-use Rattle·model.specs.Refusal.{Out}
-use Rattle·model.specs.Order.{Scenario}
-use Rattle·model.specs.Answer.{refusedWord}
-use Rattle·model.specs.Taps.{TapNumbers, fitWord, clashWord, withLists, tappedFor, tapNumbersOf, outputAfter}
-use Rattle·relation.specs.Width.{width}
-use Rattle·relation.specs.Order.{before, Transitive}
-use Rattle·relation.specs.Scenario.{scenarioIn}
-use Rattle·taps·specs.specs.declared.Answer.{Answer}
-use Rattle·taps·specs.specs.declared.Answer.the-variants.{Fit, Clash, Refused}
+use Rattle.std.specs.Prelude.{◌≡◌, List, ℕ, ◌*◌, ◌≤◌, length}
+use Rattle.model.specs.Limits.{messages_most, tap_numbers_least}
+use Rattle.model.specs.Refusal.{Out}
+use Rattle.model.specs.Order.{Scenario}
+use Rattle.model.specs.Answer.{refused_word}
+use Rattle.model.specs.Taps.{TapNumbers, fit_word, clash_word, with_lists, tapped_for, tap_numbers_of, output_after}
+use Rattle.relation.specs.Width.{width}
+use Rattle.relation.specs.Order.{before, Transitive}
+use Rattle.relation.specs.Scenario.{scenario_in}
+use Rattle.taps.specs.declared.Answer.{Answer}
+use Rattle.taps.specs.declared.Answer.TheVariants.{Fit, Clash, Refused}
 
 -- The request's word and two values for each answer: the events written and 0 for fit; the event and 0 for clash; the refusal's number
 -- and its line for refused.
-abbrev pub numbersFor : Answer → TapNumbers
-numbersFor (Fit events) = record { word = fitWord; one = events; two = 0 }
-numbersFor (Clash x) = record { word = clashWord; one = x; two = 0 }
-numbersFor (Refused number line) = record { word = refusedWord; one = number; two = line }
+abbrev pub numbers_for : Answer → TapNumbers
+numbers_for (Fit events) = record { word = fit_word; one = events; two = 0 }
+numbers_for (Clash x) = record { word = clash_word; one = x; two = 0 }
+numbers_for (Refused number line) = record { word = refused_word; one = number; two = line }
 
 -- the words and the output lent for a scenario of so many messages, whose relation is closed
 pub record Lent (count : ℕ) (words output : List ℕ) : Type 0 where
-  pub few : count ≤ messagesMost
-  pub wordsLong : length words ≡ 2 * messagesMost * width
-  pub outputLong : tapNumbersLeast ≤ length output
+  pub few : count ≤ messages_most
+  pub words_long : length words ≡ 2 * messages_most * width
+  pub output_long : tap_numbers_least ≤ length output
   pub closed : Transitive (2 * count) (before width words)
 
 -- the answer for a scenario with its lists, or a refusal, and the output behind it
-pub record Decides (first second : List ℕ) (o : Out Scenario) (output outputExit : List ℕ) (r : Answer) : Type 0 where
-  pub answer : numbersFor r ≡ tapNumbersOf (tappedFor first second o)
-  pub outputLeft : outputExit ≡ outputAfter (tappedFor first second o) output
+pub record Decides (first second : List ℕ) (o : Out Scenario) (output output_exit : List ℕ) (r : Answer) : Type 0 where
+  pub answer : numbers_for r ≡ tap_numbers_of (tapped_for first second o)
+  pub output_left : output_exit ≡ output_after (tapped_for first second o) output
 
 -- the same for the scenario that the words hold, wherever its events are
 abbrev pub DecidesFor : ℕ → List ℕ → List ℕ → List ℕ → List ℕ → List ℕ → Answer → Type 0
-DecidesFor count words first second output outputExit r =
-    (boards : List ℕ) → Decides first second (withLists first second (scenarioIn count boards words)) output outputExit r
+DecidesFor count words first second output output_exit r =
+    (boards : List ℕ) → Decides first second (with_lists first second (scenario_in count boards words)) output output_exit r

@@ -1,16 +1,18 @@
 // What two taps' lists of event numbers decide on an accepted sheet: one course of events for both, a clash, or a list that is refused.
-ghost use mathlib.Core.Path.{_≡_};
-ghost use mathlib.Core.Bool.{true};
-ghost use Prim.Native.Nat.{_*_};
-ghost use Rattle·model.specs.Bounded.{eachOnce};
-ghost use Rattle·relation.specs.Width.{width};
-ghost use Rattle·relation.specs.Order.{before, Transitive};
-ghost use Rattle·course.specs.Links.{Room, linkedBy};
-ghost use Rattle·taps·specs.specs.Parts.{DecidesFor, Lent};
+#![tactic(auto)]
+
+ghost use Rattle.std.specs.Prelude.{◌≡◌, true, ◌*◌};
+ghost use Rattle.model.specs.Bounded.{each_once};
+ghost use Rattle.relation.specs.Width.{width};
+ghost use Rattle.relation.specs.Order.{before, Transitive};
+ghost use Rattle.course.specs.Links.{Room, linked_by};
+ghost use Rattle.taps.specs.Parts.{DecidesFor, Lent};
+
 use relation::Found;
 
 // Fit, with the number of events in the output; a clash, with the event that would have to precede itself; or refused, with number
 // and line.
+#[derive(Clone, Copy)]
 pub enum Answer {
     Fit(usize),
     Clash(usize),
@@ -19,11 +21,11 @@ pub enum Answer {
 
 // The links of both lists go into the relation.
 fn link_both(words: &mut [u64], count: usize, first: &[u16], second: &[u16])
-    requires { ⌜ Room (2 * count) (now words) ⌝ }
-    requires { ⌜ Transitive (2 * count) (before width (now words)) ⌝ }
-    requires { ⌜ eachOnce (2 * count) (now first) ≡ true ⌝ }
-    requires { ⌜ eachOnce (2 * count) (now second) ≡ true ⌝ }
-    ensures { λ _. ⌜ now (words .exit) ≡ linkedBy width (2 * count) (now (second .entry)) (linkedBy width (2 * count) (now (first .entry)) (now (words .entry))) ⌝ }
+    requires room { Room (2 * count) words.old }
+    requires transitive { Transitive (2 * count) (before width words.old) }
+    requires first_value { each_once (2 * count) first.now ≡ true }
+    requires second_value { each_once (2 * count) second.now ≡ true }
+    ensures { words.new ≡ linked_by width (2 * count) second.now (linked_by width (2 * count) first.now words.old) }
 {
     let events = 2 * count;
     course::link(words, first, events);
@@ -38,10 +40,10 @@ fn fit_both(
     second: &[u16],
     output: &mut [u16],
 ) -> Answer
-    requires { ⌜ Lent count (now words) (now output) ⌝ }
-    requires { ⌜ eachOnce (2 * count) (now first) ≡ true ⌝ }
-    requires { ⌜ eachOnce (2 * count) (now second) ≡ true ⌝ }
-    ensures { λ r. ⌜ DecidesFor count (now (words .entry)) (now (first .entry)) (now (second .entry)) (now (output .entry)) (now (output .exit)) r ⌝ }
+    requires lent { Lent count words.old output.old }
+    requires first_value { each_once (2 * count) first.now ≡ true }
+    requires second_value { each_once (2 * count) second.now ≡ true }
+    ensures { DecidesFor count words.old first.now second.now output.old output.new result }
 {
     let events = 2 * count;
     link_both(words, count, first, second);
@@ -62,8 +64,8 @@ pub fn decide(
     second: &[u16],
     output: &mut [u16],
 ) -> Answer
-    requires { ⌜ Lent count (now words) (now output) ⌝ }
-    ensures { λ r. ⌜ DecidesFor count (now (words .entry)) (now (first .entry)) (now (second .entry)) (now (output .entry)) (now (output .exit)) r ⌝ }
+    requires { Lent count words.old output.old }
+    ensures { DecidesFor count words.old first.now second.now output.old output.new result }
 {
     let events = 2 * count;
     if !course::each_once(first, events) {

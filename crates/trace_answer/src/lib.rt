@@ -1,19 +1,18 @@
 // The length that a trace from another tool has, and the verdict on it as C gets it.
-ghost use mathlib.Core.Path.{_≡_};
-ghost use Rattle·model.specs.Replay.{replayNumbers, isTrace};
-ghost use Rattle·trace_steps.specs.Bridge.{replayIn};
-ghost use Rattle·trace_answer·specs.specs.Numbers.{Numbers, Small};
-use answer_words::replayed::FINISHED;
-use answer_words::replayed::NOT_ALLOWED;
-use answer_words::replayed::OPEN;
-use answer_words::replayed::REFUSED;
-use answer_words::replayed::STUCK;
-use trace_steps::Outcome;
-use trace_steps::Replay;
+#![tactic(auto)]
+
+ghost use Rattle.std.specs.Prelude.{◌≡◌};
+ghost use Rattle.model.specs.Replay.{replay_numbers, is_trace};
+ghost use Rattle.trace_steps.specs.Bridge.{replay_in};
+ghost use Rattle.trace_answer.specs.Numbers.{Numbers, Small};
+
+use answer_words::replayed::{FINISHED, NOT_ALLOWED, OPEN, REFUSED, STUCK};
+use trace_steps::{Outcome, Replay};
 
 // word 0 finished, 1 stuck, 2 open, 3 not allowed (one is the step's index), 4 refused (one is the number, two the line).
 // On stuck each board has in waits the event that it waits for; 65,535 if there is none, and on every other word.
 #[repr(C)]
+#[derive(Clone, Copy)]
 pub struct TraceCheckAnswer {
     pub word: u32,
     pub one: u32,
@@ -23,8 +22,8 @@ pub struct TraceCheckAnswer {
 
 // The verdict's numbers. Each fits 32 bits.
 pub fn numbers(outcome: Outcome) -> TraceCheckAnswer
-    requires { ⌜ Small (replayNumbers (replayIn (outcome .verdict))) ⌝ }
-    ensures { λ r. ⌜ Numbers outcome r ⌝ }
+    requires { Small (replay_numbers (replay_in outcome.verdict)) }
+    ensures { Numbers outcome result }
 {
     let waits = outcome.waits;
     let verdict = outcome.verdict;
@@ -64,7 +63,7 @@ pub fn numbers(outcome: Outcome) -> TraceCheckAnswer
 
 // A trace has an even length, of two bytes for each of three steps a message at most.
 pub fn is_trace(length: usize) -> bool
-    ensures { λ r. ⌜ r ≡ isTrace length ⌝ }
+    ensures { result ≡ is_trace length }
 {
     if length % 2 != 0 {
         return false;

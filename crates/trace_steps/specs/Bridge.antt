@@ -1,51 +1,46 @@
 -- The verdict on a trace as the model's, and the number of each board. Assumes nothing.
-use mathlib.Core.Path.{_≡_}
-use mathlib.Core.Bool.{cond}
-use mathlib.Core.List.{List}
-use mathlib.Core.Option.{Option, none, some}
-use Prim.Native.Nat.{ℕ, _+_, _*_}
-use lib.Dec.{ltb}
-use lib.ListN.{getD}
-use Rattle·model.specs.Limits.{boards}
-use Rattle·model.specs.Order.{Scenario}
-use Rattle·model.specs.Channel.{Channel}
-use Rattle·model.specs.Run.{State, start, Step}
-use Rattle·model.specs.Schedule.{messageOfStep, stepTold}
-use Rattle·model.specs.Replay as model
-use Rattle·model.specs.Waits.{noWait, endFrom, eachBoard, waitBy}
-use Rattle·step.specs.declared.StepOrNone.{StepOrNone}
-use Rattle·step.specs.Steps.{stepOrNone}
-use Rattle·trace_steps·specs.specs.declared.Replay.{Replay}
-use Rattle·trace_steps·specs.specs.declared.Replay.the-variants.{Finished, Stuck, Open, NotAllowed, Refused}
-use Rattle·trace_steps·specs.specs.declared.Outcome.{Outcome}
+use Rattle.std.specs.Prelude.{◌≡◌, cond, List, ℕ, ◌+◌, ◌*◌, ltb, get_or}
+use Rattle.std.proofs.Math.Option.{Option, none, some}
+use Rattle.model.specs.Limits.{boards}
+use Rattle.model.specs.Order.{Scenario}
+use Rattle.model.specs.Channel.{Channel}
+use Rattle.model.specs.Run.{State, start, Step}
+use Rattle.model.specs.Schedule.{message_of_step, step_told}
+use Rattle.model.specs.Replay as model
+use Rattle.model.specs.Waits.{no_wait, end_from, each_board, wait_by}
+use Rattle.step.specs.declared.StepOrNone.{StepOrNone}
+use Rattle.step.specs.Steps.{step_or_none}
+use Rattle.trace_steps.specs.declared.Replay.{Replay}
+use Rattle.trace_steps.specs.declared.Replay.TheVariants.{Finished, Stuck, Open, NotAllowed, Refused}
+use Rattle.trace_steps.specs.declared.Outcome.{Outcome}
 
 -- step i of a trace, for `count` messages: a step on any other is as good as none
 abbrev pub known : ℕ → Option Step → Option Step
 known count none = none
-known count (some t) = cond (ltb (messageOfStep t) count) (some t) none
+known count (some t) = cond (ltb (message_of_step t) count) (some t) none
 
 abbrev pub StepAt : List ℕ → ℕ → ℕ → StepOrNone → Type 0
-StepAt trace i count r = stepOrNone r ≡ known count (stepTold (getD trace (2 * i) 0) (getD trace (2 * i + 1) 0))
+StepAt trace i count r = step_or_none r ≡ known count (step_told (get_or trace (2 * i) 0) (get_or trace (2 * i + 1) 0))
 
-abbrev pub replayIn : Replay → model.Replay
-replayIn Finished = model.finishes
-replayIn Stuck = model.sticks
-replayIn Open = model.open′
-replayIn (NotAllowed i) = model.notAllowed i
-replayIn (Refused number line) = model.refused number line
+abbrev pub replay_in : Replay → model.Replay
+replay_in Finished = model.finishes
+replay_in Stuck = model.sticks
+replay_in Open = model.open'
+replay_in (NotAllowed i) = model.not_allowed i
+replay_in (Refused number line) = model.refused number line
 
 -- a verdict, and a number for each board
 pub record Tells (v : model.Replay) (f : ℕ → ℕ) (r : Outcome) : Type 0 where
-  pub verdict : replayIn (r .verdict) ≡ v
-  pub numbers : r .waits ≡ eachBoard boards f
+  pub verdict : replay_in r.verdict ≡ v
+  pub numbers : r.waits ≡ each_board boards f
 
 -- a verdict on which no board waits
 abbrev pub Unwaited : Replay → Outcome → Type 0
-Unwaited v r = Tells (replayIn v) (λ b. noWait) r
+Unwaited v r = Tells (replay_in v) (λ b. no_wait) r
 
 -- the verdict on a trace whose steps lead to the state s, and on one from the start
 abbrev pub Stood : Scenario → Channel → State → Outcome → Type 0
-Stood S c s r = Tells (model.standing S c s) (waitBy (model.standing S c s) S s) r
+Stood S c s r = Tells (model.standing S c s) (wait_by (model.standing S c s) S s) r
 
 abbrev pub Taken : Scenario → Channel → List ℕ → Outcome → Type 0
-Taken S c trace r = Tells (model.replay S c trace) (waitBy (model.replay S c trace) S (endFrom S start (model.stepsIn trace))) r
+Taken S c trace r = Tells (model.replay S c trace) (wait_by (model.replay S c trace) S (end_from S start (model.steps_in trace))) r

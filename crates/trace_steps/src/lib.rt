@@ -1,28 +1,25 @@
 // The steps of a trace from another tool, gone through by the step rules: finished, stuck, still open, or the first step that is not
 // allowed; and on stuck, which event each board waits for.
-ghost use mathlib.Core.Path.{_≡_};
-ghost use Prim.Native.Nat.{_+_, _*_, _%_, _<_, _≤_};
-ghost use lib.ListN.{length};
-ghost use Rattle·model.specs.Limits.{traceLeast};
-ghost use Rattle·relation.specs.Scenario.{scenarioIn};
-ghost use Rattle·channel_table.specs.Table.{channelIn};
-ghost use Rattle·board.specs.Masks.{Standing};
-ghost use Rattle·run.specs.State.{stateOf};
-ghost use Rattle·trace_steps·specs.specs.Bridge.{StepAt, Unwaited, Stood, Taken};
+#![tactic(auto)]
+
+ghost use Rattle.std.specs.Prelude.{◌≡◌, ◌+◌, ◌*◌, ◌%◌, ◌<◌, ◌≤◌, length};
+ghost use Rattle.model.specs.Limits.{trace_least};
+ghost use Rattle.relation.specs.Scenario.{scenario_in};
+ghost use Rattle.channel_table.specs.Table.{channel_in};
+ghost use Rattle.board.specs.Masks.{Standing};
+ghost use Rattle.run.specs.State.{state_of};
+ghost use Rattle.trace_steps.specs.Bridge.{StepAt, Unwaited, Stood, Taken};
+
 use channel::allowed;
 use channel_table::Channel;
-use next_state::done_behind;
-use next_state::held_behind;
-use next_state::way_behind;
-use run::Run;
-use run::board_at;
-use run::target_of;
+use next_state::{done_behind, held_behind, way_behind};
+use run::{Run, board_at, target_of};
 use standing::Stand;
-use step::Step;
-use step::StepOrNone;
+use step::{Step, StepOrNone};
 use waits::waits_of;
 
 // The verdict: finished, stuck or open; the index, from 0, of the first step that is not allowed; or refused, with number and line.
+#[derive(Clone, Copy)]
 pub enum Replay {
     Finished,
     Stuck,
@@ -33,12 +30,13 @@ pub enum Replay {
 
 // A byte, as a number of the machine's width.
 fn wide(byte: u8) -> usize
-    ensures { λ r. ⌜ r ≡ byte ⌝ }
+    ensures { result ≡ byte }
 {
     byte as usize
 }
 
 // The verdict, and the event that each board waits for.
+#[derive(Clone, Copy)]
 pub struct Outcome {
     pub verdict: Replay,
     pub waits: [u16; model::BOARDS],
@@ -46,7 +44,7 @@ pub struct Outcome {
 
 // A verdict on which no board waits.
 pub fn unwaited(verdict: Replay) -> Outcome
-    ensures { λ r. ⌜ Unwaited verdict r ⌝ }
+    ensures { Unwaited verdict result }
 {
     Outcome {
         verdict,
@@ -56,8 +54,8 @@ pub fn unwaited(verdict: Replay) -> Outcome
 
 // The verdict on a trace that is at its end. On stuck alone does a board wait.
 fn stood(run: Run, words: &[u64], masks: &[u64], boards: &[u8], count: usize, c: Channel) -> Outcome
-    requires { ⌜ Standing count (now boards) (now words) (now masks) ⌝ }
-    ensures { λ r. ⌜ Stood (scenarioIn count (now (boards .entry)) (now (words .entry))) (channelIn c) (stateOf run) r ⌝ }
+    requires { Standing count boards.now words.now masks.now }
+    ensures { Stood (scenario_in count boards.now words.now) (channel_in c) (state_of run) result }
 {
     let stand = standing::stand_of(run, words, masks, boards, count, c);
     match stand {
@@ -72,8 +70,8 @@ fn stood(run: Run, words: &[u64], masks: &[u64], boards: &[u8], count: usize, c:
 
 // Step i of a trace, two bytes a step. A wrong kind, or a message that the walk has not, is no step.
 fn step_at(trace: &[u8], i: usize, count: usize) -> StepOrNone
-    requires { ⌜ 2 * i + 1 < length (now trace) ⌝ }
-    ensures { λ r. ⌜ StepAt (now (trace .entry)) i count r ⌝ }
+    requires { 2 * i + 1 < length trace.now }
+    ensures { StepAt trace.now i count result }
 {
     let at = 2 * i;
     let behind = at + 1;
@@ -93,9 +91,9 @@ pub fn take_steps(
     c: Channel,
     trace: &[u8],
 ) -> Outcome
-    requires { ⌜ Standing count (now boards) (now words) (now masks) ⌝ }
-    requires { ⌜ (length (now trace) % 2 ≡ 0) × (length (now trace) ≤ traceLeast) ⌝ }
-    ensures { λ r. ⌜ Taken (scenarioIn count (now (boards .entry)) (now (words .entry))) (channelIn c) (now (trace .entry)) r ⌝ }
+    requires standing { Standing count boards.now words.now masks.now }
+    requires trace_len { (length trace.now % 2 ≡ 0) × (length trace.now ≤ trace_least) }
+    ensures { Taken (scenario_in count boards.now words.now) (channel_in c) trace.now result }
 {
     let mut run = Run::start();
     for i in 0..trace.len() / 2 {

@@ -1,67 +1,67 @@
 -- What each part of the check is to show, from what its own parts handed on. Assumes nothing.
-use mathlib.Core.Path.{_≡_, refl, sym, _∙_, ap, subst, subst⁻¹}
+use mathlib.Core.Path.{◌≡◌, refl, sym, ◌∙◌, ap, subst, subst⁻¹}
 use mathlib.Core.List.{List}
 use mathlib.Core.Option.{Option, none, some}
 use Prim.Native.Nat.{ℕ}
-use Rattle·model.specs.Refusal.{ok}
-use Rattle·model.specs.Order.{Scenario}
-use Rattle·model.specs.Channel as model
-use Rattle·model.specs.Race.{raceRuleOf, lowestRace}
-use Rattle·model.specs.Schedule.{schedule}
-use Rattle·model.specs.Answer.{lockedWord, free, locked, verdictOf, answerFor, numbersOf, traceAfter}
-use Rattle·race.specs.declared.Rule.{Rule}
-use Rattle·lowest_race.specs.declared.Lowest.{Lowest}
-use Rattle·lowest_race.specs.declared.Lowest.the-variants as lowest
-use Rattle·race.specs.Bridge.{ruleIn}
-use Rattle·lowest_race.specs.Named.{raceIn}
-use Rattle·schedule.specs.Schedule.{Scheduled}
-use Rattle·verdict·specs.specs.declared.Answer.the-variants.{Free, Locked}
-use Rattle·verdict·specs.specs.Parts.{IsRace, Decides}
+use Rattle.model.specs.Refusal.{ok}
+use Rattle.model.specs.Order.{Scenario}
+use Rattle.model.specs.Channel as model
+use Rattle.model.specs.Race.{race_rule_of, lowest_race}
+use Rattle.model.specs.Schedule.{schedule}
+use Rattle.model.specs.Answer.{locked_word, free, locked, verdict_of, answer_for, numbers_of, trace_after}
+use Rattle.race.specs.declared.Rule.{Rule}
+use Rattle.lowest_race.specs.declared.Lowest.{Lowest}
+use Rattle.lowest_race.specs.declared.Lowest.TheVariants as lowest
+use Rattle.race.specs.Bridge.{rule_in}
+use Rattle.lowest_race.specs.Named.{race_in}
+use Rattle.schedule.specs.Schedule.{Scheduled}
+use Rattle.verdict.specs.declared.Answer.TheVariants.{Free, Locked}
+use Rattle.verdict.specs.Parts.{IsRace, Decides}
 
 -- the schedule on the channel of a code
-pub on-channel : (S : Scenario) (code e steps : ℕ) (trace behind : List ℕ) (c : model.Channel) → c ≡ model.channelOf code → Scheduled S c e trace behind steps
-    → Scheduled S (model.channelOf code) e trace behind steps
-on-channel S code e steps trace behind c i s = subst (λ (k : model.Channel). Scheduled S k e trace behind steps) i s
+pub on_channel : (S : Scenario) (code e steps : ℕ) (trace behind : List ℕ) (c : model.Channel) → c ≡ model.channel_of code → Scheduled S c e trace behind steps
+    → Scheduled S (model.channel_of code) e trace behind steps
+on_channel S code e steps trace behind c i s = subst (λ (k : model.Channel). Scheduled S k e trace behind steps) i s
 
 module _ (S : Scenario) (code : ℕ) where
-  pub verdict-locked : (e x : ℕ) → IsRace S code e x → verdictOf S code ≡ locked e x (schedule S (model.channelOf code) e)
-  unfolding verdictOf
-  verdict-locked e x h =
+  pub verdict_locked : (e x : ℕ) → IsRace S code e x → verdict_of S code ≡ locked e x (schedule S (model.channel_of code) e)
+  unfolding verdict_of
+  verdict_locked e x h =
       subst⁻¹
-      (λ (o : Option (ℕ × ℕ)). elim o [ none ↦ free | some race ↦ locked (race .0) (race .1) (schedule S (model.channelOf code) (race .0)) ]
-      ≡ locked e x (schedule S (model.channelOf code) e))
+      (λ (o : Option (ℕ × ℕ)). elim o [ none ↦ free | some race ↦ locked race.0 race.1 (schedule S (model.channel_of code) race.0) ]
+      ≡ locked e x (schedule S (model.channel_of code) e))
       h refl
 
-  pub verdict-free : lowestRace S (raceRuleOf code) ≡ none → verdictOf S code ≡ free
-  unfolding verdictOf
-  verdict-free h =
+  pub verdict_free : lowest_race S (race_rule_of code) ≡ none → verdict_of S code ≡ free
+  unfolding verdict_of
+  verdict_free h =
       subst⁻¹
-      (λ (o : Option (ℕ × ℕ)). elim o [ none ↦ free | some race ↦ locked (race .0) (race .1) (schedule S (model.channelOf code) (race .0)) ] ≡ free)
+      (λ (o : Option (ℕ × ℕ)). elim o [ none ↦ free | some race ↦ locked race.0 race.1 (schedule S (model.channel_of code) race.0) ] ≡ free)
       h refl
 
   module _ (trace : List ℕ) where
     -- the race named, and its schedule written: locked
-    pub locks : (e x steps : ℕ) (behind : List ℕ) → IsRace S code e x → Scheduled S (model.channelOf code) e trace behind steps
+    pub locks : (e x steps : ℕ) (behind : List ℕ) → IsRace S code e x → Scheduled S (model.channel_of code) e trace behind steps
         → Decides (ok S) code trace behind (Locked e x steps)
-    unfolding answerFor traceAfter
+    unfolding answer_for trace_after
     locks e x steps behind h t =
-        let v = sym (verdict-locked e x h) in
+        let v = sym (verdict_locked e x h) in
         record {
-          answer = ap (λ n. record { word = lockedWord; one = e; two = x; three = n }) (t .count) ∙ ap numbersOf v;
-          traceLeft = t .trace ∙ ap (λ a. traceAfter a trace) v;
+          answer = ap (λ n. record { word = locked_word; one = e; two = x; three = n }) t.count ∙ ap numbers_of v;
+          trace_left = t.trace ∙ ap (λ a. trace_after a trace) v;
         }
 
     -- no race: free, and the trace as it was
-    pub frees : lowestRace S (raceRuleOf code) ≡ none → Decides (ok S) code trace trace Free
-    unfolding answerFor traceAfter
+    pub frees : lowest_race S (race_rule_of code) ≡ none → Decides (ok S) code trace trace Free
+    unfolding answer_for trace_after
     frees h =
-        let v = sym (verdict-free h) in
-        record { answer = ap numbersOf v; traceLeft = ap (λ a. traceAfter a trace) v }
+        let v = sym (verdict_free h) in
+        record { answer = ap numbers_of v; trace_left = ap (λ a. trace_after a trace) v }
 
 -- the race that the search named, or none
-module _ (S : Scenario) (code : ℕ) (rule : Rule) (v : Lowest) (same : ruleIn rule ≡ raceRuleOf code) (found : raceIn v ≡ lowestRace S (ruleIn rule)) where
+module _ (S : Scenario) (code : ℕ) (rule : Rule) (v : Lowest) (same : rule_in rule ≡ race_rule_of code) (found : race_in v ≡ lowest_race S (rule_in rule)) where
   pub named : (e x : ℕ) → v ≡ lowest.Race e x → IsRace S code e x
-  named e x i = ap (lowestRace S) (sym same) ∙ sym found ∙ ap raceIn i
+  named e x i = ap (lowest_race S) (sym same) ∙ sym found ∙ ap race_in i
 
   pub unnamed : (trace : List ℕ) → v ≡ lowest.Nothing → Decides (ok S) code trace trace Free
-  unnamed trace i = frees S code trace (ap (lowestRace S) (sym same) ∙ sym found ∙ ap raceIn i)
+  unnamed trace i = frees S code trace (ap (lowest_race S) (sym same) ∙ sym found ∙ ap race_in i)

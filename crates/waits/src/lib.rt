@@ -1,17 +1,18 @@
 // Which event each board waits for, where a run is stuck.
-ghost use mathlib.Core.Path.{_≡_};
-ghost use Prim.Native.Nat.{_<_};
-ghost use Rattle·model.specs.Waits.{waitOf, eachBoard};
-ghost use Rattle·relation.specs.Scenario.{scenarioIn};
-ghost use Rattle·board.specs.Boards.{boardsMost};
-ghost use Rattle·board.specs.Masks.{Standing};
-ghost use Rattle·run.specs.State.{stateOf};
-ghost use Rattle·waits·specs.specs.Bridge.{SaysHeld, SaysWait};
+#![tactic(auto)]
+
+ghost use Rattle.std.specs.Prelude.{◌≡◌, ◌<◌};
+ghost use Rattle.model.specs.Waits.{wait_of, each_board};
+ghost use Rattle.relation.specs.Scenario.{scenario_in};
+ghost use Rattle.board.specs.Boards.{boards_most};
+ghost use Rattle.board.specs.Masks.{Standing};
+ghost use Rattle.run.specs.State.{state_of};
+ghost use Rattle.waits.specs.Bridge.{SaysHeld, SaysWait};
+
 use next_message::next_in;
 use readiness::Readiness;
 use relation::WIDTH;
-use run::Buffer;
-use run::Run;
+use run::{Buffer, Run};
 
 // The readiness of message m's receive, if the buffer holds m. A message that it does not hold keeps no board waiting.
 fn held_readiness(
@@ -23,9 +24,9 @@ fn held_readiness(
     buffer: Buffer,
     m: usize,
 ) -> Readiness
-    requires { ⌜ Standing count (now boards) (now words) (now masks) ⌝ }
-    requires { ⌜ m < count ⌝ }
-    ensures { λ r. ⌜ SaysHeld count (now (boards .entry)) (now (words .entry)) (now (done .entry)) buffer m r ⌝ }
+    requires standing { Standing count boards.now words.now masks.now }
+    requires m_lt_count { m < count }
+    ensures { SaysHeld count boards.now words.now done.now buffer m result }
 {
     let send = 2 * m;
     if !relation::test(&buffer.held, 0, send) {
@@ -44,8 +45,8 @@ fn wait_at(
     done: &[u64; WIDTH],
     buffer: Buffer,
 ) -> u16
-    requires { ⌜ Standing count (now boards) (now words) (now masks) ⌝ }
-    ensures { λ r. ⌜ SaysWait count (now (boards .entry)) (now (words .entry)) (now (done .entry)) buffer r ⌝ }
+    requires { Standing count boards.now words.now masks.now }
+    ensures { SaysWait count boards.now words.now done.now buffer result }
 {
     let mut m = next_in(&buffer.held, 0);
     while m < count {
@@ -71,8 +72,8 @@ pub fn waits_of(
     boards: &[u8],
     count: usize,
 ) -> [u16; model::BOARDS]
-    requires { ⌜ Standing count (now boards) (now words) (now masks) ⌝ }
-    ensures { λ r. ⌜ r ≡ eachBoard boardsMost (waitOf (scenarioIn count (now (boards .entry)) (now (words .entry))) (stateOf run)) ⌝ }
+    requires { Standing count boards.now words.now masks.now }
+    ensures { result ≡ each_board boards_most (wait_of (scenario_in count boards.now words.now) (state_of run)) }
 {
     let done = run.done;
     let mut waits = [model::NO_WAIT; model::BOARDS];

@@ -1,125 +1,125 @@
 -- What the loop over a block's rows keeps, row by row, and where it leaves them. Each law has the premises of one place of the
 -- code. Assumes nothing.
-use Prim.Native.Nat.{ℕ, zero, suc, _+_, _-_, _*_, _<_, _≤_}
+use Prim.Native.Nat.{ℕ, zero, suc, ◌+◌, ◌-◌, ◌*◌, ◌<◌, ◌≤◌}
 use native.Mathlib.Numerals.{add-one}
-use native.Mathlib.Decide.{decLt}
+use native.Mathlib.Decide.{dec_lt}
 use native.Mathlib.Omega.{arith}
-use mathlib.Core.Path.{_≡_, refl, sym, _∙_, ap, subst}
-use mathlib.Core.Logic.{_⊎_, inl, inr, ⊎-elim}
-use mathlib.Core.Bool.{Bool, true, false, cond, _||_, true≢false}
-use mathlib.Core.List.{List, [], _∷_}
+use mathlib.Core.Path.{◌≡◌, refl, sym, ◌∙◌, ap, subst}
+use mathlib.Core.Logic.{◌⊎◌, inl, inr, ⊎_elim}
+use mathlib.Core.Bool.{Bool, true, false, cond, ◌||◌, true≢false}
+use mathlib.Core.List.{List, [], ◌∷◌}
 use lib.Dec.{eqb, ltb}
-use lib.ListN.{length, getD, set, drop, length-set}
-use borrow.Author.Tests.{eq-eqb, ne-eqb, eqb-true, lt-ltb, le-ltb, ltb-true}
-use Rattle·model.proofs.Bounded.{and-left, and-right, or-cases, or-left, or-right}
-use Rattle·model.specs.Limits.{boards, messagesMost}
-use Rattle·model.specs.Refusal.{Out, ok, refusal, messagesRefusal}
-use Rattle·model.specs.Rows.{Row, sheet, message, order, block, call, choice}
-use Rattle·model.specs.Place.{lineOf}
-use Rattle·model.specs.Expansion.{Progress, blockOpened, messageMet, orderMet}
-use Rattle·relation.specs.Width.{width}
-use Rattle·closure.specs.Insertion.{inserted}
-use Rattle·closure.proofs.Inserted.{length-inserted}
-use Rattle·sheet.specs.Bridge.{rowFrom, rowsAt, rowsOf}
-use Rattle·sheet.proofs.Bridge.{rows-drop as rows-at-drop, row-message as row-is-message, row-order as row-is-order}
-use Rattle·blocks.specs.Store.{Store, storeOf, boardsWith, added, passed, storeOps}
-use Rattle·walk·specs.specs.Block.{opened, stateOf, rowsFrom, inBlock, blockWalked, Leaves, AllStand, Ready}
-use Rattle·walk·specs.specs.declared.Walk.{Walk}
-use Rattle·walk·specs.specs.declared.Walked.{Walked}
-use Rattle·walk·specs.specs.declared.Walked.the-variants.{To, Stopped}
-use Rattle·blocks.proofs.Passed.{length-passed}
-use Rattle·blocks.proofs.Added.{length-added}
+use lib.ListN.{length, get_or, set, drop, length-set}
+use borrow.Author.Tests.{eq-eqb, ne_eqb, eqb-true, lt-ltb, le-ltb, ltb-true}
+use Rattle.model.proofs.Bounded.{and_left, and_right, or_cases, or_left, or_right}
+use Rattle.model.specs.Limits.{boards, messages_most}
+use Rattle.model.specs.Refusal.{Out, ok, refusal, messages_refusal}
+use Rattle.model.specs.Rows.{Row, sheet, message, order, block, call, choice}
+use Rattle.model.specs.Place.{line_of}
+use Rattle.model.specs.Expansion.{Progress, block_opened, message_met, order_met}
+use Rattle.relation.specs.Width.{width}
+use Rattle.closure.specs.Insertion.{inserted}
+use Rattle.closure.proofs.Inserted.{length_inserted}
+use Rattle.sheet.specs.Bridge.{row_from, rows_at, rows_of}
+use Rattle.sheet.proofs.Bridge.{rows_drop as rows-at-drop, row_message as row-is-message, row_order as row-is-order}
+use Rattle.blocks.specs.Store.{Store, store_of, boards_with, added, passed, store_ops}
+use Rattle.walk.specs.Block.{opened, state_of, rows_from, in_block, block_walked, Leaves, AllStand, Ready}
+use Rattle.walk.specs.declared.Walk.{Walk}
+use Rattle.walk.specs.declared.Walked.{Walked}
+use Rattle.walk.specs.declared.Walked.TheVariants.{To, Stopped}
+use Rattle.blocks.proofs.Passed.{length_passed}
+use Rattle.blocks.proofs.Added.{length_added}
 
 -- what a block leaves, known by another name
-pub leaves-as : {r r′ : Walked} {t : Store} {o : Out (ℕ × Progress Store)} → r ≡ r′ → Leaves r t o → Leaves r′ t o
-leaves-as {t = t} {o = o} e h = subst (λ (r : Walked). Leaves r t o) e h
+pub leaves_as : {r r' : Walked} {t : Store} {o : Out (ℕ × Progress Store)} → r ≡ r' → Leaves r t o → Leaves r' t o
+leaves_as {t = t} {o = o} e h = subst (λ (r : Walked). Leaves r t o) e h
 
 -- the rows from row i on
-pub rows-drop : (kind one two : List ℕ) (count i : ℕ) → drop i (rowsOf kind one two count) ≡ rowsFrom kind one two count i
-rows-drop kind one two count i = rows-at-drop kind one two i 0 count ∙ ap (λ (k : ℕ). rowsAt kind one two k (count - i)) (omega arith)
+pub rows_drop : (kind one two : List ℕ) (count i : ℕ) → drop i (rows_of kind one two count) ≡ rows_from kind one two count i
+rows_drop kind one two count i = rows-at-drop kind one two i 0 count ∙ ap (λ (k : ℕ). rows_at kind one two k (count - i)) (omega arith)
 
-pub rows-next : (kind one two : List ℕ) (count i : ℕ) → i < count
-    → rowsFrom kind one two count i ≡ rowFrom (getD kind i 0) (getD one i 0) (getD two i 0) ∷ rowsFrom kind one two count (i + 1)
-unfolding rowsAt
-rows-next kind one two count i h =
+pub rows_next : (kind one two : List ℕ) (count i : ℕ) → i < count
+    → rows_from kind one two count i ≡ row_from (get_or kind i 0) (get_or one i 0) (get_or two i 0) ∷ rows_from kind one two count (i + 1)
+unfolding rows_at
+rows_next kind one two count i h =
     let e : count - i ≡ suc (count - (i + 1)) = omega arith in
     rw (e, add-one i)
 
-pub rows-end : (kind one two : List ℕ) (count i : ℕ) → count ≤ i → rowsFrom kind one two count i ≡ []
-unfolding rowsAt
-rows-end kind one two count i h = let e : count - i ≡ 0 = omega arith in rw e
+pub rows_end : (kind one two : List ℕ) (count i : ℕ) → count ≤ i → rows_from kind one two count i ≡ []
+unfolding rows_at
+rows_end kind one two count i h = let e : count - i ≡ 0 = omega arith in rw e
 
 -- what the test of a row says
 module _ (kind : List ℕ) (count i : ℕ) where
-  pub in-rows : (r : Bool) → r ≡ inBlock kind count i → r ≡ true → i < count
-  unfolding inBlock
-  in-rows r e t = ltb-true i count (and-left (ltb i count) (eqb (getD kind i 0) 77 || eqb (getD kind i 0) 80) (sym e ∙ t))
+  pub in_rows : (r : Bool) → r ≡ in_block kind count i → r ≡ true → i < count
+  unfolding in_block
+  in_rows r e t = ltb-true i count (and_left (ltb i count) (eqb (get_or kind i 0) 77 || eqb (get_or kind i 0) 80) (sym e ∙ t))
 
-  pub in-either : inBlock kind count i ≡ true → (getD kind i 0 ≡ 77) ⊎ (getD kind i 0 ≡ 80)
-  unfolding inBlock
-  in-either t =
-      ⊎-elim (λ m. inl (eqb-true (getD kind i 0) 77 m)) (λ p. inr (eqb-true (getD kind i 0) 80 p))
-      (or-cases (eqb (getD kind i 0) 77) (eqb (getD kind i 0) 80) (and-right (ltb i count) (eqb (getD kind i 0) 77 || eqb (getD kind i 0) 80) t))
+  pub in_either : in_block kind count i ≡ true → (get_or kind i 0 ≡ 77) ⊎ (get_or kind i 0 ≡ 80)
+  unfolding in_block
+  in_either t =
+      ⊎_elim (λ m. inl (eqb-true (get_or kind i 0) 77 m)) (λ p. inr (eqb-true (get_or kind i 0) 80 p))
+      (or_cases (eqb (get_or kind i 0) 77) (eqb (get_or kind i 0) 80) (and_right (ltb i count) (eqb (get_or kind i 0) 77 || eqb (get_or kind i 0) 80) t))
 
-  in-message : (r : Bool) → r ≡ inBlock kind count i → r ≡ true → (getD kind i 0 ≡ 80 → ⊥) → getD kind i 0 ≡ 77
-  in-message r e t n = ⊎-elim (λ m. m) (λ p. absurd (n p)) (in-either (sym e ∙ t))
+  in_message : (r : Bool) → r ≡ in_block kind count i → r ≡ true → (get_or kind i 0 ≡ 80 → ⊥) → get_or kind i 0 ≡ 77
+  in_message r e t n = ⊎_elim (λ m. m) (λ p. absurd (n p)) (in_either (sym e ∙ t))
 
-  pub not-in : (r : Bool) → r ≡ inBlock kind count i → r ≡ false → i < count → (getD kind i 0 ≡ 77 → ⊥) × (getD kind i 0 ≡ 80 → ⊥)
-  unfolding inBlock
-  not-in r e t h =
-      let f : (eqb (getD kind i 0) 77 || eqb (getD kind i 0) 80) ≡ false = rw (lt-ltb i count h) at (sym e ∙ t) in (
-        λ m. true≢false (sym (or-left (eqb (getD kind i 0) 77) (eqb (getD kind i 0) 80) (eq-eqb (getD kind i 0) 77 m)) ∙ f),
-        λ p. true≢false (sym (or-right (eqb (getD kind i 0) 77) (eqb (getD kind i 0) 80) (eq-eqb (getD kind i 0) 80 p)) ∙ f),
+  pub not_in : (r : Bool) → r ≡ in_block kind count i → r ≡ false → i < count → (get_or kind i 0 ≡ 77 → ⊥) × (get_or kind i 0 ≡ 80 → ⊥)
+  unfolding in_block
+  not_in r e t h =
+      let f : (eqb (get_or kind i 0) 77 || eqb (get_or kind i 0) 80) ≡ false = rw (lt-ltb i count h) at (sym e ∙ t) in (
+        λ m. true≢false (sym (or_left (eqb (get_or kind i 0) 77) (eqb (get_or kind i 0) 80) (eq-eqb (get_or kind i 0) 77 m)) ∙ f),
+        λ p. true≢false (sym (or_right (eqb (get_or kind i 0) 77) (eqb (get_or kind i 0) 80) (eq-eqb (get_or kind i 0) 80 p)) ∙ f),
       )
 
-  pub at-message : i < count → getD kind i 0 ≡ 77 → eqb (getD kind i 0) 77 ≡ inBlock kind count i
-  unfolding inBlock
-  at-message h e = rw (lt-ltb i count h, eq-eqb (getD kind i 0) 77 e)
+  pub at_message : i < count → get_or kind i 0 ≡ 77 → eqb (get_or kind i 0) 77 ≡ in_block kind count i
+  unfolding in_block
+  at_message h e = rw (lt-ltb i count h, eq-eqb (get_or kind i 0) 77 e)
 
-  pub at-order : (r : Bool) → i < count → (getD kind i 0 ≡ 77 → ⊥) → r ≡ eqb (getD kind i 0) 80 → r ≡ inBlock kind count i
-  unfolding inBlock
-  at-order r h n e = rw (lt-ltb i count h, ne-eqb (getD kind i 0) 77 n) e
+  pub at_order : (r : Bool) → i < count → (get_or kind i 0 ≡ 77 → ⊥) → r ≡ eqb (get_or kind i 0) 80 → r ≡ in_block kind count i
+  unfolding in_block
+  at_order r h n e = rw (lt-ltb i count h, ne_eqb (get_or kind i 0) 77 n) e
 
-  pub at-end : count ≤ i → ltb i count ≡ inBlock kind count i
-  unfolding inBlock
-  at-end h = rw (le-ltb i count h)
+  pub at_end : count ≤ i → ltb i count ≡ in_block kind count i
+  unfolding in_block
+  at_end h = rw (le-ltb i count h)
 
 -- where a message takes its place there are as many boards, and boards stay boards
-boards-with-length : (events : List ℕ) (m a b : ℕ) → length (boardsWith events m a b) ≡ length events
-unfolding boardsWith
-boards-with-length events m a b = simp length-set
+boards_with_length : (events : List ℕ) (m a b : ℕ) → length (boards_with events m a b) ≡ length events
+unfolding boards_with
+boards_with_length events m a b = simp length-set
 
-set-below : (n : ℕ) (l : List ℕ) (i v : ℕ) → ((j : ℕ) → getD l j 0 < n) → v < n → (k : ℕ) → getD (set l i v) k 0 < n
-set-below n [] i v h p k = h k
-set-below n (x ∷ l) zero v h p zero = p
-set-below n (x ∷ l) zero v h p (suc k) = h (suc k)
-set-below n (x ∷ l) (suc i) v h p zero = h zero
-set-below n (x ∷ l) (suc i) v h p (suc k) = set-below n l i v (λ j. h (suc j)) p k
+set_below : (n : ℕ) (l : List ℕ) (i v : ℕ) → ((j : ℕ) → get_or l j 0 < n) → v < n → (k : ℕ) → get_or (set l i v) k 0 < n
+set_below n [] i v h p k = h k
+set_below n (x ∷ l) zero v h p zero = p
+set_below n (x ∷ l) zero v h p (suc k) = h (suc k)
+set_below n (x ∷ l) (suc i) v h p zero = h zero
+set_below n (x ∷ l) (suc i) v h p (suc k) = set_below n l i v (λ j. h (suc j)) p k
 
-boards-with-below : (events : List ℕ) (m a b : ℕ) → ((i : ℕ) → getD events i 0 < boards) → a < boards → b < boards
-    → (k : ℕ) → getD (boardsWith events m a b) k 0 < boards
-unfolding boardsWith
-boards-with-below events m a b h p q = set-below boards (set events (2 * m) a) (2 * m + 1) b (set-below boards events (2 * m) a h p) q
+boards_with_below : (events : List ℕ) (m a b : ℕ) → ((i : ℕ) → get_or events i 0 < boards) → a < boards → b < boards
+    → (k : ℕ) → get_or (boards_with events m a b) k 0 < boards
+unfolding boards_with
+boards_with_below events m a b h p q = set_below boards (set events (2 * m) a) (2 * m + 1) b (set_below boards events (2 * m) a h p) q
 
 -- what a row at the head comes to
 module _ (rs : List Row) (i : ℕ) (s : Progress Store) where
-  abbrev metOr : ℕ → ℕ → Bool → Out (ℕ × Progress Store)
-  metOr a b t = elim t [ true ↦ blockWalked rs (i + 1) (messageMet storeOps a b s) | false ↦ refusal messagesRefusal (lineOf i) ]
+  abbrev met_or : ℕ → ℕ → Bool → Out (ℕ × Progress Store)
+  met_or a b t = elim t [ true ↦ block_walked rs (i + 1) (message_met store_ops a b s) | false ↦ refusal messages_refusal (line_of i) ]
 
-  message-refused : (a b : ℕ) → messagesMost ≤ s .walk .count → blockWalked (message a b ∷ rs) i s ≡ refusal messagesRefusal (lineOf i)
-  unfolding blockWalked
-  message-refused a b h = ap (metOr a b) (le-ltb (s .walk .count) messagesMost h)
+  message_refused : (a b : ℕ) → messages_most ≤ s.walk.count → block_walked (message a b ∷ rs) i s ≡ refusal messages_refusal (line_of i)
+  unfolding block_walked
+  message_refused a b h = ap (met_or a b) (le-ltb s.walk.count messages_most h)
 
-  message-met : (a b : ℕ) → s .walk .count < messagesMost → blockWalked (message a b ∷ rs) i s ≡ blockWalked rs (i + 1) (messageMet storeOps a b s)
-  unfolding blockWalked
-  message-met a b h = ap (metOr a b) (lt-ltb (s .walk .count) messagesMost h)
+  message_met_holds : (a b : ℕ) → s.walk.count < messages_most → block_walked (message a b ∷ rs) i s ≡ block_walked rs (i + 1) (message_met store_ops a b s)
+  unfolding block_walked
+  message_met_holds a b h = ap (met_or a b) (lt-ltb s.walk.count messages_most h)
 
-  other-ends : (letter one two : ℕ) → (eqb letter 77 || eqb letter 80) ≡ false → blockWalked (rowFrom letter one two ∷ rs) i s ≡ ok (i, blockOpened storeOps s)
-  unfolding blockWalked rowFrom
-  other-ends letter one two n = go (eqb letter 83) (eqb letter 77) (eqb letter 80) (eqb letter 67) (eqb letter 65) n
+  other_ends : (letter one two : ℕ) → (eqb letter 77 || eqb letter 80) ≡ false → block_walked (row_from letter one two ∷ rs) i s ≡ ok (i, block_opened store_ops s)
+  unfolding block_walked row_from
+  other_ends letter one two n = go (eqb letter 83) (eqb letter 77) (eqb letter 80) (eqb letter 67) (eqb letter 65) n
     where
       go : (b m p d c : Bool) → (m || p) ≡ false
-          → blockWalked (cond b (sheet one) (cond m (message one two) (cond p (order one two) (cond d (call one) (cond c (choice one two) block)))) ∷ rs) i s ≡ ok (i, blockOpened storeOps s)
+          → block_walked (cond b (sheet one) (cond m (message one two) (cond p (order one two) (cond d (call one) (cond c (choice one two) block)))) ∷ rs) i s ≡ ok (i, block_opened store_ops s)
       go true m p d c n = refl
       go false true p d c n = absurd (true≢false n)
       go false false true d c n = absurd (true≢false n)
@@ -129,139 +129,139 @@ module _ (rs : List Row) (i : ℕ) (s : Progress Store) where
 
 module _ (kind one two : List ℕ) (count row : ℕ) (w₀ : Walk) (t₀ : Store) where
   abbrev whole : Out (ℕ × Progress Store)
-  whole = blockWalked (rowsFrom kind one two count row) row (stateOf w₀ t₀)
+  whole = block_walked (rows_from kind one two count row) row (state_of w₀ t₀)
 
   -- the walk with so many messages met
-  abbrev at-met : ℕ → Walk
-  at-met met = record { calls = w₀ .calls; choices = w₀ .choices; first = w₀ .first; count = met }
+  abbrev at_met : ℕ → Walk
+  at_met met = record { calls = w₀.calls; choices = w₀.choices; first = w₀.first; count = met }
 
   -- the rows from row i on, met from here, give what the rows from the first on give
   pub record Meeting (i met : ℕ) (t : Store) : Type 0 where
-    pub exact : blockWalked (rowsFrom kind one two count i) i (stateOf (at-met met) t) ≡ whole
-    pub ready : Ready kind one two count i (w₀ .first) met t
+    pub exact : block_walked (rows_from kind one two count i) i (state_of (at_met met) t) ≡ whole
+    pub ready : Ready kind one two count i w₀.first met t
 
-  pub meeting-start : Ready kind one two count row (w₀ .first) (w₀ .count) t₀ → Meeting row (w₀ .count) t₀
-  meeting-start r = record { exact = refl; ready = r }
+  pub meeting_start : Ready kind one two count row w₀.first w₀.count t₀ → Meeting row w₀.count t₀
+  meeting_start r = record { exact = refl; ready = r }
 
-  module _ (i met : ℕ) (events words past : List ℕ) (j : Meeting i met (storeOf events words past)) where
+  module _ (i met : ℕ) (events words past : List ℕ) (j : Meeting i met (store_of events words past)) where
     abbrev s : Progress Store
-    s = stateOf (at-met met) (storeOf events words past)
+    s = state_of (at_met met) (store_of events words past)
 
-    module _ (r : Bool) (test : r ≡ inBlock kind count i) (more : r ≡ true) where
+    module _ (r : Bool) (test : r ≡ in_block kind count i) (more : r ≡ true) where
       h : i < count
-      h = in-rows kind count i r test more
+      h = in_rows kind count i r test more
 
       abbrev a : ℕ
-      a = getD one i 0
+      a = get_or one i 0
 
       abbrev b : ℕ
-      b = getD two i 0
+      b = get_or two i 0
 
       abbrev rest : List Row
-      rest = rowsFrom kind one two count (i + 1)
+      rest = rows_from kind one two count (i + 1)
 
       -- the row at hand, and those behind it
-      head : blockWalked (rowFrom (getD kind i 0) a b ∷ rest) i s ≡ whole
-      head = rw (rows-next kind one two count i h) at (j .exact)
+      head : block_walked (row_from (get_or kind i 0) a b ∷ rest) i s ≡ whole
+      head = rw (rows_next kind one two count i h) at j.exact
 
-      stands : AllStand (2 * (met - w₀ .first)) (rowFrom (getD kind i 0) a b ∷ rest)
-      stands = subst (AllStand (2 * (met - w₀ .first))) (rows-next kind one two count i h) (j .ready .stand)
+      stands : AllStand (2 * (met - w₀.first)) (row_from (get_or kind i 0) a b ∷ rest)
+      stands = subst (AllStand (2 * (met - w₀.first))) (rows_next kind one two count i h) j.ready.stand
 
-      module _ (n : getD kind i 0 ≡ 80 → ⊥) where
-        e : getD kind i 0 ≡ 77
-        e = in-message kind count i r test more n
+      module _ (n : get_or kind i 0 ≡ 80 → ⊥) where
+        e : get_or kind i 0 ≡ 77
+        e = in_message kind count i r test more n
 
-        message-head : blockWalked (message a b ∷ rest) i s ≡ whole
-        message-head = rw (row-is-message (getD kind i 0) a b e) at head
+        message_head : block_walked (message a b ∷ rest) i s ≡ whole
+        message_head = rw (row-is-message (get_or kind i 0) a b e) at head
 
-        message-stands : AllStand (2 * (met - w₀ .first)) (message a b ∷ rest)
-        message-stands = rw (row-is-message (getD kind i 0) a b e) at stands
+        message_stands : AllStand (2 * (met - w₀.first)) (message a b ∷ rest)
+        message_stands = rw (row-is-message (get_or kind i 0) a b e) at stands
 
-        pub message-boards : (a < boards) × (b < boards)
-        message-boards = message-stands .0
+        pub message_boards : (a < boards) × (b < boards)
+        message_boards = message_stands.0
 
-        pub meeting-refused : (t′ : Store) → messagesMost ≤ met → Leaves (Stopped messagesRefusal (lineOf i)) t′ whole
-        meeting-refused t′ m = record { exact = sym (message-refused rest i s a b m) ∙ message-head; room = tt }
+        pub meeting_refused : (t' : Store) → messages_most ≤ met → Leaves (Stopped messages_refusal (line_of i)) t' whole
+        meeting_refused t' m = record { exact = sym (message_refused rest i s a b m) ∙ message_head; room = tt }
 
-        pub meeting-message : (events′ words′ : List ℕ) → (events′ ≡ boardsWith events met a b) × (words′ ≡ added width words past met a b) → met < messagesMost
-            → Meeting (i + 1) (met + 1) (storeOf events′ words′ past)
-        unfolding messageMet storeOps
-        meeting-message events′ words′ f m =
-            let room = j .ready .room in
-            let more : 2 * (met - w₀ .first) + 2 ≡ 2 * (met + 1 - w₀ .first) = omega (arith, room .firstMost) in
+        pub meeting_message : (events' words' : List ℕ) → (events' ≡ boards_with events met a b) × (words' ≡ added width words past met a b) → met < messages_most
+            → Meeting (i + 1) (met + 1) (store_of events' words' past)
+        unfolding message_met store_ops
+        meeting_message events' words' f m =
+            let room = j.ready.room in
+            let more : 2 * (met - w₀.first) + 2 ≡ 2 * (met + 1 - w₀.first) = omega (arith, room.first_most) in
             record {
-              exact = rw (f .0, f .1, add-one met) (sym (message-met rest i s a b m) ∙ message-head);
+              exact = rw (f.0, f.1, add-one met) (sym (message_met_holds rest i s a b m) ∙ message_head);
               ready = record {
                 room = record {
-                  eventsLong = ap length (f .0) ∙ boards-with-length events met a b ∙ room .eventsLong;
-                  wordsLong = ap length (f .1) ∙ length-added width words past met a b ∙ room .wordsLong;
-                  pastLong = room .pastLong;
-                  firstMost = omega (arith, room .firstMost);
-                  countMost = omega arith;
-                  boardsMost = λ k. rw (f .0) (boards-with-below events met a b (room .boardsMost) (message-boards .0) (message-boards .1) k);
+                  events_long = ap length f.0 ∙ boards_with_length events met a b ∙ room.events_long;
+                  words_long = ap length f.1 ∙ length_added width words past met a b ∙ room.words_long;
+                  past_long = room.past_long;
+                  first_most = omega (arith, room.first_most);
+                  count_most = omega arith;
+                  boards_most = λ k. rw f.0 (boards_with_below events met a b room.boards_most message_boards.0 message_boards.1 k);
                 };
-                stand = subst (λ (n : ℕ). AllStand n rest) more (message-stands .1);
+                stand = subst (λ (n : ℕ). AllStand n rest) more message_stands.1;
               };
             }
 
-      module _ (e : getD kind i 0 ≡ 80) where
-        order-head : blockWalked (order a b ∷ rest) i s ≡ whole
-        order-head = rw (row-is-order (getD kind i 0) a b e) at head
+      module _ (e : get_or kind i 0 ≡ 80) where
+        order_head : block_walked (order a b ∷ rest) i s ≡ whole
+        order_head = rw (row-is-order (get_or kind i 0) a b e) at head
 
-        order-stands : AllStand (2 * (met - w₀ .first)) (order a b ∷ rest)
-        order-stands = rw (row-is-order (getD kind i 0) a b e) at stands
+        order_stands : AllStand (2 * (met - w₀.first)) (order a b ∷ rest)
+        order_stands = rw (row-is-order (get_or kind i 0) a b e) at stands
 
-        pub order-events : (2 * w₀ .first + a < 2 * met) × (2 * w₀ .first + b < 2 * met)
-        order-events = let p = order-stands .0 in (omega (arith, p .0, j .ready .room .firstMost), omega (arith, p .1, j .ready .room .firstMost))
+        pub order_events : (2 * w₀.first + a < 2 * met) × (2 * w₀.first + b < 2 * met)
+        order_events = let p = order_stands.0 in (omega (arith, p.0, j.ready.room.first_most), omega (arith, p.1, j.ready.room.first_most))
 
-        pub meeting-order : (words′ : List ℕ) → words′ ≡ inserted width words (2 * w₀ .first + a) (2 * w₀ .first + b) (2 * w₀ .first) (2 * met)
-            → Meeting (i + 1) met (storeOf events words′ past)
-        unfolding blockWalked orderMet storeOps
-        meeting-order words′ f =
-            let room = j .ready .room in
+        pub meeting_order : (words' : List ℕ) → words' ≡ inserted width words (2 * w₀.first + a) (2 * w₀.first + b) (2 * w₀.first) (2 * met)
+            → Meeting (i + 1) met (store_of events words' past)
+        unfolding block_walked order_met store_ops
+        meeting_order words' f =
+            let room = j.ready.room in
             record {
-              exact = rw f order-head;
+              exact = rw f order_head;
               ready = record {
                 room = record {
-                  eventsLong = room .eventsLong;
-                  wordsLong =
-                      ap length f ∙ length-inserted width words (2 * w₀ .first + a) (2 * w₀ .first + b) (2 * w₀ .first) (2 * met) ∙ room .wordsLong;
-                  pastLong = room .pastLong;
-                  firstMost = room .firstMost;
-                  countMost = room .countMost;
-                  boardsMost = room .boardsMost;
+                  events_long = room.events_long;
+                  words_long =
+                      ap length f ∙ length_inserted width words (2 * w₀.first + a) (2 * w₀.first + b) (2 * w₀.first) (2 * met) ∙ room.words_long;
+                  past_long = room.past_long;
+                  first_most = room.first_most;
+                  count_most = room.count_most;
+                  boards_most = room.boards_most;
                 };
-                stand = order-stands .1;
+                stand = order_stands.1;
               };
             }
 
     -- behind the last of them the block is closed, and the next begins where it ended
-    module _ (r : Bool) (test : r ≡ inBlock kind count i) (over : r ≡ false) where
-      ends : blockWalked (rowsFrom kind one two count i) i s ≡ ok (i, blockOpened storeOps s)
-      unfolding blockWalked inBlock
-      ends = go (decLt i count)
+    module _ (r : Bool) (test : r ≡ in_block kind count i) (over : r ≡ false) where
+      ends : block_walked (rows_from kind one two count i) i s ≡ ok (i, block_opened store_ops s)
+      unfolding block_walked in_block
+      ends = go (dec_lt i count)
         where
-          go : Dec (i < count) → blockWalked (rowsFrom kind one two count i) i s ≡ ok (i, blockOpened storeOps s)
+          go : Dec (i < count) → block_walked (rows_from kind one two count i) i s ≡ ok (i, block_opened store_ops s)
           go (yes h) =
-              rw (rows-next kind one two count i h)
-              (other-ends (rowsFrom kind one two count (i + 1)) i s (getD kind i 0) (getD one i 0) (getD two i 0) (rw (lt-ltb i count h) at (sym test ∙ over)))
-          go (no n) = rw (rows-end kind one two count i (omega arith))
+              rw (rows_next kind one two count i h)
+              (other_ends (rows_from kind one two count (i + 1)) i s (get_or kind i 0) (get_or one i 0) (get_or two i 0) (rw (lt-ltb i count h) at (sym test ∙ over)))
+          go (no n) = rw (rows_end kind one two count i (omega arith))
 
-      pub meeting-end : (past′ : List ℕ) (next : Walk) → past′ ≡ passed width past events words (2 * w₀ .first) (2 * met)
-          → next ≡ opened (w₀ .calls) (w₀ .choices) met
-          → Leaves (To i next) (storeOf events words past′) whole
-      unfolding blockOpened storeOps
-      meeting-end past′ next f e =
-          let room = j .ready .room in
+      pub meeting_end : (past' : List ℕ) (next : Walk) → past' ≡ passed width past events words (2 * w₀.first) (2 * met)
+          → next ≡ opened w₀.calls w₀.choices met
+          → Leaves (To i next) (store_of events words past') whole
+      unfolding block_opened store_ops
+      meeting_end past' next f e =
+          let room = j.ready.room in
           rw e
           (record {
-            exact = rw f (sym ends ∙ j .exact);
+            exact = rw f (sym ends ∙ j.exact);
             room = record {
-              eventsLong = room .eventsLong;
-              wordsLong = room .wordsLong;
-              pastLong = ap length f ∙ length-passed width past events words (2 * w₀ .first) (2 * met) ∙ room .pastLong;
-              firstMost = omega arith;
-              countMost = room .countMost;
-              boardsMost = room .boardsMost;
+              events_long = room.events_long;
+              words_long = room.words_long;
+              past_long = ap length f ∙ length_passed width past events words (2 * w₀.first) (2 * met) ∙ room.past_long;
+              first_most = omega arith;
+              count_most = room.count_most;
+              boards_most = room.boards_most;
             };
           })

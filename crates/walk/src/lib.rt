@@ -1,11 +1,12 @@
 // The rows of one block, as a walk comes to them. Refusal 10.
-ghost use mathlib.Core.Path.{_≡_};
-ghost use Prim.Native.Nat.{_≤_};
-ghost use lib.ListN.{length};
-ghost use Rattle·blocks.specs.Store.{storeOf};
-ghost use Rattle·walk·specs.specs.Block.{fresh, opened, stateOf, rowsFrom, inBlock, RowsFew, Ready, Leaves, blockWalked};
+#![tactic(auto)]
+
+ghost use Rattle.std.specs.Prelude.{◌≡◌, ◌≤◌, length};
+ghost use Rattle.blocks.specs.Store.{store_of};
+ghost use Rattle.walk.specs.Block.{fresh, opened, state_of, rows_from, in_block, RowsFew, Ready, Leaves, block_walked};
 
 // How far a walk is: calls made, A rows met, the number of the open block's first message, and messages met.
+#[derive(Clone, Copy)]
 pub struct Walk {
     pub calls: usize,
     pub choices: usize,
@@ -22,7 +23,7 @@ impl Walk {
 
     // Nothing is met yet.
     pub fn fresh() -> Walk
-        ensures { λ r. ⌜ r ≡ fresh ⌝ }
+        ensures { result ≡ fresh }
     {
         Walk {
             calls: 0,
@@ -34,7 +35,7 @@ impl Walk {
 
     // A block is open, and none of its messages is met yet.
     pub fn opened(calls: usize, choices: usize, met: usize) -> Walk
-        ensures { λ r. ⌜ r ≡ opened calls choices met ⌝ }
+        ensures { result ≡ opened calls choices met }
     {
         Walk {
             calls,
@@ -46,6 +47,7 @@ impl Walk {
 }
 
 // Where the rows of a block end: the row behind them and the walk there, or the refusal's number and line.
+#[derive(Clone, Copy)]
 pub enum Walked {
     To(usize, Walk),
     Stopped(u8, usize),
@@ -53,8 +55,8 @@ pub enum Walked {
 
 // A row of a block, M or P.
 pub fn in_block(kind: &[u8], rows: usize, row: usize) -> bool
-    requires { ⌜ rows ≤ length (now kind) ⌝ }
-    ensures { λ r. ⌜ r ≡ inBlock (now (kind .entry)) rows row ⌝ }
+    requires { rows ≤ length kind.now }
+    ensures { result ≡ in_block kind.now rows row }
 {
     row < rows && (kind[row] == b'M' || kind[row] == b'P')
 }
@@ -71,9 +73,9 @@ pub fn walk_block(
     row: usize,
     walk: Walk,
 ) -> Walked
-    requires { ⌜ RowsFew (now kind) (now one) (now two) rows ⌝ }
-    requires { ⌜ Ready (now kind) (now one) (now two) rows row (walk .first) (walk .count) (storeOf (now boards) (now words) (now past)) ⌝ }
-    ensures { λ r. ⌜ Leaves r (storeOf (now (boards .exit)) (now (words .exit)) (now (past .exit))) (blockWalked (rowsFrom (now (kind .entry)) (now (one .entry)) (now (two .entry)) rows row) row (stateOf walk (storeOf (now (boards .entry)) (now (words .entry)) (now (past .entry))))) ⌝ }
+    requires rows_few { RowsFew kind.now one.now two.now rows }
+    requires ready { Ready kind.now one.now two.now rows row walk.first walk.count (store_of boards.old words.old past.old) }
+    ensures { Leaves result (store_of boards.new words.new past.new) (block_walked (rows_from kind.now one.now two.now rows row) row (state_of walk (store_of boards.old words.old past.old))) }
 {
     let first = walk.first;
     let mut at = row;

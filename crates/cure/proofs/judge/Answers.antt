@@ -1,0 +1,17 @@
+-- `cure::judge` meets its contract. Assumes nothing.
+use Rattle.scenario.proofs.Laws.{sheet_fits, boards_long_holds}
+use Rattle.cure.proofs.Parts.{scenario_refused, scenario_decided}
+use borrow.Author.Rules.{rules}
+use Rattle.cure.proofs.judge.Goals as goal
+
+pub slice_bounds-decide-end : goal.slice_bounds-decide-end
+slice_bounds-decide-end c = search boards_long_holds
+
+pub decide-requires : goal.decide-requires
+decide-requires c = record { fit = search sheet_fits; sheet_output_least_in_bounds = search rules }
+
+pub returns-in-Refused : goal.returns-in-Refused
+returns-in-Refused c = search scenario_refused
+
+pub returns-in-Messages : goal.returns-in-Messages
+returns-in-Messages c = search scenario_decided

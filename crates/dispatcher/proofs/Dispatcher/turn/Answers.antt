@@ -1,0 +1,8 @@
+-- `Dispatcher::turn` meets its contract. Assumes nothing.
+use Rattle.dispatcher.proofs.Room.{races_room, boards_room}
+use Rattle.dispatcher.proofs.Replies.{turn_as, whole}
+use Rattle.dispatcher.proofs.Dispatcher.turn.Goals as goal
+
+pub returns : goal.returns
+returns c = let d = c.args.self in
+    (turn_as d _ _ _ (races_room d _ c.well_formed.0) (boards_room d _ c.well_formed.0) c.first_place-place.ensures.below _ _ _ _ c.serve-turn.result c.serve-turn.ensures, whole)

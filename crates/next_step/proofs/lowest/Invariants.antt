@@ -1,0 +1,10 @@
+-- `next_step::lowest` meets its contract. Assumes nothing.
+use Prim.Native.Nat.{◌-◌}
+use Rattle.next_step.proofs.Searching.{Passed}
+use Rattle.next_step.proofs.lowest.Given as goal
+
+abbrev pub invariant-loop-m : goal.invariant-loop-m
+invariant-loop-m l = Passed l.count l.boards l.words l.c l.done l.way l.rows l.e l.class l.m
+
+abbrev pub decreases-loop-m : goal.decreases-loop-m
+decreases-loop-m l = l.count - l.m

@@ -1,0 +1,22 @@
+-- `race::bits_on` meets its contract. Assumes nothing.
+use Rattle.race.proofs.Boards.{lowest_below, above_most, none_left, some_left}
+use borrow.Author.Rules.{rules}
+use Rattle.race.proofs.bits_on.Goals as goal
+
+pub returns-then-left-eq0 : goal.returns-then-left-eq0
+returns-then-left-eq0 c = search none_left
+
+pub overflow_add-from : goal.overflow_add-from
+overflow_add-from c = let low = lowest_below _ _ (search rules) c.if-left-eq0.false c.wide-lowest.ensures in
+    search rules
+
+pub overflow_sub-to : goal.overflow_sub-to
+overflow_sub-to c = let most = above_most _ _ c.wide-above.ensures in
+    search rules
+
+pub overflow_shl-result : goal.overflow_shl-result
+overflow_shl-result c = let low = lowest_below _ _ (search rules) c.if-left-eq0.false c.wide-lowest.ensures in
+    search rules
+
+pub returns : goal.returns
+returns c = search some_left

@@ -1,0 +1,10 @@
+-- `verdict::decide` meets its contract. Assumes nothing.
+use borrow.Author.Rules.{rules}
+use Rattle.verdict.proofs.Parts.{named, unnamed}
+use Rattle.verdict.proofs.decide.Goals as goal
+
+pub lock-requires : goal.lock-requires
+lock-requires c = record { fit = search rules; code_lt_channels = search rules; race = search named }
+
+pub returns-in-Nothing : goal.returns-in-Nothing
+returns-in-Nothing c = search unnamed

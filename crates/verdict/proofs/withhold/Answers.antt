@@ -1,0 +1,24 @@
+-- `verdict::withhold` meets its contract. Assumes nothing.
+use borrow.Author.Rules.{rules}
+use Rattle.verdict.proofs.Parts.{on_channel}
+use Rattle.verdict.proofs.withhold.Goals as goal
+
+pub board_masks-requires : goal.board_masks-requires
+board_masks-requires c = record { count_le_messages_most = search rules; count_in_bounds = search rules; width_in_bounds = search rules; boards_below = c.requires.fit.boards_below }
+
+pub schedule-requires : goal.schedule-requires
+schedule-requires c = record {
+  standing = record {
+    few = search rules;
+    boards_long = search rules;
+    words_long = search rules;
+    masks_long = search rules;
+    boards_below = c.requires.fit.boards_below;
+    masks_of = c.board_masks.ensures;
+  };
+  e_lt_count = search rules;
+  count_in_bounds = search rules;
+}
+
+pub returns : goal.returns
+returns c = search on_channel

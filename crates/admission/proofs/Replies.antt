@@ -16,14 +16,17 @@ use Rattle.model.specs.Dispatcher as model
 use Rattle.model.specs.Dispatcher.{Lent, length_at, code_at, sheet_at, place_words, is_free, free_place, admissible, admit, refused, admitted_word, refused_word, touches_nothing, leaves_all, Served}
 use Rattle.model.proofs.Bounded.{not_both, lowest_none}
 use Rattle.model.proofs.Lines.{Well, sheet_well}
-use Rattle.expansion.specs.declared.Expanded.{Expanded}
-use Rattle.expansion.specs.declared.Expanded.TheVariants as expanded
+use Rattle.outcome.specs.declared.Refusal.{Refusal}
+use Rattle.outcome.specs.declared.Reason.{Reason}
+use Rattle.outcome.specs.declared.Reason.TheVariants as reason
+use Rattle.outcome.specs.Refusals.{number_in}
 use Rattle.scenario.proofs.Laws.{sheet_refused, sheet_is, sheet_fits}
 use Rattle.queue.specs.declared.Queue.{Queue}
 use Rattle.queue.specs.Bridge.{queue_in, PlacesOf, is_free_in, free_place_in}
-use Rattle.taken_places.specs.declared.Place.{Place}
-use Rattle.taken_places.specs.declared.Place.TheVariants as places
-use Rattle.taken_places.specs.Places.{place_in, SparePlace}
+use Rattle.std.specs.Prelude as std
+use Rattle.std.specs.Prelude.{Some, None, Result, Ok, Err}
+use Rattle.outcome.specs.Options.{found_in}
+use Rattle.taken_places.specs.Places.{SparePlace}
 use Rattle.places.specs.Words.{FreeCleared, ClearedBut}
 use Rattle.share.specs.declared.Race.{Race}
 use Rattle.lent_sheet.specs.Sheet.{sheet_in, ReadsSheet}
@@ -33,7 +36,7 @@ use Rattle.held_jobs.proofs.Cases.{admit_refused, full_short, full_held, code_un
 use Rattle.held_jobs.proofs.Serving.{untouched, cleared_by, cleared}
 use Rattle.admission.specs.declared.Part.{Part}
 use Rattle.admission.specs.declared.Entry.{Entry}
-use Rattle.admission.specs.Admission.{PartIs, refused_by, entered_by, Admits, AdmitIn, HoldsNew, ReadsIn, FullOf}
+use Rattle.admission.specs.Admission.{PartIs, entered_by, Admits, AdmitIn, HoldsNew, ReadsIn}
 use Rattle.admission.proofs.Admission.{not_place, unsought, admitted_serves}
 
 -- ---- of one dispatcher
@@ -102,35 +105,35 @@ module _ (d : Held) (place : ℕ) (free : free_place_in (queue_in d.queue) ≡ s
             (cleared d (admit l) (refused length_refusal 0) exit r (admit_refused (dispatcher_of d) l length_refusal 0 (sheet_long (dispatcher_of d) l place free_there at_code w g (rw (sym i) h))) refl (lt-leb length_refusal bench_refusal (omega arith)) e F)
 
   -- the sheet was read: refused, or accepted
-  module _ (sheets : List ℕ) (size code : ℕ) (words boards written : List ℕ) (v : Expanded) (R : ReadsSheet sheets size place words boards written v) where
-    admit_read_refused : (number line : ℕ) (exit : List ℕ) (r : Served Held) → v ≡ expanded.Refused number line → code < channels → job_words_least ≤ length words
-        → d.given < job_numbers → size ≤ text_most → FreeCleared (queue_in d.queue) written exit → r ≡ told_with refused_word number line d
+  module _ (sheets : List ℕ) (size code : ℕ) (words boards written : List ℕ) (v : Result ℕ Refusal) (R : ReadsSheet sheets size place words boards written v) where
+    admit_read_refused : (f : Refusal) (exit : List ℕ) (r : Served Held) → v ≡ Err f → code < channels → job_words_least ≤ length words
+        → d.given < job_numbers → size ≤ text_most → FreeCleared (queue_in d.queue) written exit → r ≡ told_with refused_word (number_in f.reason) f.line d
         → (lengths codes : List ℕ) → size ≡ get_or lengths place 0 → code ≡ get_or codes place channels → Admits d sheets lengths codes words exit r
     unfolding touches_nothing leaves_all length_at code_at sheet_at
-    admit_read_refused number line exit r i known w g few F e lengths codes is_size is_code =
+    admit_read_refused f exit r i known w g few F e lengths codes is_size is_code =
         let l = lent sheets lengths codes words in
-        let text : sheet_of (sheet_in sheets size place) ≡ refusal number line = sheet_refused (sheet_in sheets size place) boards (place_words place written) v R.sheet number line i in
-        let judged : admissible (dispatcher_of d) l ≡ refusal number line =
+        let text : sheet_of (sheet_in sheets size place) ≡ refusal (number_in f.reason) f.line = sheet_refused (sheet_in sheets size place) boards (place_words place written) v R.sheet f i in
+        let judged : admissible (dispatcher_of d) l ≡ refusal (number_in f.reason) f.line =
         sheet_judged (dispatcher_of d) l place free_there (rw (sym is_code) known) w g (rw (sym is_size) few)
         ∙ ap (λ k. sheet_of (sheet_in sheets k place)) (sym is_size) ∙ text in
-        let late : bench_refusal < number = (subst (λ (o : Out Scenario). Well (line_of rows_most) o) text (sheet_well (sheet_in sheets size place))).behind in
-        cleared_by d (admit l) (refused number line) written exit r (admit_refused (dispatcher_of d) l number line judged) refl (lt-leb number bench_refusal late) e F R.put.kept R.put.rest
+        let late : bench_refusal < number_in f.reason = (subst (λ (o : Out Scenario). Well (line_of rows_most) o) text (sheet_well (sheet_in sheets size place))).behind in
+        cleared_by d (admit l) (refused (number_in f.reason) f.line) written exit r (admit_refused (dispatcher_of d) l (number_in f.reason) f.line judged) refl (lt-leb (number_in f.reason) bench_refusal late) e F R.put.kept R.put.rest
         (λ p h f. R.put.others p h (not_place d place free p f))
 
-pub no_place : (js : List model.Job) (v : Place) → place_in v ≡ free_place_in js → v ≡ places.Nothing → free_place_in js ≡ none
-no_place js v e i = sym e ∙ ap place_in i
+pub no_place : (js : List model.Job) (v : std.Option ℕ) → found_in v ≡ free_place_in js → v ≡ None → free_place_in js ≡ none
+no_place js v e i = sym e ∙ ap (found_in {A = ℕ}) i
 
-pub at_place : (js : List model.Job) (v : Place) (p : ℕ) → place_in v ≡ free_place_in js → v ≡ places.At p → free_place_in js ≡ some p
-at_place js v p e i = sym e ∙ ap place_in i
+pub at_place : (js : List model.Job) (v : std.Option ℕ) (p : ℕ) → found_in v ≡ free_place_in js → v ≡ Some p → free_place_in js ≡ some p
+at_place js v p e i = sym e ∙ ap (found_in {A = ℕ}) i
 
 -- the refusal's line is that of a row; and of a sheet accepted the messages are few
-module _ (sheets : List ℕ) (size place : ℕ) (words boards written : List ℕ) (v : Expanded) (R : ReadsSheet sheets size place words boards written v) where
-  pub line_small : (number line : ℕ) → v ≡ expanded.Refused number line → line < 2 ^ 32
-  line_small number line i =
-      let text : sheet_of (sheet_in sheets size place) ≡ refusal number line = sheet_refused (sheet_in sheets size place) boards (place_words place written) v R.sheet number line i in
+module _ (sheets : List ℕ) (size place : ℕ) (words boards written : List ℕ) (v : Result ℕ Refusal) (R : ReadsSheet sheets size place words boards written v) where
+  pub line_small : (f : Refusal) → v ≡ Err f → f.line < 2 ^ 32
+  line_small f i =
+      let text : sheet_of (sheet_in sheets size place) ≡ refusal (number_in f.reason) f.line = sheet_refused (sheet_in sheets size place) boards (place_words place written) v R.sheet f i in
       omega (arith, (subst (λ (o : Out Scenario). Well (line_of rows_most) o) text (sheet_well (sheet_in sheets size place))).within)
 
-  pub count_few : (count : ℕ) → v ≡ expanded.Messages count → count ≤ messages_most
+  pub count_few : (count : ℕ) → v ≡ Ok count → count ≤ messages_most
   count_few count i = (sheet_fits (sheet_in sheets size place) boards (place_words place written) v R.sheet count i).few
 
   pub written_long : job_words_least ≤ length words → job_words_least ≤ length written
@@ -138,57 +141,49 @@ module _ (sheets : List ℕ) (size place : ℕ) (words boards written : List ℕ
 
 -- ---- an admission, as it is of every dispatcher with the part
 module _ (part : Part) where
-  -- what is put back is what was taken out
-  kept : (d : Held) (place : ℕ) → PartIs d place part → (number line : ℕ) (r : Entry) → r ≡ refused_by number line part
-      → entered_by d place r ≡ told_with refused_word number line d
-  kept d place D number line r e =
-      ap (entered_by d place) e ∙ ap (λ (p : Part). entered_by d place (refused_by number line p)) D.is
-      ∙ ap (λ (l : List Race). told_with refused_word number line (record { queue = d.queue; given = d.given; races = l; boards = set d.boards place (get_or d.boards place (record { on = [] })) })) (set-get_or d.races place _)
-      ∙ ap (λ (l : List Boards). told_with refused_word number line (record { queue = d.queue; given = d.given; races = d.races; boards = l })) (set-get_or d.boards place _)
+  -- a refusal for a reason, without a line
+  told_refused : (d : Held) (place : ℕ) (f : Refusal) (a : Reason) → f ≡ record { reason = a; line = 0 } → entered_by d place (Err f) ≡ told_with refused_word (number_in a) 0 d
+  told_refused d place f a i = ap (λ (q : Refusal). entered_by d place (Err q)) i
 
   -- with no place free
-  module _ (words : List ℕ) (r : Entry) (free : free_place_in (queue_in part.queue) ≡ none) where
-    none_in : (d : Held) (place : ℕ) → PartIs d place part → free_place_in (queue_in d.queue) ≡ none
-    none_in d place D = subst (λ (p : Part). free_place_in (queue_in p.queue) ≡ none) D.is free
+  module _ (words : List ℕ) (r : Refusal) (v : std.Option ℕ) (found : found_in v ≡ free_place_in (queue_in part.queue)) (none_there : v ≡ None) where
+    none_in : (d : Held) → PartIs d part → free_place_in (queue_in d.queue) ≡ none
+    none_in d D = subst (λ (p : Part). free_place_in (queue_in p.queue) ≡ none) D.is (no_place (queue_in part.queue) v found none_there)
 
-    pub full_too_short : length words < job_words_least → r ≡ refused_by bench_refusal 0 part → FullOf part words r
-    full_too_short h e =
-        record {
-          serves = λ place sheets lengths codes.
-              record { serves = λ d D. admit_full_short d words (entered_by d place r) (none_in d place D) h (kept d place D bench_refusal 0 r e) sheets lengths codes };
-        }
+    pub full_too_short : (place : ℕ) (sheets lengths codes : List ℕ) → length words < job_words_least → r ≡ record { reason = reason.Bench; line = 0 }
+        → AdmitIn part place sheets lengths codes words words (Err r)
+    full_too_short place sheets lengths codes h e =
+        record { serves = λ d D. admit_full_short d words (entered_by d place (Err r)) (none_in d D) h (told_refused d place r reason.Bench e) sheets lengths codes }
 
-    pub full_of_jobs : job_words_least ≤ length words → r ≡ refused_by jobs_refusal 0 part → FullOf part words r
-    full_of_jobs h e =
-        record {
-          serves = λ place sheets lengths codes.
-              record { serves = λ d D. admit_full_jobs d words (entered_by d place r) (none_in d place D) h (kept d place D jobs_refusal 0 r e) sheets lengths codes };
-        }
+    pub full_of_jobs : (place : ℕ) (sheets lengths codes : List ℕ) → job_words_least ≤ length words → r ≡ record { reason = reason.Jobs; line = 0 }
+        → AdmitIn part place sheets lengths codes words words (Err r)
+    full_of_jobs place sheets lengths codes h e =
+        record { serves = λ d D. admit_full_jobs d words (entered_by d place (Err r)) (none_in d D) h (told_refused d place r reason.Jobs e) sheets lengths codes }
 
   module _ (place : ℕ) (free : free_place_in (queue_in part.queue) ≡ some place) where
-    free_in : (d : Held) (p : ℕ) → PartIs d p part → free_place_in (queue_in d.queue) ≡ some place
-    free_in d p D = subst (λ (p : Part). free_place_in (queue_in p.queue) ≡ some place) D.is free
+    free_in : (d : Held) → PartIs d part → free_place_in (queue_in d.queue) ≡ some place
+    free_in d D = subst (λ (p : Part). free_place_in (queue_in p.queue) ≡ some place) D.is free
 
     -- the sheet was read: refused, or accepted
-    module _ (sheets : List ℕ) (size code : ℕ) (words boards written : List ℕ) (v : Expanded) (R : ReadsSheet sheets size place words boards written v) (exit : List ℕ) (r : Entry) where
-      pub read_refused : (number line : ℕ) → v ≡ expanded.Refused number line → code < channels → job_words_least ≤ length words → part.given < job_numbers → size ≤ text_most
-          → (bits : ℕ) → PlacesOf (queue_in part.queue) bits → ClearedBut bits written exit → r ≡ refused_by number line part → ReadsIn part sheets size place code words exit r
-      read_refused number line i known w g few bits B C e =
+    module _ (sheets : List ℕ) (size code : ℕ) (words boards written : List ℕ) (v : Result ℕ Refusal) (R : ReadsSheet sheets size place words boards written v) (exit : List ℕ) where
+      pub read_refused : (f : Refusal) → v ≡ Err f → code < channels → job_words_least ≤ length words → part.given < job_numbers → size ≤ text_most
+          → (bits : ℕ) → PlacesOf (queue_in part.queue) bits → ClearedBut bits written exit → ReadsIn part sheets size place code words exit (Err f)
+      read_refused f i known w g few bits B C =
           record {
             serves = λ lengths codes is_size is_code.
                 record {
                   serves = λ d D.
-                      admit_read_refused d place (free_in d place D) sheets size code words boards written v R number line exit (entered_by d place r) i known w
+                      admit_read_refused d place (free_in d D) sheets size code words boards written v R f exit (entered_by d place (Err f)) i known w
                       (subst (λ (p : Part). p.given < job_numbers) D.is g) few
                       (subst (λ (p : Part). FreeCleared (queue_in p.queue) written exit) D.is (C.cleared (queue_in part.queue) B))
-                      (kept d place D number line r e) lengths codes is_size is_code;
+                      refl lengths codes is_size is_code;
                 };
           }
 
-      pub read_accepted : (count : ℕ) → v ≡ expanded.Messages count → job_words_least ≤ length words → size ≤ text_most → HoldsNew part place code count boards written exit r
+      pub read_accepted : (count : ℕ) (r : Result Entry Refusal) → v ≡ Ok count → job_words_least ≤ length words → size ≤ text_most → HoldsNew part place code count boards written exit r
           → ReadsIn part sheets size place code words exit r
       unfolding length_at sheet_at
-      read_accepted count i w few N =
+      read_accepted count r i w few N =
           record {
             serves = λ lengths codes is_size is_code.
                 N.serves sheets lengths codes words w is_code (rw (sym is_size) few)
@@ -200,61 +195,58 @@ module _ (part : Part) where
     pub hold_serves : (code count : ℕ) (boards written exit : List ℕ) → code < channels → part.given < job_numbers → (longer : Queue)
         → queue_in longer ≡ queue_in part.queue ++ (record { number = part.given; place = place; code = code; count = count; turns = 0 } ∷ [])
         → (bits : ℕ) → PlacesOf (queue_in longer) bits → ClearedBut bits written exit
-        → HoldsNew part place code count boards written exit (record { word = admitted_word; one = part.given; two = place; queue = longer; given = part.given + 1; race = unsought; boards = record { on = boards } })
+        → HoldsNew part place code count boards written exit (Ok (record { number = part.given; place = place; queue = longer; given = part.given + 1; race = unsought; boards = record { on = boards } }))
     hold_serves code count boards written exit known left longer is_longer bits B C =
         record {
           serves = λ sheets lengths codes words enough is_code few is_sheet fit P.
               record {
                 serves = λ d D.
-                    admitted_serves d place code count boards written exit (free_in d place D) known (subst (λ (p : Part). p.given < job_numbers) D.is left) D.races D.boards longer
+                    admitted_serves d place code count boards written exit (free_in d D) known (subst (λ (p : Part). p.given < job_numbers) D.is left) D.races D.boards longer
                     (subst (λ (p : Part). queue_in longer ≡ queue_in p.queue ++ (record { number = p.given; place = place; code = code; count = count; turns = 0 } ∷ [])) D.is is_longer)
                     (C.cleared (queue_in longer) B) sheets lengths codes words enough is_code few is_sheet fit P _
                     (ap (λ (p : Part). told_with admitted_word p.given place (record { queue = longer; given = p.given + 1; races = set d.races place unsought; boards = set d.boards place (record { on = boards }) })) D.is);
               };
         }
 
-  pub enter_full : (spare : ℕ) (sheets lengths codes words : List ℕ) (r : Entry) → FullOf part words r → AdmitIn part spare sheets lengths codes words words r
-  enter_full spare sheets lengths codes words r F = F.serves spare sheets lengths codes
-
   -- the place taken out is the lowest free one
-  module _ (spare : ℕ) (S : SparePlace (queue_in part.queue) spare) (sheets lengths codes words : List ℕ) (r : Entry) where
-    module _ (v : Place) (place : ℕ) (found : place_in v ≡ free_place_in (queue_in part.queue)) (i : v ≡ places.At place) (code : ℕ) (is_code : code ≡ get_or codes place channels) where
+  module _ (spare : ℕ) (S : SparePlace (queue_in part.queue) spare) (sheets lengths codes words : List ℕ) where
+    module _ (v : std.Option ℕ) (place : ℕ) (found : found_in v ≡ free_place_in (queue_in part.queue)) (i : v ≡ Some place) (code : ℕ) (is_code : code ≡ get_or codes place channels) where
       free_at : free_place_in (queue_in part.queue) ≡ some place
       free_at = at_place (queue_in part.queue) v place found i
 
-      pub enter_unknown : channels ≤ code → r ≡ refused_by channel_refusal 0 part → AdmitIn part spare sheets lengths codes words words r
-      enter_unknown h e =
+      pub enter_unknown : channels ≤ code → (r : Refusal) → r ≡ record { reason = reason.Channel; line = 0 } → AdmitIn part spare sheets lengths codes words words (Err r)
+      enter_unknown h r e =
           record {
-            serves = λ d D. admit_unknown d place (free_in place free_at d spare D) sheets lengths codes words code is_code (entered_by d spare r) h (kept d spare D channel_refusal 0 r e);
+            serves = λ d D. admit_unknown d place (free_in place free_at d D) sheets lengths codes words code is_code (entered_by d spare (Err r)) h (told_refused d spare r reason.Channel e);
           }
 
       module _ (known : code < channels) where
-        pub enter_short : length words < job_words_least → r ≡ refused_by bench_refusal 0 part → AdmitIn part spare sheets lengths codes words words r
-        enter_short h e =
+        pub enter_short : length words < job_words_least → (r : Refusal) → r ≡ record { reason = reason.Bench; line = 0 } → AdmitIn part spare sheets lengths codes words words (Err r)
+        enter_short h r e =
             record {
-              serves = λ d D. admit_short d place (free_in place free_at d spare D) sheets lengths codes words code is_code (entered_by d spare r) known h (kept d spare D bench_refusal 0 r e);
+              serves = λ d D. admit_short d place (free_in place free_at d D) sheets lengths codes words code is_code (entered_by d spare (Err r)) known h (told_refused d spare r reason.Bench e);
             }
 
         module _ (w : job_words_least ≤ length words) (bits : ℕ) (exit : List ℕ) (B : PlacesOf (queue_in part.queue) bits) (C : ClearedBut bits words exit) where
-          free_cleared : (d : Held) → PartIs d spare part → FreeCleared (queue_in d.queue) words exit
+          free_cleared : (d : Held) → PartIs d part → FreeCleared (queue_in d.queue) words exit
           free_cleared d D = subst (λ (p : Part). FreeCleared (queue_in p.queue) words exit) D.is (C.cleared (queue_in part.queue) B)
 
-          pub enter_numbers : job_numbers ≤ part.given → r ≡ refused_by jobs_refusal 0 part → AdmitIn part spare sheets lengths codes words exit r
-          enter_numbers h e =
+          pub enter_numbers : job_numbers ≤ part.given → (r : Refusal) → r ≡ record { reason = reason.Jobs; line = 0 } → AdmitIn part spare sheets lengths codes words exit (Err r)
+          enter_numbers h r e =
               record {
                 serves = λ d D.
-                    admit_numbers d place (free_in place free_at d spare D) sheets lengths codes words code is_code (entered_by d spare r) known w exit
-                    (subst (λ (p : Part). job_numbers ≤ p.given) D.is h) (free_cleared d D) (kept d spare D jobs_refusal 0 r e);
+                    admit_numbers d place (free_in place free_at d D) sheets lengths codes words code is_code (entered_by d spare (Err r)) known w exit
+                    (subst (λ (p : Part). job_numbers ≤ p.given) D.is h) (free_cleared d D) (told_refused d spare r reason.Jobs e);
               }
 
-          pub enter_long : (size : ℕ) → size ≡ get_or lengths place 0 → part.given < job_numbers → text_most < size → r ≡ refused_by length_refusal 0 part
-              → AdmitIn part spare sheets lengths codes words exit r
-          enter_long size is_size g h e =
+          pub enter_long : (size : ℕ) → size ≡ get_or lengths place 0 → part.given < job_numbers → text_most < size → (r : Refusal) → r ≡ record { reason = reason.Length; line = 0 }
+              → AdmitIn part spare sheets lengths codes words exit (Err r)
+          enter_long size is_size g h r e =
               record {
                 serves = λ d D.
-                    admit_long d place (free_in place free_at d spare D) sheets lengths codes words code is_code (entered_by d spare r) known w exit size is_size
-                    (subst (λ (p : Part). p.given < job_numbers) D.is g) h (free_cleared d D) (kept d spare D length_refusal 0 r e);
+                    admit_long d place (free_in place free_at d D) sheets lengths codes words code is_code (entered_by d spare (Err r)) known w exit size is_size
+                    (subst (λ (p : Part). p.given < job_numbers) D.is g) h (free_cleared d D) (told_refused d spare r reason.Length e);
               }
 
-      pub enter_read : (exit : List ℕ) (size : ℕ) → size ≡ get_or lengths place 0 → ReadsIn part sheets size place code words exit r → AdmitIn part spare sheets lengths codes words exit r
-      enter_read exit size is_size N = subst⁻¹ (λ (p : ℕ). AdmitIn part p sheets lengths codes words exit r) (S.lowest place free_at) (N.serves lengths codes is_size is_code)
+      pub enter_read : (exit : List ℕ) (size : ℕ) (r : Result Entry Refusal) → size ≡ get_or lengths place 0 → ReadsIn part sheets size place code words exit r → AdmitIn part spare sheets lengths codes words exit r
+      enter_read exit size r is_size N = subst⁻¹ (λ (p : ℕ). AdmitIn part p sheets lengths codes words exit r) (S.lowest place free_at) (N.serves lengths codes is_size is_code)

@@ -1,5 +1,5 @@
--- What the judgement of a table asks and shows, by its case, and that the numbers of the check with a table are small. Assumes nothing.
-use mathlib.Core.Path.{◌≡◌, refl, sym, ap, subst, subst⁻¹}
+-- The numbers answered are small, and handing them on keeps the promise. Assumes nothing.
+use mathlib.Core.Path.{◌≡◌, refl, ap, subst, subst⁻¹}
 use mathlib.Core.Bool.{Bool, true, false, cond, ◌||◌}
 use mathlib.Core.List.{List}
 use Prim.Native.Nat.{ℕ, ◌^◌, ◌<◌}
@@ -13,38 +13,10 @@ use Rattle.model.specs.Answer.{Numbers, answer_for, answer_of, numbers_of}
 use Rattle.model.specs.Senders.{TableJudged, permitted_of, PermittedCheck}
 use Rattle.model.proofs.Senders.{table_within}
 use Rattle.model.proofs.Permitted.{permitted_accepted}
-use Rattle.senders.specs.declared.Judgement.{Judgement}
-use Rattle.senders.specs.declared.Judgement.TheVariants.{Sound, Gap, Clash, Refused}
-use Rattle.senders.specs.Judgement.{numbers_for}
 use Rattle.permitted.specs.Parts.{sheet_with}
 use Rattle.permitted.proofs.Well.{WellNamed, with_well}
 use Rattle.answers.specs.Numbers.{Small}
 use Rattle.answers.proofs.Small.{answer_small}
-
-module _ (j : Judgement) where
-  by_case : (k : Judgement) → j ≡ k → Small (numbers_for j) → Small (numbers_for k)
-  by_case k i s = subst (λ (b : Judgement). Small (numbers_for b)) i s
-
-  pub small_gap : (pair : ℕ) → j ≡ Gap pair → Small (numbers_for j) → pair < 2 ^ 32
-  small_gap pair i s = (by_case (Gap pair) i s).one
-
-  pub small_clash : (pair a b : ℕ) → j ≡ Clash pair a b → Small (numbers_for j) → (pair < 2 ^ 32) × (a < 2 ^ 32) × (b < 2 ^ 32)
-  small_clash pair a b i s = let t = by_case (Clash pair a b) i s in (t.one, t.two, t.three)
-
-  pub small_line : (number line : ℕ) → j ≡ Refused number line → Small (numbers_for j) → line < 2 ^ 32
-  small_line number line i s = (by_case (Refused number line) i s).two
-
-  pub sound_numbers : j ≡ Sound → ◌≡◌ {A = Numbers} (record { word = 0; one = 0; two = 0; three = 0 }) (numbers_for j)
-  sound_numbers i = ap numbers_for (sym i)
-
-  pub gap_numbers : (pair : ℕ) → j ≡ Gap pair → ◌≡◌ {A = Numbers} (record { word = 1; one = pair; two = 0; three = 0 }) (numbers_for j)
-  gap_numbers pair i = ap numbers_for (sym i)
-
-  pub clash_numbers : (pair a b : ℕ) → j ≡ Clash pair a b → ◌≡◌ {A = Numbers} (record { word = 2; one = pair; two = a; three = b }) (numbers_for j)
-  clash_numbers pair a b i = ap numbers_for (sym i)
-
-  pub refused_numbers : (number line : ℕ) → j ≡ Refused number line → ◌≡◌ {A = Numbers} (record { word = 3; one = number; two = line; three = 0 }) (numbers_for j)
-  refused_numbers number line i = ap numbers_for (sym i)
 
 -- the numbers of a judgement are small, and handing them on keeps the promise
 pub small_judged : (table : List ℕ) (r : Numbers) → TableJudged table r → Small r

@@ -4,7 +4,8 @@ ghost use Rattle.verdict.specs.Parts.{numbers_for};
 ghost use Rattle.answers.specs.Numbers.{Small, numbers_in};
 
 use answer_words::checked::{FREE, LOCKED, REFUSED};
-use verdict::Answer;
+use outcome::Refusal;
+use verdict::Verdict;
 
 // word 0 free, 1 locked (one is the message, two the event, three the number of steps), 2 refused (one is the number, two the line).
 #[repr(C)]
@@ -17,18 +18,18 @@ pub struct ChannelCheckAnswer {
 }
 
 // The answer's numbers. Each fits 32 bits.
-pub fn checked(answer: Answer) -> ChannelCheckAnswer
+pub fn checked(answer: Result<Verdict, Refusal>) -> ChannelCheckAnswer
     requires { Small (numbers_for answer) }
     ensures { numbers_in result ≡ numbers_for answer }
 {
     match answer {
-        Answer::Free => ChannelCheckAnswer {
+        Ok(Verdict::Free) => ChannelCheckAnswer {
             word: FREE,
             one: 0,
             two: 0,
             three: 0,
         },
-        Answer::Locked(message, event, steps) => {
+        Ok(Verdict::Locked(message, event, steps)) => {
             ChannelCheckAnswer {
                 word: LOCKED,
                 one: message as u32,
@@ -36,11 +37,11 @@ pub fn checked(answer: Answer) -> ChannelCheckAnswer
                 three: steps as u32,
             }
         }
-        Answer::Refused(number, line) => {
+        Err(refusal) => {
             ChannelCheckAnswer {
                 word: REFUSED,
-                one: number as u32,
-                two: line as u32,
+                one: refusal.reason.number(),
+                two: refusal.line as u32,
                 three: 0,
             }
         }

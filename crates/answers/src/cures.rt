@@ -4,7 +4,7 @@ ghost use Rattle.cure.specs.Parts.{numbers_for};
 ghost use Rattle.answers.specs.Cures.{Small, numbers_in};
 
 use answer_words::cured::{REFUSED, WRITTEN};
-use cure::Answer;
+use outcome::Refusal;
 
 // word 0 written (one is the text's length), 1 refused (one is the number, two the line).
 #[repr(C)]
@@ -16,20 +16,20 @@ pub struct CureSheetAnswer {
 }
 
 // The answer's numbers. Each fits 32 bits.
-pub fn cured(answer: Answer) -> CureSheetAnswer
+pub fn cured(answer: Result<usize, Refusal>) -> CureSheetAnswer
     requires { Small (numbers_for answer) }
     ensures { numbers_in result ≡ numbers_for answer }
 {
     match answer {
-        Answer::Written(length) => CureSheetAnswer {
+        Ok(length) => CureSheetAnswer {
             word: WRITTEN,
             one: length as u32,
             two: 0,
         },
-        Answer::Refused(number, line) => CureSheetAnswer {
+        Err(refusal) => CureSheetAnswer {
             word: REFUSED,
-            one: number as u32,
-            two: line as u32,
+            one: refusal.reason.number(),
+            two: refusal.line as u32,
         },
     }
 }

@@ -5,6 +5,7 @@ ghost use Rattle.answers.specs.Numbers.{Small};
 ghost use Rattle.answers.specs.Tables.{numbers_in};
 
 use answer_words::judged::{CLASH, GAP, REFUSED, SOUND};
+use outcome::Refusal;
 use senders::Judgement;
 
 // word 0 sound, 1 gap (one is the pair), 2 clash (one is the pair, two and three the lines of its first two rules), 3 refused (one is the
@@ -19,24 +20,24 @@ pub struct SendersCheckAnswer {
 }
 
 // The judgement's numbers. Each fits 32 bits.
-pub fn judged(judgement: Judgement) -> SendersCheckAnswer
+pub fn judged(judgement: Result<Judgement, Refusal>) -> SendersCheckAnswer
     requires { Small (numbers_for judgement) }
     ensures { numbers_in result ≡ numbers_for judgement }
 {
     match judgement {
-        Judgement::Sound => SendersCheckAnswer {
+        Ok(Judgement::Sound) => SendersCheckAnswer {
             word: SOUND,
             one: 0,
             two: 0,
             three: 0,
         },
-        Judgement::Gap(pair) => SendersCheckAnswer {
+        Ok(Judgement::Gap(pair)) => SendersCheckAnswer {
             word: GAP,
             one: pair as u32,
             two: 0,
             three: 0,
         },
-        Judgement::Clash(pair, first, second) => {
+        Ok(Judgement::Clash(pair, first, second)) => {
             SendersCheckAnswer {
                 word: CLASH,
                 one: pair as u32,
@@ -44,11 +45,11 @@ pub fn judged(judgement: Judgement) -> SendersCheckAnswer
                 three: second as u32,
             }
         }
-        Judgement::Refused(number, line) => {
+        Err(refusal) => {
             SendersCheckAnswer {
                 word: REFUSED,
-                one: number as u32,
-                two: line as u32,
+                one: refusal.reason.number(),
+                two: refusal.line as u32,
                 three: 0,
             }
         }

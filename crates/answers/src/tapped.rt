@@ -4,7 +4,8 @@ ghost use Rattle.taps.specs.Parts.{numbers_for};
 ghost use Rattle.answers.specs.Tapped.{Small, numbers_in};
 
 use answer_words::fitted::{CLASH, FIT, REFUSED};
-use taps::Answer;
+use outcome::Refusal;
+use taps::Taps;
 
 // word 0 fit (one is how many events are written), 1 clash (one is the event), 2 refused (one is the number, two the line).
 #[repr(C)]
@@ -16,25 +17,25 @@ pub struct TapsCheckAnswer {
 }
 
 // The answer's numbers. Each fits 32 bits.
-pub fn fitted(answer: Answer) -> TapsCheckAnswer
+pub fn fitted(answer: Result<Taps, Refusal>) -> TapsCheckAnswer
     requires { Small (numbers_for answer) }
     ensures { numbers_in result ≡ numbers_for answer }
 {
     match answer {
-        Answer::Fit(events) => TapsCheckAnswer {
+        Ok(Taps::Fit(events)) => TapsCheckAnswer {
             word: FIT,
             one: events as u32,
             two: 0,
         },
-        Answer::Clash(event) => TapsCheckAnswer {
+        Ok(Taps::Clash(event)) => TapsCheckAnswer {
             word: CLASH,
             one: event as u32,
             two: 0,
         },
-        Answer::Refused(number, line) => TapsCheckAnswer {
+        Err(refusal) => TapsCheckAnswer {
             word: REFUSED,
-            one: number as u32,
-            two: line as u32,
+            one: refusal.reason.number(),
+            two: refusal.line as u32,
         },
     }
 }

@@ -4,14 +4,18 @@
 mod masks;
 
 ghost use Rattle.std.specs.Prelude.{◌≡◌, ◌<◌, length, get_or};
+ghost use Rattle.board.specs.Masks.{Standing};
 
 pub use crate::masks::{MASK_WORDS, SENDS, board_masks};
 
-// A board's number, as an index.
-fn wide(board: u8) -> usize
-    ensures { result ≡ board }
-{
-    board as usize
+// A scenario, as the rules read it: so many messages, the board of each event, the rows of the causal order and the masks of the boards.
+#[derive(Clone, Copy)]
+pub struct Scenario<'a> {
+    pub words: &'a [u64],
+    pub masks: &'a [u64],
+    pub boards: &'a [u8],
+    pub count: usize,
+    ghost standing: { Standing count boards.now words.now masks.now },
 }
 
 // The board of event x.
@@ -19,5 +23,5 @@ pub fn board_of(boards: &[u8], x: usize) -> usize
     requires { x < length boards.now }
     ensures { result ≡ get_or boards.now x 0 }
 {
-    wide(boards[x])
+    usize::from(boards[x])
 }

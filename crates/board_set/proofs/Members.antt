@@ -2,9 +2,9 @@
 use Prim.Native.Nat.{ℕ, ◌/◌, ◌^◌, ◌≤◌, ◌<◌}
 use native.Mathlib.Nat.{div-eq_of_lt, lt_of_lt_of_le}
 use mathlib.Core.Path.{◌≡◌}
-use mathlib.Core.Bool.{Bool, true, false, ◌&&◌}
 use lib.Bits.{bit_and, and_mask}
-use lib.Dec.{eqb}
+use borrow.Author.Tests.{le-ltb}
+use lib.Dec.{eqb, ltb}
 use lib.Pow.{pow_mono}
 use Rattle.model.specs.Limits.{boards}
 use Rattle.model.specs.Senders.{in_set}
@@ -14,13 +14,6 @@ pub bit_read : (set board : ℕ) → eqb (bit_and (set / 2 ^ board) 1) 1 ≡ in_
 unfolding in_set
 bit_read set board = rw (and_mask (set / 2 ^ board) 1)
 
-pub no_board : (set board : ℕ) → boards ≤ board → set < 2 ^ boards → false ≡ in_set set board
+pub no_board : (set board : ℕ) → boards ≤ board → set < 2 ^ boards → ltb board boards ≡ in_set set board
 unfolding in_set
-no_board set board h l = rw (div-eq_of_lt (lt_of_lt_of_le l (pow_mono h)))
-
--- the pair: both boards
-pub pair_in : (from to sender receiver : ℕ) (r r' : Bool) → r ≡ in_set from sender → r ≡ true → r' ≡ in_set to receiver → r' ≡ (in_set from sender && in_set to receiver)
-pair_in from to sender receiver r r' p h q = rw (← p, h, q)
-
-pub pair_out : (from to sender receiver : ℕ) (r : Bool) → r ≡ in_set from sender → r ≡ false → false ≡ (in_set from sender && in_set to receiver)
-pair_out from to sender receiver r p h = rw (← p, h)
+no_board set board h l = rw (le-ltb board boards h, div-eq_of_lt (lt_of_lt_of_le l (pow_mono h)))

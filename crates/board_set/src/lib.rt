@@ -10,20 +10,12 @@ use model::BOARDS;
 pub fn in_set(set: u16, board: usize) -> bool
     ensures { result ≡ in_set set board }
 {
-    if board < BOARDS {
-        (set >> board) & 1 == 1
-    } else {
-        false
-    }
+    board < BOARDS && (set >> board) & 1 == 1
 }
 
 // The single-rule test: the pair of sender and receiver is in the rule of these two sets.
 pub fn is_covered(from: u16, to: u16, sender: usize, receiver: usize) -> bool
     ensures { result ≡ (in_set from sender && in_set to receiver) }
 {
-    if in_set(from, sender) {
-        in_set(to, receiver)
-    } else {
-        false
-    }
+    in_set(from, sender) && in_set(to, receiver)
 }

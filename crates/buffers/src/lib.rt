@@ -11,6 +11,14 @@ use run::{Buffer, Run};
 // The words of all buffers, a row a board.
 pub const HELD_WORDS: usize = model::BOARDS * WIDTH;
 
+// The parts of a run that a search for a step reads: what is done, what is under way, and its buffers in rows.
+#[derive(Clone, Copy)]
+pub struct Parts<'a> {
+    pub done: &'a [u64; WIDTH],
+    pub way: &'a [u64; WIDTH],
+    pub rows: &'a [u64; HELD_WORDS],
+}
+
 // A board's row becomes its buffer's.
 pub fn lay_row(rows: &mut [u64; HELD_WORDS], board: usize, buffer: Buffer)
     requires { board < boards_most }
@@ -24,7 +32,6 @@ pub fn lay_rows(rows: &mut [u64; HELD_WORDS], run: Run)
     ensures { HeldIn run rows.new }
 {
     for board in 0..model::BOARDS {
-        let buffer = run.buffers[board];
-        lay_row(rows, board, buffer);
+        lay_row(rows, board, run.buffers[board]);
     }
 }

@@ -9,16 +9,15 @@ use levels::takes_second;
 use walk::Walk;
 
 // An A row behind the eighth: refusal 13.
+#[tactic(auto, unfolding(levels::specs::Options::is_ninth))]
 pub fn is_ninth(letter: u8, choices: usize) -> bool
     ensures { result ≡ is_ninth letter choices }
 {
-    if letter == b'A' {
-        return Walk::CHOICES_MOST <= choices;
-    }
-    false
+    letter == b'A' && Walk::CHOICES_MOST <= choices
 }
 
 // The sheet that a row calls, with so many A rows met: an A row's is its first, or its second where its option says so.
+#[tactic(auto, unfolding(levels::specs::Options::is_ninth, levels::specs::Options::sheet_called, model::specs::Expansion::taken))]
 pub fn called_sheet(
     letter: u8,
     one: &[u16],
@@ -31,21 +30,18 @@ pub fn called_sheet(
     requires row_lt_rows_most { (row < rows_most) × (row < length one.now) × (row < length two.now) }
     ensures { result ≡ sheet_called letter (get_or one.now row 0) (get_or two.now row 0) options choices }
 {
-    let m = one[row];
-    let n = two[row];
-    if letter == b'A' {
-        return if takes_second(options, choices) { n } else { m };
+    if letter == b'A' && takes_second(options, choices) {
+        two[row]
+    } else {
+        one[row]
     }
-    m
 }
 
 // The A rows met behind a call.
+#[tactic(auto, unfolding(levels::specs::Options::is_ninth, levels::specs::Options::choices_behind, model::specs::Expansion::chosen_more))]
 pub fn choices_behind(letter: u8, choices: usize) -> usize
     requires { is_ninth letter choices ≡ false }
     ensures { result ≡ choices_behind letter choices }
 {
-    if letter == b'A' {
-        return choices + 1;
-    }
-    choices
+    if letter == b'A' { choices + 1 } else { choices }
 }

@@ -2,7 +2,7 @@
 use mathlib.Core.Path.{◌≡◌, refl, sym, ◌∙◌, ap, subst⁻¹}
 use mathlib.Core.Bool.{Bool, true, false, not}
 use mathlib.Core.List.{List, []}
-use Prim.Native.Nat.{ℕ, ◌<◌, ◌≤◌}
+use Prim.Native.Nat.{ℕ, ◌<◌, ◌≤◌, ◌^◌}
 use native.Mathlib.Omega.{arith}
 use borrow.Author.Tests.{not-true, not-false, lt-leb}
 use lib.ListN.{length}
@@ -17,6 +17,11 @@ use Rattle.places.specs.Words.{FreeCleared, ClearedBut}
 use Rattle.held_jobs.specs.Held.{Held, dispatcher_of, HoldsJob, lent, told_with}
 use Rattle.held_jobs.proofs.Cases.{cancel_words, cancel_unheld}
 use Rattle.held_jobs.proofs.Serving.{untouched, cleared}
+use Rattle.std.specs.Prelude.{Ok, Err}
+use Rattle.outcome.specs.declared.Refusal.{Refusal}
+use Rattle.outcome.specs.declared.Reason.{Reason}
+use Rattle.outcome.specs.declared.Reason.TheVariants.{Bench}
+use Rattle.outcome.specs.declared.Reason.TheVariants as reason
 use Rattle.cancellation.specs.Cancelling.{left_by, LeavesIn}
 use Rattle.cancellation.proofs.Leaving.{cancelled_serves}
 
@@ -38,24 +43,24 @@ is_held n js b e t = sym e ∙ not-false b t
 
 -- ---- cancelling, as it is of every dispatcher with the queue
 module _ (queue : Queue) (n : ℕ) (words : List ℕ) where
-  stays : (d : Held) → d.queue ≡ queue → (word one : ℕ) → left_by d (record { word = word; one = one; queue = queue }) ≡ told_with word one 0 d
-  stays d e word one = ap (λ (q : Queue). told_with word one 0 (record { queue = q; given = d.given; races = d.races; boards = d.boards })) (sym e)
+  pub leave_short : (r : Refusal) → r ≡ record { reason = Bench; line = 0 } → length words < job_words_least → LeavesIn queue n words words (Err r)
+  leave_short r i h =
+      record {
+        serves = λ d e. cancel_short d n words _ h (ap (λ (q : Refusal). left_by d n (Err q)) i);
+      }
 
-  pub leave_short : length words < job_words_least → LeavesIn queue n words words (record { word = refused_word; one = bench_refusal; queue = queue })
-  leave_short h = record { serves = λ d e. cancel_short d n words _ h (stays d e refused_word bench_refusal) }
-
-  pub leave_none : (exit : List ℕ) (b : Bool) (bits : ℕ) → b ≡ among n (numbers_in (queue_in queue)) → not b ≡ true → job_words_least ≤ length words
-      → PlacesOf (queue_in queue) bits → ClearedBut bits words exit → LeavesIn queue n words exit (record { word = refused_word; one = held_refusal; queue = queue })
-  leave_none exit b bits i t w B C =
+  pub leave_none : (r : Refusal) → r ≡ record { reason = reason.Held; line = 0 } → (exit : List ℕ) (b : Bool) (bits : ℕ) → b ≡ among n (numbers_in (queue_in queue)) → not b ≡ true
+      → job_words_least ≤ length words → PlacesOf (queue_in queue) bits → ClearedBut bits words exit → LeavesIn queue n words exit (Err r)
+  leave_none r j exit b bits i t w B C =
       record {
         serves = λ d e.
             cancel_none d n words _ exit b (subst⁻¹ (λ (q : Queue). b ≡ among n (numbers_in (queue_in q))) e i) t w
-            (subst⁻¹ (λ (q : Queue). FreeCleared (queue_in q) words exit) e (C.cleared (queue_in queue) B)) (stays d e refused_word held_refusal);
+            (subst⁻¹ (λ (q : Queue). FreeCleared (queue_in q) words exit) e (C.cleared (queue_in queue) B)) (ap (λ (q : Refusal). left_by d n (Err q)) j);
       }
 
   pub leave_leaves : (exit : List ℕ) (left : Queue) (b : Bool) (bits : ℕ) → queue_in left ≡ without n (queue_in queue) → b ≡ among n (numbers_in (queue_in queue))
       → not b ≡ false → job_words_least ≤ length words → PlacesOf (queue_in left) bits → ClearedBut bits words exit
-      → LeavesIn queue n words exit (record { word = cancelled_word; one = n; queue = left })
+      → LeavesIn queue n words exit (Ok left)
   leave_leaves exit left b bits is_left i t w B C =
       record {
         serves = λ d e sheets lengths codes.

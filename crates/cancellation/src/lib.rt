@@ -1,45 +1,23 @@
 // Cancelling a job at the counter: the job with the number leaves the queue, and the words of its place are cleared.
 #![tactic(auto)]
 
+ghost use Rattle.lent.specs.Lent.{LineFits};
 ghost use Rattle.cancellation.specs.Cancelling.{LeavesIn};
 
-use answer_words::served::{CANCELLED, REFUSED};
+use outcome::{Reason, Refusal};
 use queue::Queue;
 
-// What a cancellation leaves: its word and number, and the queue.
-#[derive(Clone, Copy)]
-pub struct Left {
-    pub word: u32,
-    pub one: u32,
-    pub queue: Queue,
-}
-
-// A cancellation, from the queue.
-pub fn leave(queue: Queue, number: u32, words: &mut [u64]) -> Left
-    ensures { LeavesIn queue number words.old words.new result }
+// A cancellation, from the queue: the queue that it leaves. Where it is refused the queue stays as it was.
+pub fn leave(queue: Queue, number: u32, words: &mut [u64]) -> Result<Queue, Refusal>
+    ensures leaves { LeavesIn queue number words.old words.new result }
+    ensures fits { LineFits result }
 {
-    if words.len() < model::JOB_WORDS_LEAST {
-        return Left {
-            word: REFUSED,
-            one: model::BENCH as u32,
-            queue,
-        };
-    }
+    lent::at_least(model::JOB_WORDS_LEAST, words.len())?;
     if !job_numbers::holds(queue, number) {
-        let taken = taken_places::places(queue);
-        places::clear_free(words, taken);
-        return Left {
-            word: REFUSED,
-            one: model::HELD as u32,
-            queue,
-        };
+        places::clear_free(words, taken_places::places(queue));
+        return Err(Reason::Held.at(0));
     }
     let left = job_numbers::without(queue, number);
-    let taken = taken_places::places(left);
-    places::clear_free(words, taken);
-    Left {
-        word: CANCELLED,
-        one: number,
-        queue: left,
-    }
+    places::clear_free(words, taken_places::places(left));
+    Ok(left)
 }

@@ -30,7 +30,7 @@ fn needed(words: &[u64], e: usize, row: [u64; WIDTH]) -> [u64; WIDTH]
     let mut kept = row;
     for i in 0..WIDTH {
         let at = from + i;
-        kept[i] = kept[i] & words[at];
+        kept[i] &= words[at];
     }
     if relation::test(&row, 0, send) {
         relation::mark(&mut kept, 0, send);
@@ -47,7 +47,7 @@ fn needed_deliveries(words: &[u64], e: usize, way: [u64; WIDTH]) -> [u64; WIDTH]
     let mut kept = way;
     for i in 0..WIDTH {
         let at = from + i;
-        kept[i] = kept[i] & (words[at] >> 1);
+        kept[i] &= words[at] >> 1;
     }
     kept
 }

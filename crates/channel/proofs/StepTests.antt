@@ -1,6 +1,6 @@
 -- A step is allowed: what a row of those held says of it, by its buffer and by the buffers in rows. Assumes nothing.
 use mathlib.Core.Path.{◌≡◌, sym, ◌∙◌, ap, subst}
-use mathlib.Core.Bool.{Bool, true, false}
+use mathlib.Core.Bool.{Bool, true, false, not}
 use mathlib.Core.List.{List}
 use Prim.Native.Nat.{ℕ, ◌<◌, ◌≤◌}
 use native.Mathlib.Omega.{arith}
@@ -30,11 +30,11 @@ module _ (count : ℕ) (on words : List ℕ) (c : Channel) (done way : List ℕ)
       says run d w (subst (λ (a : ℕ). BufferRow run a rows b) at.place (λ k l. row_holds run rows b k h at.below l))
 
   module _ (masks : List ℕ) (standing : Standing count on words masks) (u : Bool) (up : u ≡ true) where
-    pub never_with : (buffer : Buffer) → u ≡ held_up c.eager masks buffer.held 0 t → SaysStep count on words c done way buffer t false
-    never_with buffer e = by_buffer false buffer (never count on words masks standing c done way buffer.held 0 t (sym e ∙ up))
+    pub never_with : (buffer : Buffer) → u ≡ held_up c.eager masks buffer.held 0 t → SaysStep count on words c done way buffer t (not u)
+    never_with buffer e = rw up (by_buffer false buffer (never count on words masks standing c done way buffer.held 0 t (sym e ∙ up)))
 
-    pub never_in : (rows : List ℕ) (b : ℕ) → u ≡ held_up c.eager masks rows b t → BoardAt on t b → SaysIn count on words c done way rows t false
-    never_in rows b e at = by_rows false rows b (never count on words masks standing c done way rows b t (sym e ∙ up)) at
+    pub never_in : (rows : List ℕ) (b : ℕ) → u ≡ held_up c.eager masks rows b t → BoardAt on t b → SaysIn count on words c done way rows t (not u)
+    never_in rows b e at = rw up (by_rows false rows b (never count on words masks standing c done way rows b t (sym e ∙ up)) at)
 
 -- its message, as it is read
 pub known : (step : Step) (m count : ℕ) → m ≡ message_in step → m < count → message_in step < count

@@ -2,12 +2,12 @@
 #![tactic(auto)]
 
 ghost use Rattle.std.specs.Prelude.{◌<◌};
-ghost use Rattle.board.specs.Masks.{Standing};
 ghost use Rattle.step.specs.Steps.{message_in};
 ghost use Rattle.step_rules.specs.Steps.{Says};
 ghost use Rattle.channel.specs.Steps.{SaysStep, SaysIn};
 
-use buffers::HELD_WORDS;
+use board::Scenario;
+use buffers::Parts;
 use channel_table::Channel;
 use relation::WIDTH;
 use run::{Buffer, Run, board_at};
@@ -16,80 +16,40 @@ use step_rules::{allowed_by, held_up};
 
 // A step is allowed, by the parts of a run that it reads, with the buffer of its board.
 pub fn allowed<'a>(
-    words: &[u64],
-    masks: &[u64],
-    boards: &[u8],
-    count: usize,
+    scenario: &Scenario,
     c: Channel,
     done: &'a [u64; WIDTH],
     way: &'a [u64; WIDTH],
     buffer: Buffer,
     step: Step,
 ) -> bool
-    requires standing { Standing count boards.now words.now masks.now }
-    requires step_bound { message_in step < count }
-    ensures { SaysStep count boards.now words.now c done.now way.now buffer step result }
+    requires step_bound { message_in step < scenario.now.count }
+    ensures { SaysStep scenario.now.count scenario.now.boards.now scenario.now.words.now c done.now way.now buffer step result }
 {
-    if held_up(masks, c.eager, &buffer.held, 0, step) {
-        return false;
-    }
-    allowed_by(
-        words,
-        masks,
-        boards,
-        count,
-        c,
-        done,
-        way,
-        &buffer.held,
-        0,
-        step,
-    )
+    !held_up(scenario.masks, c.eager, &buffer.held, 0, step)
+        && allowed_by(scenario, c, done, way, &buffer.held, 0, step)
 }
 
 // The step is allowed, by the parts of a run, with its buffers in rows.
-pub fn may_step<'a>(
-    words: &[u64],
-    masks: &[u64],
-    boards: &[u8],
-    count: usize,
-    c: Channel,
-    done: &'a [u64; WIDTH],
-    way: &'a [u64; WIDTH],
-    rows: &'a [u64; HELD_WORDS],
-    step: Step,
-) -> bool
-    requires standing { Standing count boards.now words.now masks.now }
-    requires step_bound { message_in step < count }
-    ensures { SaysIn count boards.now words.now c done.now way.now rows.now step result }
+pub fn may_step(scenario: &Scenario, c: Channel, parts: &Parts, step: Step) -> bool
+    requires step_bound { message_in step < scenario.now.count }
+    ensures { SaysIn scenario.now.count scenario.now.boards.now scenario.now.words.now c parts.now.done.now parts.now.way.now parts.now.rows.now step result }
 {
-    let board = board_at(boards, step);
-    if held_up(masks, c.eager, rows, board, step) {
-        return false;
-    }
-    allowed_by(words, masks, boards, count, c, done, way, rows, board, step)
+    let rows = parts.rows;
+    let board = board_at(scenario.boards, step);
+    !held_up(scenario.masks, c.eager, rows, board, step)
+        && allowed_by(scenario, c, parts.done, parts.way, rows, board, step)
 }
 
 // The step is allowed in the run. For single use: each call copies the run. No step on an unknown message is allowed.
-pub fn allowed_in(
-    run: Run,
-    words: &[u64],
-    masks: &[u64],
-    boards: &[u8],
-    count: usize,
-    c: Channel,
-    step: Step,
-) -> bool
-    requires { Standing count boards.now words.now masks.now }
-    ensures { Says count boards.now words.now c run step result }
+pub fn allowed_in(run: Run, scenario: &Scenario, c: Channel, step: Step) -> bool
+    ensures { Says scenario.now.count scenario.now.boards.now scenario.now.words.now c run step result }
 {
     let m = step.message();
-    if count <= m {
+    if scenario.count <= m {
         return false;
     }
-    let board = board_at(boards, step);
+    let board = board_at(scenario.boards, step);
     let buffer = run.buffers[board];
-    allowed(
-        words, masks, boards, count, c, &run.done, &run.way, buffer, step,
-    )
+    allowed(scenario, c, &run.done, &run.way, buffer, step)
 }

@@ -3,7 +3,6 @@
 
 use answer_words::checked::{FREE, LOCKED};
 use answers::ChannelCheckAnswer;
-use input::Input;
 use std::io;
 use std::io::Write;
 
@@ -16,21 +15,19 @@ fn print_after_space<W: Write>(out: &mut W, number: u32) -> io::Result<()> {
 }
 
 fn print_word<W: Write>(out: &mut W, word: u32) -> io::Result<()> {
-    if word == FREE {
-        printing::print(out, b"free")
-    } else if word == LOCKED {
-        printing::print(out, b"locked")
-    } else {
-        printing::print(out, b"refused")
+    match word {
+        FREE => printing::print(out, b"free"),
+        LOCKED => printing::print(out, b"locked"),
+        _ => printing::print(out, b"refused"),
     }
 }
 
 // The word and the three numbers, and the line's end; whether the system took them.
 fn print_answer<W: Write>(out: &mut W, a: ChannelCheckAnswer) -> io::Result<()> {
     print_word(out, a.word)?;
-    print_after_space(out, a.one)?;
-    print_after_space(out, a.two)?;
-    print_after_space(out, a.three)?;
+    for number in [a.one, a.two, a.three] {
+        print_after_space(out, number)?;
+    }
     printing::print(out, b"\n")
 }
 
@@ -47,15 +44,15 @@ fn print_line<W: Write>(out: &mut W, text: &[u8], code: u32) -> io::Result<()> {
 // The names line, and a sheet's answer on each channel; whether the system took them. What follows a line that it did not take is not tried.
 fn print_channels<W: Write>(out: &mut W, text: &[u8]) -> io::Result<()> {
     printing::print(out, b"channel answer one two three\n")?;
-    for code in 0..model::CHANNELS {
-        print_line(out, text, code as u32)?;
+    for code in 0..model::CHANNELS as u32 {
+        print_line(out, text, code)?;
     }
     Ok(())
 }
 
 fn main(rt: HostRuntime) {
     let mut text = [0u8; MOST];
-    if let Input::Read(n) = input::read_standard(&rt, &mut rt.stderr(), &mut text) {
+    if let Some(n) = input::read_standard(&rt, &mut rt.stderr(), &mut text) {
         let printed = print_channels(&mut rt.stdout(), &text[..n]);
         printing::conclude(&mut rt.stderr(), printed);
     }

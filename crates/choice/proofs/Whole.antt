@@ -8,7 +8,7 @@ use borrow.Author.Tests.{lt-ltb, le-ltb, le-leb, lt-leb}
 use lib.Dec.{ltb}
 use lib.ListN.{length, drop}
 use Rattle.model.specs.Limits.{channels, scratch_least, trace_least}
-use Rattle.model.specs.Refusal.{Out, ok, refusal, channel_refusal, bench_refusal}
+use Rattle.model.specs.Refusal.{Out, ok, refusal, bench_refusal}
 use Rattle.model.specs.Rows.{Row}
 use Rattle.model.specs.Place.{read_with}
 use Rattle.model.specs.Answer.{scratch_behind}
@@ -21,28 +21,36 @@ use Rattle.relation.proofs.Cleared.{cleared_behind, cleared_all}
 use Rattle.choice_answer.specs.Bridge.{numbers_for, Small}
 use Rattle.choice_verdict.specs.Judged.{Judged}
 use Rattle.choice_answer.specs.declared.Choice.{Choice}
-use Rattle.choice_answer.specs.declared.Choice.TheVariants.{Refused}
+use Rattle.std.specs.Prelude.{Result, Err}
+use Rattle.outcome.specs.declared.Reason.{Reason}
+use Rattle.outcome.specs.declared.Reason.TheVariants.{Channel, Bench}
+use Rattle.outcome.specs.declared.Refusal.{Refusal}
+use Rattle.outcome.specs.Refusals.{number_in}
 
 -- What each return of `check` is to show: refusal 1 for a code above 5, refusal 2 for a short buffer, else what the text decides.
 module _ (text : List ℕ) (code : ℕ) (scratch trace : List ℕ) where
-  refuses : (number : ℕ) → number ≤ bench_refusal → choosable text code (length scratch) (length trace) ≡ refusal number 0
-      → ChoiceChecked text code scratch scratch trace trace (numbers_for (Refused number 0))
+  refuses : (why : Reason) → number_in why ≤ bench_refusal → choosable text code (length scratch) (length trace) ≡ refusal (number_in why) 0
+      → (r : Refusal) → r ≡ record { reason = why; line = 0 } → ChoiceChecked text code scratch scratch trace trace (numbers_for (Err r))
   unfolding scratch_behind choice_answer_for trace_chosen
-  refuses number l e =
-      choice_checked_from text code scratch scratch trace trace (numbers_for (Refused number 0)) (refusal number 0) e refl (rw (le-leb number bench_refusal l)) refl
+  refuses why l e r i =
+      rw i
+      (choice_checked_from text code scratch scratch trace trace (numbers_for (Err (record { reason = why; line = 0 }))) (refusal (number_in why) 0) e refl
+      (rw (le-leb (number_in why) bench_refusal l)) refl)
 
-  pub refuses_channel : channels ≤ code → ChoiceChecked text code scratch scratch trace trace (numbers_for (Refused channel_refusal 0))
+  pub refuses_channel : channels ≤ code → (r : Refusal) → r ≡ record { reason = Channel; line = 0 } → ChoiceChecked text code scratch scratch trace trace (numbers_for (Err r))
   unfolding choosable
-  refuses_channel h = refuses channel_refusal (omega arith) (rw (le-ltb code channels h))
+  refuses_channel h = refuses Channel (omega arith) (rw (le-ltb code channels h))
 
-  pub refuses_scratch : code < channels → length scratch < scratch_least → ChoiceChecked text code scratch scratch trace trace (numbers_for (Refused bench_refusal 0))
+  pub refuses_scratch : code < channels → length scratch < scratch_least → (r : Refusal) → r ≡ record { reason = Bench; line = 0 }
+      → ChoiceChecked text code scratch scratch trace trace (numbers_for (Err r))
   unfolding choosable
-  refuses_scratch h l = refuses bench_refusal (omega arith) (rw (lt-ltb code channels h, lt-ltb (length scratch) scratch_least l))
+  refuses_scratch h l = refuses Bench (omega arith) (rw (lt-ltb code channels h, lt-ltb (length scratch) scratch_least l))
 
-  pub refuses_trace : code < channels → length trace < trace_least → ChoiceChecked text code scratch scratch trace trace (numbers_for (Refused bench_refusal 0))
+  pub refuses_trace : code < channels → length trace < trace_least → (r : Refusal) → r ≡ record { reason = Bench; line = 0 }
+      → ChoiceChecked text code scratch scratch trace trace (numbers_for (Err r))
   unfolding choosable
   refuses_trace h l =
-      refuses bench_refusal (omega arith)
+      refuses Bench (omega arith)
       (rw (lt-ltb code channels h, lt-ltb (length trace) trace_least l, or-true (ltb (length scratch) scratch_least)))
 
   -- the first words of the scratch were used and the rest not, and then the first `scratch_least` cleared
@@ -55,7 +63,7 @@ module _ (text : List ℕ) (code : ℕ) (scratch trace : List ℕ) where
       go (refusal number line) w = rw (lt-leb number bench_refusal w.behind)
       go (ok rows) w = refl
 
-  pub answers : (scratch_exit trace_exit used : List ℕ) (n : ℕ) (r : Choice) (w : ℕ) → code < channels → scratch_least ≤ length scratch → trace_least ≤ length trace
+  pub answers : (scratch_exit trace_exit used : List ℕ) (n : ℕ) (r : Result Choice Refusal) (w : ℕ) → code < channels → scratch_least ≤ length scratch → trace_least ≤ length trace
       → length used ≡ n → n ≤ scratch_least → scratch_exit ≡ cleared w (used ++ drop n scratch) → w ≡ scratch_least
       → Judged (choice_answer_for (read_with true text) code) trace trace_exit r
       → ChoiceChecked text code scratch scratch_exit trace trace_exit (numbers_for r)

@@ -11,10 +11,11 @@ ghost use Rattle.choice_answer.specs.Bridge.{numbers_for, numbers_in};
 ghost use Rattle.choice_verdict.specs.Judged.{Judged};
 
 use choice_answer::{Choice, ChoiceCheckAnswer};
-use sheet::Verdict;
+use outcome::Refusal;
+use sheet::Rows;
 
 // A text: it is read once, with A rows let through.
-fn judge(text: &[u8], code: usize, words: &mut [u64], trace: &mut [u8]) -> Choice
+fn judge(text: &[u8], code: usize, words: &mut [u64], trace: &mut [u8]) -> Result<Choice, Refusal>
     requires words_len { length words.old ≡ 2 * messages_most * width }
     requires code_lt_channels { (code < channels) × (trace_least ≤ length trace.old) }
     ensures { Judged (choice_answer_for (read_with true text.now) code) trace.old trace.new result }
@@ -24,39 +25,24 @@ fn judge(text: &[u8], code: usize, words: &mut [u64], trace: &mut [u8]) -> Choic
     let mut two = [0u16; model::ROWS_MOST];
     let mut start = [0u16; model::SHEETS];
     let mut boards = [0u8; model::EVENTS_MOST];
-    let verdict = sheet::read(text, true, &mut kind, &mut one, &mut two, &mut start, words);
-    match verdict {
-        Verdict::Refused(number, line) => Choice::Refused(number, line),
-        Verdict::Rows(count) => {
-            choice_verdict::judge_lists(
-                &kind,
-                &one,
-                &two,
-                count,
-                &start,
-                code,
-                &mut boards,
-                words,
-                trace,
-            )
-        }
-    }
+    let count = sheet::read(text, true, &mut kind, &mut one, &mut two, &mut start, words)?;
+    let rows = Rows {
+        kind: &kind,
+        one: &one,
+        two: &two,
+        count,
+        start: &start,
+    };
+    choice_verdict::judge_lists(&rows, code, &mut boards, words, trace)
 }
 
 // The call: refusals 1 and 2 touch nothing; behind every other answer the scratch is cleared.
-fn check(text: &[u8], code: u32, scratch: &mut [u64], trace: &mut [u8]) -> Choice
+fn check(text: &[u8], code: u32, scratch: &mut [u64], trace: &mut [u8]) -> Result<Choice, Refusal>
     ensures { ChoiceChecked text.now code scratch.old scratch.new trace.old trace.new (numbers_for result) }
 {
-    let channel = code as usize;
-    if model::CHANNELS <= channel {
-        return Choice::Refused(model::CHANNEL, 0);
-    }
-    if scratch.len() < model::SCRATCH_LEAST {
-        return Choice::Refused(model::BENCH, 0);
-    }
-    if trace.len() < model::TRACE_LEAST {
-        return Choice::Refused(model::BENCH, 0);
-    }
+    let channel = lent::channel(code)?;
+    lent::at_least(model::SCRATCH_LEAST, scratch.len())?;
+    lent::at_least(model::TRACE_LEAST, trace.len())?;
     let end = model::SCRATCH_LEAST;
     let answer = judge(text, channel, &mut scratch[..end], trace);
     relation::clear(scratch, model::SCRATCH_LEAST);

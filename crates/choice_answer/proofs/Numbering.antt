@@ -20,10 +20,6 @@ pub record Numbering (list met number k : ℕ) : Type 0 where
   pub inside : k ≤ met
   pub is : number ≡ choices_number (drop k (take met (options_of list)))
 
--- a number known by another name
-pub numbering_as : {list met number joined k : ℕ} → joined ≡ number → Numbering list met number k → Numbering list met joined k
-numbering_as e j = record { inside = j.inside; is = e ∙ j.is }
-
 module _ (list met : ℕ) (short : met ≤ choices_most) where
   abbrev options : List Bool
   options = take met (options_of list)
@@ -42,14 +38,11 @@ module _ (list met : ℕ) (short : met ≤ choices_most) where
         let h : 2 ^ length (drop k options) ≤ 2 ^ choices_most = pow_mono {i = length (drop k options)} {j = choices_most} (omega (arith, length-drop k options, options_long)) in
         omega (arith, j.is, number_below (drop k options))
 
-    pub twice_fits : Fits w64 (2 * number)
+    pub twice_fits : Fits w64 (number * 2)
     twice_fits = omega (arith, small)
 
-    pub more_fits : Fits w64 (2 * number + 1)
+    pub more_fits : Fits w64 (number * 2 + 1)
     more_fits = omega (arith, small)
-
-    pub k_below : 0 < k → k - 1 < choices_most
-    k_below h = omega (arith, j.inside)
 
     module _ (h : 0 < k) where
       one_more : (b : Bool) → b ≡ get_or (options_of list) (k - 1) false → cond b 1 0 + 2 * number ≡ choices_number (drop (k - 1) options)
@@ -61,14 +54,14 @@ module _ (list met : ℕ) (short : met ≤ choices_most) where
           let split : drop (k - 1) options ≡ b ∷ drop k options = drop-cons options (k - 1) false inside ∙ rw (at, next) in
           rw split (ap (λ (n : ℕ). cond b 1 0 + 2 * n) j.is)
 
-      pub numbering_set : (r : Bool) → r ≡ get_or (options_of list) (k - 1) false → r ≡ true → Numbering list met (2 * number + 1) (k - 1)
+      pub numbering_set : (r : Bool) → r ≡ get_or (options_of list) (k - 1) false → r ≡ true → Numbering list met (number * 2 + 1) (k - 1)
       numbering_set r e t =
-          let m : 2 * number + 1 ≡ 1 + 2 * number = omega arith in
+          let m : number * 2 + 1 ≡ 1 + 2 * number = omega arith in
           record { inside = omega (arith, j.inside); is = m ∙ one_more true (sym t ∙ e) }
 
-      pub numbering_clear : (r : Bool) → r ≡ get_or (options_of list) (k - 1) false → r ≡ false → Numbering list met (2 * number) (k - 1)
+      pub numbering_clear : (r : Bool) → r ≡ get_or (options_of list) (k - 1) false → r ≡ false → Numbering list met (number * 2) (k - 1)
       numbering_clear r e t =
-          let m : 2 * number ≡ 0 + 2 * number = omega arith in
+          let m : number * 2 ≡ 0 + 2 * number = omega arith in
           record { inside = omega (arith, j.inside); is = m ∙ one_more false (sym t ∙ e) }
 
     pub numbered : k ≤ 0 → number ≡ choices_number options

@@ -8,14 +8,20 @@ ghost use Rattle.levels.specs.Options.{options_of};
 ghost use Rattle.choice_answer.specs.Bridge.{numbers_for, numbers_in, Small};
 
 use answer_words::checked::{FREE, LOCKED, REFUSED};
+use outcome::Refusal;
 
-// Free; locked, with the race's message and event, the number of steps in the trace, and the first locked list's length and number; or
-// refused, with number and line.
+// Free; or locked, with the race's message and event, the number of steps in the trace, and the first locked list's length and number.
+// An enum and no option: free is an answer of its own.
 #[derive(Clone, Copy)]
 pub enum Choice {
     Free,
-    Locked(usize, usize, usize, usize, usize),
-    Refused(u8, usize),
+    Locked {
+        message: usize,
+        event: usize,
+        steps: usize,
+        met: usize,
+        number: usize,
+    },
 }
 
 // word 0 free, 1 locked (one is the message, two the event, three the steps; length and choices are the first locked list's), 2 refused
@@ -32,12 +38,12 @@ pub struct ChoiceCheckAnswer {
 }
 
 // The answer's numbers. Each fits 32 bits.
-pub fn numbers(answer: Choice) -> ChoiceCheckAnswer
+pub fn numbers(answer: Result<Choice, Refusal>) -> ChoiceCheckAnswer
     requires { Small (numbers_for answer) }
     ensures { numbers_in result ≡ numbers_for answer }
 {
     match answer {
-        Choice::Free => ChoiceCheckAnswer {
+        Ok(Choice::Free) => ChoiceCheckAnswer {
             word: FREE,
             one: 0,
             two: 0,
@@ -45,26 +51,30 @@ pub fn numbers(answer: Choice) -> ChoiceCheckAnswer
             length: 0,
             choices: 0,
         },
-        Choice::Locked(message, event, steps, met, number) => {
-            ChoiceCheckAnswer {
-                word: LOCKED,
-                one: message as u32,
-                two: event as u32,
-                three: steps as u32,
-                length: met as u32,
-                choices: number as u32,
-            }
-        }
-        Choice::Refused(number, line) => {
-            ChoiceCheckAnswer {
-                word: REFUSED,
-                one: number as u32,
-                two: line as u32,
-                three: 0,
-                length: 0,
-                choices: 0,
-            }
-        }
+        Ok(
+            Choice::Locked {
+                message,
+                event,
+                steps,
+                met,
+                number,
+            },
+        ) => ChoiceCheckAnswer {
+            word: LOCKED,
+            one: message as u32,
+            two: event as u32,
+            three: steps as u32,
+            length: met as u32,
+            choices: number as u32,
+        },
+        Err(refusal) => ChoiceCheckAnswer {
+            word: REFUSED,
+            one: refusal.reason.number(),
+            two: refusal.line as u32,
+            three: 0,
+            length: 0,
+            choices: 0,
+        },
     }
 }
 
@@ -74,13 +84,11 @@ pub fn choices_of(list: usize, met: usize) -> usize
     ensures { result ≡ choices_number (take met (options_of list)) }
 {
     let mut number = 0;
-    let mut k = met;
-    while 0 < k {
-        number = 2 * number;
-        if levels::takes_second(list, k - 1) {
+    for k in (0..met).rev() {
+        number *= 2;
+        if levels::takes_second(list, k) {
             number += 1;
         }
-        k -= 1;
     }
     number
 }

@@ -3,11 +3,9 @@
 use Prim.Native.Nat.{ℕ, ◌+◌, ◌-◌, ◌*◌, ◌^◌, ◌<◌, ◌≤◌}
 use native.Mathlib.Omega.{arith}
 use mathlib.Core.Path.{◌≡◌, refl, sym, ◌∙◌, ap, subst}
-use mathlib.Core.Bool.{Bool, true, false, cond}
+use mathlib.Core.Bool.{Bool}
 use mathlib.Core.List.{List, [], ◌∷◌}
 use mathlib.Core.Option.{Option, none, some}
-use borrow.Author.Tests.{eqb-true, eqb-false, ne_eqb}
-use lib.Dec.{eqb}
 use lib.ListN.{length}
 use lib.Pow.{pow_pos}
 use Rattle.model.specs.Limits.{choices_most, lists_most, messages_most}
@@ -30,17 +28,17 @@ use Rattle.sheet.specs.Bridge.{rows_of}
 use Rattle.blocks.specs.Store.{counted_with}
 use Rattle.levels.specs.Options.{options_of}
 use Rattle.race.specs.declared.Rule.{Rule}
-use Rattle.lowest_race.specs.declared.Lowest.{Lowest}
-use Rattle.lowest_race.specs.declared.Lowest.TheVariants as lowest
+use Rattle.std.specs.Prelude as std
+use Rattle.std.specs.Prelude.{Result, Ok, Err, Some, None}
+use Rattle.outcome.specs.declared.Refusal.{Refusal}
+use Rattle.outcome.specs.Refusals.{number_in, refused_in}
 use Rattle.at_or_before.specs.Lent.{Lent}
 use Rattle.race.specs.Bridge.{rule_in}
-use Rattle.lowest_race.specs.Named.{race_in}
 use Rattle.scenario.specs.Contract.{Fit}
 use Rattle.scenario.proofs.Parts.{fit_from}
 use Rattle.expansion.specs.Lent.{RowsRead}
 use Rattle.expansion.specs.Outcome.{counted_of}
 use Rattle.expansion.specs.declared.Counted.{Counted}
-use Rattle.expansion.specs.declared.Counted.TheVariants.{Messages, Refused}
 use Rattle.expansion.proofs.Listed.{listed_refused, listed_messages}
 use Rattle.choice_lists.specs.Places.{place_of}
 use Rattle.choice_lists.specs.Walked.{first_from, LockAt, LastList}
@@ -66,24 +64,25 @@ module _ (file : List Row) (l : List Bool) (c : ChoiceList file l) where
       let g : ◌≡◌ {A = Scenario × ℕ} (scenario_of (exchange_of d.0), d.0.walk.choices) (S, n) = cc d.2 in
       sym (ap (λ (p : Scenario × ℕ). p.1) g) ∙ list_count file c.beginning d.0 d.1
 
-  module _ (at : ℕ) (place : at ≡ place_of l) (boards words : List ℕ) (r : Counted) (h : counted_of r boards words ≡ counted_with (options_of at) file) where
+  module _ (at : ℕ) (place : at ≡ place_of l) (boards words : List ℕ) (r : Result Counted Refusal) (h : counted_of r boards words ≡ counted_with (options_of at) file) where
     counted : counted_of r boards words ≡ counted_with l file
     counted = h ∙ ap (λ (k : ℕ). counted_with (options_of k) file) place ∙ same_walk
 
-    pub list_refused : (number line : ℕ) → r ≡ Refused number line → expanded_with l file ≡ refusal number line
-    list_refused number line i = sym (listed_refused boards words r l file counted number line i)
+    pub list_refused : (e : Refusal) → r ≡ Err e → expanded_with l file ≡ refused_in e
+    list_refused e i = sym (listed_refused boards words r l file counted e i)
 
-    module _ (count met : ℕ) (i : r ≡ Messages count met) where
-      pub list_scenario : expanded_with l file ≡ ok (scenario_in count boards words)
-      list_scenario = sym (listed_messages boards words r l file counted count met i)
+    module _ (m : Counted) (i : r ≡ Ok m) where
+      abbrev T : Scenario
+      T = scenario_in m.messages boards words
 
-      pub list_met : met ≡ length l
-      list_met = counted_choices (scenario_in count boards words) met (sym counted ∙ ap (λ (q : Counted). counted_of q boards words) i)
+      pub list_scenario : expanded_with l file ≡ ok T
+      list_scenario = sym (listed_messages boards words r l file counted m i)
 
-      pub list_fit : Fits [] file → length boards ≡ 2 * messages_most → length words ≡ 2 * messages_most * width → Fit count boards words
-      list_fit fits b w =
-          fit_from count boards words b w (walk_count l file fits (scenario_in count boards words) list_scenario)
-          (walk_boards l file fits (scenario_in count boards words) list_scenario)
+      pub list_met : m.choices ≡ length l
+      list_met = counted_choices T m.choices (sym counted ∙ ap (λ (q : Result Counted Refusal). counted_of q boards words) i)
+
+      pub list_fit : Fits [] file → length boards ≡ 2 * messages_most → length words ≡ 2 * messages_most * width → Fit m.messages boards words
+      list_fit fits b w = fit_from m.messages boards words b w (walk_count l file fits T list_scenario) (walk_boards l file fits T list_scenario)
 
 -- the answer over a list and those behind it, by the scenario of the first
 module _ (file : List Row) (code : ℕ) (l : List Bool) (ls : List (List Bool)) where
@@ -127,63 +126,64 @@ pub rows_fit : (kind one two : List ℕ) (count : ℕ) (start : List ℕ) → Ro
 rows_fit kind one two count start lent = read_fits lent.read.0 lent.read.1 (rows_of kind one two count) lent.read.2
 
 module _ (file : List Row) (code : ℕ) where
-  pub record Judging (at first : ℕ) : Type 0 where
+  pub record Judging (at : ℕ) (first : std.Option ℕ) : Type 0 where
     pub options : List Bool
     pub behind : List (List Bool)
     pub is_list : ChoiceList file options
     pub place : at ≡ place_of options
     pub tiles : Tiles file (at + 2 ^ (choices_most - length options)) behind
     pub refusals : refusal_in file (lists_of file) ≡ refusal_in file (options ∷ behind)
-    pub known : first ≡ lists_most → lock_in file code (lists_of file) ≡ lock_in file code (options ∷ behind)
-    pub ahead : (first ≡ lists_most → ⊥) → LockAt file code first
+    pub known : first ≡ None → lock_in file code (lists_of file) ≡ lock_in file code (options ∷ behind)
+    pub ahead : (k : ℕ) → first ≡ Some k → LockAt file code k
 
-  from_tiles : (at first : ℕ) (ls : List (List Bool)) → Tiles file at ls → (at ≡ lists_most → ⊥) → refusal_in file (lists_of file) ≡ refusal_in file ls
-      → (first ≡ lists_most → lock_in file code (lists_of file) ≡ lock_in file code ls) → ((first ≡ lists_most → ⊥) → LockAt file code first) → Judging at first
+  from_tiles : (at : ℕ) (first : std.Option ℕ) (ls : List (List Bool)) → Tiles file at ls → (at ≡ lists_most → ⊥) → refusal_in file (lists_of file) ≡ refusal_in file ls
+      → (first ≡ None → lock_in file code (lists_of file) ≡ lock_in file code ls) → ((k : ℕ) → first ≡ Some k → LockAt file code k) → Judging at first
   from_tiles at first [] t n r k a = absurd (n t)
   from_tiles at first (l ∷ ls) t n r k a =
       record { options = l; behind = ls; is_list = t.0; place = t.1; tiles = t.2; refusals = r; known = k; ahead = a }
 
-  pub judging_start : Judging 0 lists_most
+  pub judging_start : Judging 0 None
   judging_start =
-      from_tiles 0 lists_most (lists_of file) (tiles_all file) (λ e. omega arith) refl (λ e. refl) (λ n. absurd (n refl))
+      from_tiles 0 None (lists_of file) (tiles_all file) (λ e. omega arith) refl (λ e. refl) (λ k e. let z : ⊥ = cc e in absurd z)
 
-  module _ (at first : ℕ) (j : Judging at first) (boards words : List ℕ) (r : Counted) (h : counted_of r boards words ≡ counted_with (options_of at) file) where
-    pub at_below : at < lists_most
-    at_below = omega (arith, j.place, place_below choices_most j.options)
+  pub at_below : (at : ℕ) (first : std.Option ℕ) → Judging at first → at < lists_most
+  at_below at first j = omega (arith, j.place, place_below choices_most j.options)
 
-    pub judging_refused : (number line : ℕ) → r ≡ Refused number line → refusal_in file (lists_of file) ≡ some (number, line)
-    judging_refused number line i =
-        j.refusals ∙ refusal_here file code j.options j.behind number line
-        (list_refused file j.options j.is_list at j.place boards words r h number line i)
+  module _ (at : ℕ) (first : std.Option ℕ) (j : Judging at first) (boards words : List ℕ) (r : Result Counted Refusal)
+      (h : counted_of r boards words ≡ counted_with (options_of at) file) where
+    pub judging_refused : (e : Refusal) → r ≡ Err e → refusal_in file (lists_of file) ≡ some (number_in e.reason, e.line)
+    judging_refused e i =
+        j.refusals ∙ refusal_here file code j.options j.behind (number_in e.reason) e.line
+        (list_refused file j.options j.is_list at j.place boards words r h e i)
 
-    module _ (count met : ℕ) (i : r ≡ Messages count met) where
+    module _ (m : Counted) (i : r ≡ Ok m) where
       abbrev S : Scenario
-      S = scenario_in count boards words
+      S = scenario_in m.messages boards words
 
       is_scenario_holds : expanded_with j.options file ≡ ok S
-      is_scenario_holds = list_scenario file j.options j.is_list at j.place boards words r h count met i
+      is_scenario_holds = list_scenario file j.options j.is_list at j.place boards words r h m i
 
-      is_met : met ≡ length j.options
-      is_met = list_met file j.options j.is_list at j.place boards words r h count met i
+      is_met : m.choices ≡ length j.options
+      is_met = list_met file j.options j.is_list at j.place boards words r h m i
 
-      pub met_most : met ≤ choices_most
+      pub met_most : m.choices ≤ choices_most
       met_most = omega (arith, is_met, beginning_most file j.is_list.beginning)
 
       module _ (fits : Fits [] file) (b : length boards ≡ 2 * messages_most) (w : length words ≡ 2 * messages_most * width) where
-        fit : Fit count boards words
-        fit = list_fit file j.options j.is_list at j.place boards words r h count met i fits b w
+        fit : Fit m.messages boards words
+        fit = list_fit file j.options j.is_list at j.place boards words r h m i fits b w
 
-        pub race_lent : Lent count boards words
+        pub race_lent : Lent m.messages boards words
         race_lent =
-            let few : count ≤ messages_most = fit.few in
+            let few : m.messages ≤ messages_most = fit.few in
             record { boards_long = omega arith; words_long = omega arith; row_long = omega arith; boards_below = fit.boards_below }
 
-        module _ (next : ℕ) (n : next ≡ at + 2 ^ (choices_most - met)) where
+        module _ (next : ℕ) (n : next ≡ at + 2 ^ (choices_most - m.choices)) where
           behind_tiles : Tiles file next j.behind
           behind_tiles = subst (λ (k : ℕ). Tiles file k j.behind) (ap (λ (m : ℕ). at + 2 ^ (choices_most - m)) (sym is_met) ∙ sym n) j.tiles
 
           -- the last list
-          pub judging_last : next ≡ lists_most → LastList file code boards words at count met first
+          pub judging_last : next ≡ lists_most → LastList file code boards words (record { list = at; messages = m.messages; met = m.choices; first = first })
           unfolding refusal_in
           judging_last e =
               let none-behind : j.behind ≡ [] = tiles_end file next j.behind behind_tiles e in
@@ -205,59 +205,41 @@ module _ (file : List Row) (code : ℕ) where
 
           -- one list more
           pub next_less : lists_most - next < lists_most - at
-          next_less = omega (arith, pow_pos (choices_most - met), at_below)
+          next_less = omega (arith, pow_pos (choices_most - m.choices), at_below at first j)
 
-          module _ (more : next ≡ lists_most → ⊥) (rule : Rule) (same : rule_in rule ≡ race_rule_of code) (first' : ℕ)
+          module _ (more : next ≡ lists_most → ⊥) (rule : Rule) (same : rule_in rule ≡ race_rule_of code) (first' : std.Option ℕ)
               (f : first' ≡ first_from first at (lowest_race S (rule_in rule))) where
             -- whether a list ahead is locked, or this one
             pub judging_next : Judging next first'
-            unfolding first_from
             judging_next =
-                let p = go (eqb first lists_most) refl (lowest_race S (race_rule_of code)) refl (f ∙ ap (λ q. first_from first at (lowest_race S q)) same) in
+                let p = go first refl (lowest_race S (race_rule_of code)) refl (f ∙ ap (λ q. first_from first at (lowest_race S q)) same) in
                 from_tiles next first' j.behind behind_tiles more (j.refusals ∙ refusal_on file code j.options j.behind S is_scenario_holds) p.0 p.1
               where
                 Both : Type 0
-                Both = (first' ≡ lists_most → lock_in file code (lists_of file) ≡ lock_in file code j.behind) × ((first' ≡ lists_most → ⊥) → LockAt file code first')
+                Both = (first' ≡ None → lock_in file code (lists_of file) ≡ lock_in file code j.behind) × ((k : ℕ) → first' ≡ Some k → LockAt file code k)
 
-                here : first ≡ lists_most → (o : Option (ℕ × ℕ)) → lowest_race S (race_rule_of code) ≡ o → first' ≡ elim o [ none ↦ lists_most | some r ↦ at ] → Both
-                here k none e g = (
-                  λ d. j.known k ∙ lock_on file code j.options j.behind S is_scenario_holds (verdict_by S code none e),
-                  λ d. absurd (d g),
+                go : (o : std.Option ℕ) → first ≡ o → (race : Option (ℕ × ℕ)) → lowest_race S (race_rule_of code) ≡ race
+                    → first' ≡ first_from o at race → Both
+                go (Some k) i race e g = (
+                  λ d. let z : ⊥ = cc (d, g) in absurd z,
+                  λ k' d. let same : k ≡ k' = cc (d, g) in subst (LockAt file code) same (j.ahead k i),
                 )
-                here k (some race) e g = (
-                  λ d. absurd (omega (arith, at_below, g)),
-                  λ d. record {
+                go None i none e g = (
+                  λ d. j.known i ∙ lock_on file code j.options j.behind S is_scenario_holds (verdict_by S code none e),
+                  λ k d. let z : ⊥ = cc (d, g) in absurd z,
+                )
+                go None i (some race) e g = (
+                  λ d. let z : ⊥ = cc (d, g) in absurd z,
+                  λ k d. let here : k ≡ at = cc (d, g) in record {
                     options = j.options;
                     is_list = j.is_list;
-                    place = g ∙ j.place;
+                    place = here ∙ j.place;
                     scenario = S;
                     is_scenario = is_scenario_holds;
                     message = race.0;
                     event = race.1;
                     steps = schedule S (channel_of code) race.0;
                     is_locked = verdict_by S code (some race) e;
-                    lock = j.known k ∙ lock_here file code j.options j.behind S race.0 race.1 _ is_scenario_holds (verdict_by S code (some race) e);
+                    lock = j.known i ∙ lock_here file code j.options j.behind S race.0 race.1 _ is_scenario_holds (verdict_by S code (some race) e);
                   },
                 )
-
-                go : (b : Bool) → eqb first lists_most ≡ b → (o : Option (ℕ × ℕ)) → lowest_race S (race_rule_of code) ≡ o
-                    → first' ≡ cond b (elim o [ none ↦ lists_most | some r ↦ at ]) first → Both
-                go true k o e g = here (eqb-true first lists_most k) o e g
-                go false k o e g =
-                    let n : first ≡ lists_most → ⊥ = eqb-false first lists_most k in
-                    (λ d. absurd (n (sym g ∙ d)), λ d. subst (LockAt file code) (sym g) (j.ahead n))
-
--- the search for a race while none is known
-module _ (first list : ℕ) (o : Option (ℕ × ℕ)) where
-  pub first_known : (first ≡ lists_most → ⊥) → first ≡ first_from first list o
-  unfolding first_from
-  first_known n = rw (ne_eqb first lists_most n)
-
-  module _ (e : first ≡ lists_most) where
-    pub first_none : (v : Lowest) → race_in v ≡ o → v ≡ lowest.Nothing → lists_most ≡ first_from first list o
-    unfolding first_from
-    first_none v f i = let g : none ≡ o = sym (ap race_in i) ∙ f in rw (e, ← g)
-
-    pub first_here : (v : Lowest) → race_in v ≡ o → (m x : ℕ) → v ≡ lowest.Race m x → list ≡ first_from first list o
-    unfolding first_from
-    first_here v f m x i = let g : some (m, x) ≡ o = sym (ap race_in i) ∙ f in rw (e, ← g)

@@ -1,7 +1,7 @@
 -- What the way through all lists of a file hands on. Assumes nothing.
-use Rattle.std.specs.Prelude.{ℕ, ◌≡◌, Bool, cond, List, [], ◌∷◌, eqb, length}
+use Rattle.std.specs.Prelude as std
+use Rattle.std.specs.Prelude.{ℕ, ◌≡◌, Bool, List, [], ◌∷◌, length, Result, Ok, Err, Some, None}
 use Rattle.std.proofs.Math.Option.{Option, none, some}
-use Rattle.model.specs.Limits.{lists_most}
 use Rattle.model.specs.Refusal.{ok}
 use Rattle.model.specs.Rows.{Row}
 use Rattle.model.specs.Order.{Scenario}
@@ -12,11 +12,14 @@ use Rattle.relation.specs.Scenario.{scenario_in}
 use Rattle.scenario.specs.Contract.{Fit}
 use Rattle.choice_lists.specs.Places.{place_of}
 use Rattle.choice_lists.specs.declared.Walked.{Walked}
-use Rattle.choice_lists.specs.declared.Walked.TheVariants.{Last, Refused}
+use Rattle.outcome.specs.declared.Refusal.{Refusal}
+use Rattle.outcome.specs.Refusals.{number_in}
 
--- the first locked list behind this one, whose scenario has the lowest race given, or none; 256 is no list
-unfoldable pub first_from : ℕ → ℕ → Option (ℕ × ℕ) → ℕ
-first_from first list race = cond (eqb first lists_most) (elim race [ none ↦ lists_most | some r ↦ list ]) first
+-- the first locked list, this one and those ahead of it taken together: the one known, or this one if its scenario has the lowest race given
+abbrev pub first_from : std.Option ℕ → ℕ → Option (ℕ × ℕ) → std.Option ℕ
+first_from (Some k) list race = Some k
+first_from None list none = None
+first_from None list (some r) = Some list
 
 module _ (file : List Row) (code : ℕ) where
   -- the first locked list of the file, by its place
@@ -34,18 +37,18 @@ module _ (file : List Row) (code : ℕ) where
 
   -- the last list of the file, none being refused: its place and length, its scenario in boards and words, and the first locked list
   -- ahead of it
-  pub record LastList (boards words : List ℕ) (list count met first : ℕ) : Type 0 where
+  pub record LastList (boards words : List ℕ) (w : Walked) : Type 0 where
     pub options : List Bool
     pub is_list : ChoiceList file options
-    pub place : list ≡ place_of options
-    pub size : met ≡ length options
-    pub scenario : expanded_with options file ≡ ok (scenario_in count boards words)
-    pub fit : Fit count boards words
+    pub place : w.list ≡ place_of options
+    pub size : w.met ≡ length options
+    pub scenario : expanded_with options file ≡ ok (scenario_in w.messages boards words)
+    pub fit : Fit w.messages boards words
     pub unrefused : refusal_in file (lists_of file) ≡ none
-    pub last_decides : first ≡ lists_most → lock_in file code (lists_of file) ≡ lock_in file code (options ∷ [])
-    pub locked_ahead : (first ≡ lists_most → ⊥) → LockAt first
+    pub last_decides : w.first ≡ None → lock_in file code (lists_of file) ≡ lock_in file code (options ∷ [])
+    pub locked_ahead : (first : ℕ) → w.first ≡ Some first → LockAt first
 
   -- all were walked, or the first refused one's refusal
-  abbrev pub WalkedAs : List ℕ → List ℕ → Walked → Type 0
-  WalkedAs boards words (Last list count met first) = LastList boards words list count met first
-  WalkedAs boards words (Refused number line) = refusal_in file (lists_of file) ≡ some (number, line)
+  abbrev pub WalkedAs : List ℕ → List ℕ → Result Walked Refusal → Type 0
+  WalkedAs boards words (Ok w) = LastList boards words w
+  WalkedAs boards words (Err r) = refusal_in file (lists_of file) ≡ some (number_in r.reason, r.line)

@@ -6,25 +6,27 @@ ghost use Rattle.model.specs.Limits.{channels, choices_most, lists_most, message
 ghost use Rattle.model.specs.Race.{lowest_race};
 ghost use Rattle.relation.specs.Width.{width};
 ghost use Rattle.relation.specs.Scenario.{scenario_in};
-ghost use Rattle.sheet.specs.Bridge.{rows_of};
+ghost use Rattle.sheet.specs.Columns.{rows_in};
 ghost use Rattle.at_or_before.specs.Lent.{Lent};
 ghost use Rattle.race.specs.Bridge.{rule_in};
-ghost use Rattle.expansion.specs.Lent.{RowsRead};
+ghost use Rattle.expansion.specs.Lent.{AreLent};
 ghost use Rattle.choice_lists.specs.Walked.{first_from, WalkedAs};
 
-use expansion::Counted;
-use lowest_race::Lowest;
+use outcome::Refusal;
 use race::Rule;
+use sheet::Rows;
 
 // The lists of eight options are numbers, A row 0 the highest bit, so that they come in their order. This many is behind the last.
-pub const LISTS: usize = 1 << model::CHOICES_MOST;
+const LISTS: usize = 1 << model::CHOICES_MOST;
 
 // All lists were walked: the last one's number, its messages, which are in boards and words, the A rows that it met, and the number of
-// the first locked list ahead of it, or LISTS. Or the refusal's number and line.
+// the first locked list ahead of it, if there is one.
 #[derive(Clone, Copy)]
-pub enum Walked {
-    Last(usize, usize, usize, usize),
-    Refused(u8, usize),
+pub struct Walked {
+    pub list: usize,
+    pub messages: usize,
+    pub met: usize,
+    pub first: Option<usize>,
 }
 
 // Where the list behind one of so many options begins.
@@ -42,54 +44,47 @@ fn first_locked(
     boards: &[u8],
     count: usize,
     rule: Rule,
-    first: usize,
+    first: Option<usize>,
     list: usize,
-) -> usize
+) -> Option<usize>
     requires { Lent count boards.now words.now }
     ensures { result ≡ first_from first list (lowest_race (scenario_in count boards.now words.now) (rule_in rule)) }
 {
-    if first != LISTS {
+    if first.is_some() {
         return first;
     }
-    let lowest = lowest_race::lowest_race(words, boards, count, rule);
-    match lowest {
-        Lowest::Nothing => LISTS,
-        Lowest::Race(_, _) => list,
-    }
+    lowest_race::lowest_race(words, boards, count, rule).map(|_| list)
 }
 
 // Every list is walked; a refusal ends it at once, as it is the first refused list's.
 pub fn walk_lists(
-    kind: &[u8],
-    one: &[u16],
-    two: &[u16],
-    count: usize,
-    start: &[u16],
+    rows: &Rows,
     code: usize,
     boards: &mut [u8],
     words: &mut [u64],
-) -> Walked
-    requires rows_read { RowsRead kind.now one.now two.now count start.now }
+) -> Result<Walked, Refusal>
+    requires rows_read { AreLent rows.now }
     requires code_lt_channels { code < channels }
     requires boards_len { length boards.old ≡ 2 * messages_most }
     requires words_len { length words.old ≡ 2 * messages_most * width }
-    ensures { WalkedAs (rows_of kind.now one.now two.now count) code boards.new words.new result }
+    ensures { WalkedAs (rows_in rows.now) code boards.new words.new result }
 {
     let rule = race::rule_of(code);
-    let mut first = LISTS;
+    let mut first = None;
     let mut list = 0;
+    // Not a `for`: the A rows that a list meets say which list is next.
     loop {
-        let counted = expansion::expand_list(kind, one, two, count, start, list, boards, words);
-        match counted {
-            Counted::Refused(number, line) => return Walked::Refused(number, line),
-            Counted::Messages(messages, met) => {
-                let behind = next_list(list, met);
-                if behind == LISTS {
-                    return Walked::Last(list, messages, met, first);
-                }
-                first = first_locked(words, boards, messages, rule, first, list);
-                list = behind;
-            }
+        let counted = expansion::expand_list(rows, list, boards, words)?;
+        let behind = next_list(list, counted.choices);
+        if behind == LISTS {
+            return Ok(Walked {
+                list,
+                messages: counted.messages,
+                met: counted.choices,
+                first,
+            });
         }
+        first = first_locked(words, boards, counted.messages, rule, first, list);
+        list = behind;
     }
 }

@@ -6,7 +6,7 @@ use mathlib.Core.Bool.{Bool}
 use mathlib.Core.List.{List, [], ◌∷◌}
 use mathlib.Core.Option.{Option, none, some}
 use lib.ListN.{length, take}
-use Rattle.model.specs.Limits.{choices_most, lists_most, messages_most}
+use Rattle.model.specs.Limits.{choices_most, messages_most}
 use Rattle.model.specs.Refusal.{Out, ok}
 use Rattle.model.specs.Rows.{Row}
 use Rattle.model.specs.Order.{Scenario}
@@ -25,84 +25,72 @@ use Rattle.scenario.specs.Contract.{Fit}
 use Rattle.expansion.specs.Lent.{RowsRead}
 use Rattle.expansion.specs.Outcome.{counted_of}
 use Rattle.expansion.specs.declared.Counted.{Counted}
-use Rattle.expansion.specs.declared.Counted.TheVariants as counted
-use Rattle.verdict.specs.declared.Answer.{Answer}
-use Rattle.verdict.specs.declared.Answer.TheVariants as answer
+use Rattle.std.specs.Prelude.{Result, Ok, Err, None}
+use Rattle.outcome.specs.declared.Refusal.{Refusal}
+use Rattle.outcome.specs.Refusals.{number_in}
+use Rattle.verdict.specs.declared.Verdict.{Verdict}
+use Rattle.verdict.specs.declared.Verdict.TheVariants as verdict
 use Rattle.verdict.specs.Parts as parts
 use Rattle.verdict.specs.Parts.{Decides}
 use Rattle.choice_lists.specs.Places.{place_of}
-use Rattle.choice_lists.specs.Walked.{LockAt, LastList, WalkedAs}
+use Rattle.choice_lists.specs.Walked.{LockAt, LastList}
 use Rattle.choice_lists.specs.declared.Walked.{Walked}
-use Rattle.choice_lists.specs.declared.Walked.TheVariants as walked
 use Rattle.choice_lists.proofs.Places.{options_taken}
 use Rattle.choice_lists.proofs.Judging.{list_refused, list_scenario, list_met, list_fit, lock_on, lock_here, verdict_by, rows_fit}
 use Rattle.choice_verdict.specs.Judged.{answer_on, Judged}
 use Rattle.choice_answer.specs.declared.Choice.{Choice}
-use Rattle.choice_answer.specs.declared.Choice.TheVariants.{Free, Locked, Refused}
+use Rattle.choice_answer.specs.declared.Choice.TheVariants.{Free, Locked}
 use Rattle.choice_answer.proofs.Numbering.{options_long}
 
 -- The verdict on a list's scenario, case by case.
-module _ (l : List Bool) (S : Scenario) (code : ℕ) (trace trace_exit : List ℕ) (a : Answer) (d : Decides (ok S) code trace trace_exit a) where
-  abbrev Answered : model.Answer → Answer → Type 0
-  Answered v b = (parts.numbers_for b ≡ model.numbers_of v) × (trace_exit ≡ trace_after v trace)
+module _ (l : List Bool) (S : Scenario) (code : ℕ) (trace trace_exit : List ℕ) where
+  abbrev Answered : model.Answer → Verdict → Type 0
+  Answered v b = (parts.numbers_for (Ok b) ≡ model.numbers_of v) × (trace_exit ≡ trace_after v trace)
 
-  answered : (b : Answer) → a ≡ b → Answered (verdict_of S code) b
+  answered : (b : Verdict) → Decides (ok S) code trace trace_exit (Ok b) → Answered (verdict_of S code) b
   unfolding answer_for
-  answered b i = (ap parts.numbers_for (sym i) ∙ d.answer, d.trace_left)
+  answered b d = (d.answer, d.trace_left)
 
-  word : (b : Answer) (v : model.Answer) → Answered v b → (parts.numbers_for b).word ≡ (model.numbers_of v).word
+  word : (b : Verdict) (v : model.Answer) → Answered v b → (parts.numbers_for (Ok b)).word ≡ (model.numbers_of v).word
   word b v p = ap (λ n. n.word) p.0
 
-  pub decided_free : a ≡ answer.Free → Judged (answer_on l (verdict_of S code)) trace trace_exit Free
+  pub decided_free : Decides (ok S) code trace trace_exit (Ok verdict.Free) → Judged (answer_on l (verdict_of S code)) trace trace_exit (Ok Free)
   unfolding trace_chosen trace_after
-  decided_free i = go (verdict_of S code) (answered answer.Free i)
+  decided_free d = go (verdict_of S code) (answered verdict.Free d)
     where
-      go : (v : model.Answer) → Answered v answer.Free → Judged (answer_on l v) trace trace_exit Free
+      go : (v : model.Answer) → Answered v verdict.Free → Judged (answer_on l v) trace trace_exit (Ok Free)
       go model.free p = record { answer = refl; trace_left = p.1 }
-      go (model.locked e x ts) p = absurd (omega (arith, word answer.Free (model.locked e x ts) p))
-      go (model.refused number line) p = absurd (omega (arith, word answer.Free (model.refused number line) p))
+      go (model.locked e x ts) p = absurd (omega (arith, word verdict.Free (model.locked e x ts) p))
+      go (model.refused number line) p = absurd (omega (arith, word verdict.Free (model.refused number line) p))
 
-  pub decided_refused : (number line : ℕ) → a ≡ answer.Refused number line → Judged (answer_on l (verdict_of S code)) trace trace_exit (Refused number line)
+  decided_locked : (e x steps met number : ℕ) → Decides (ok S) code trace trace_exit (Ok (verdict.Locked e x steps)) → met ≡ length l → number ≡ choices_number l
+      → Judged (answer_on l (verdict_of S code)) trace trace_exit (Ok (Locked e x steps met number))
   unfolding trace_chosen trace_after
-  decided_refused number line i = go (verdict_of S code) (answered (answer.Refused number line) i)
+  decided_locked e x steps met number d m c = go (verdict_of S code) (answered (verdict.Locked e x steps) d)
     where
-      go : (v : model.Answer) → Answered v (answer.Refused number line) → Judged (answer_on l v) trace trace_exit (Refused number line)
-      go model.free p = absurd (omega (arith, word (answer.Refused number line) model.free p))
-      go (model.locked e x ts) p = absurd (omega (arith, word (answer.Refused number line) (model.locked e x ts) p))
-      go (model.refused n k) p =
-          let one : number ≡ n = ap (λ q. q.one) p.0 in
-          let two : line ≡ k = ap (λ q. q.two) p.0 in
-          record { answer = rw (one, two); trace_left = p.1 }
-
-  pub decided_locked : (e x steps met number : ℕ) → a ≡ answer.Locked e x steps → met ≡ length l → number ≡ choices_number l
-      → Judged (answer_on l (verdict_of S code)) trace trace_exit (Locked e x steps met number)
-  unfolding trace_chosen trace_after
-  decided_locked e x steps met number i m c = go (verdict_of S code) (answered (answer.Locked e x steps) i)
-    where
-      go : (v : model.Answer) → Answered v (answer.Locked e x steps) → Judged (answer_on l v) trace trace_exit (Locked e x steps met number)
-      go model.free p = absurd (omega (arith, word (answer.Locked e x steps) model.free p))
+      go : (v : model.Answer) → Answered v (verdict.Locked e x steps) → Judged (answer_on l v) trace trace_exit (Ok (Locked e x steps met number))
+      go model.free p = absurd (omega (arith, word (verdict.Locked e x steps) model.free p))
       go (model.locked f y ts) p =
           let one : e ≡ f = ap (λ q. q.one) p.0 in
           let two : x ≡ y = ap (λ q. q.two) p.0 in
           let three : steps ≡ length ts = ap (λ q. q.three) p.0 in
           record { answer = rw (one, two, three, m, c); trace_left = p.1 }
-      go (model.refused n k) p = absurd (omega (arith, word (answer.Locked e x steps) (model.refused n k) p))
+      go (model.refused n k) p = absurd (omega (arith, word (verdict.Locked e x steps) (model.refused n k) p))
 
 -- as `decide_list` needs it, which has the list's place and length
-module _ (list met : ℕ) (short : met ≤ choices_most) (S : Scenario) (code : ℕ) (trace trace_exit : List ℕ) (a : Answer)
-    (d : Decides (ok S) code trace trace_exit a) where
-  pub list_locked : (e x steps number : ℕ) → a ≡ answer.Locked e x steps → number ≡ choices_number (take met (options_of list))
-      → Judged (answer_on (take met (options_of list)) (verdict_of S code)) trace trace_exit (Locked e x steps met number)
-  list_locked e x steps number i c =
-      decided_locked (take met (options_of list)) S code trace trace_exit a d e x steps met number i (sym (options_long list met short)) c
+module _ (list met : ℕ) (short : met ≤ choices_most) (S : Scenario) (code : ℕ) (trace trace_exit : List ℕ) where
+  pub list_locked : (e x steps number : ℕ) → Decides (ok S) code trace trace_exit (Ok (verdict.Locked e x steps)) → number ≡ choices_number (take met (options_of list))
+      → Judged (answer_on (take met (options_of list)) (verdict_of S code)) trace trace_exit (Ok (Locked e x steps met number))
+  list_locked e x steps number d c =
+      decided_locked (take met (options_of list)) S code trace trace_exit e x steps met number d (sym (options_long list met short)) c
 
 -- an answer known by another name
-judged_as : {a b : ChoiceAnswer} {trace trace_exit : List ℕ} {r : Choice} → a ≡ b → Judged a trace trace_exit r → Judged b trace trace_exit r
+judged_as : {a b : ChoiceAnswer} {trace trace_exit : List ℕ} {r : Result Choice Refusal} → a ≡ b → Judged a trace trace_exit r → Judged b trace trace_exit r
 judged_as {trace = trace} {trace_exit = trace_exit} {r = r} e h = subst (λ (c : ChoiceAnswer). Judged c trace trace_exit r) e h
 
-pub refuses : (number line : ℕ) (trace : List ℕ) → Judged (first_refused number line) trace trace (Refused number line)
+pub refuses : (e : Refusal) (trace : List ℕ) → Judged (first_refused (number_in e.reason) e.line) trace trace (Err e)
 unfolding trace_chosen
-refuses number line trace = record { answer = refl; trace_left = refl }
+refuses e trace = record { answer = refl; trace_left = refl }
 
 -- the options of a list, from its place and length
 list_taken : (l : List Bool) (list met : ℕ) → list ≡ place_of l → met ≡ length l → length l ≤ choices_most → take met (options_of list) ≡ l
@@ -128,77 +116,56 @@ module _ (file : List Row) (code : ℕ) where
       go none i = let v = verdict_by S code none i in ap (answer_on l) v ∙ sym (lock_on file code l [] S e v)
       go (some r) i = let v = verdict_by S code (some r) i in ap (answer_on l) v ∙ sym (lock_here file code l [] S r.0 r.1 _ e v)
 
-  module _ (trace trace_exit : List ℕ) (r : Choice) where
-    -- the last list decides
-    module _ (boards words : List ℕ) (list count met first : ℕ) (h : LastList file code boards words list count met first) where
-      pub last_short : met ≤ choices_most
-      last_short = omega (arith, h.size, beginning_most file h.is_list.beginning)
+  pub walked_refused : (e : Refusal) (trace : List ℕ) → refusal_in file (lists_of file) ≡ some (number_in e.reason, e.line)
+      → Judged (judged_over file code (lists_of file)) trace trace (Err e)
+  walked_refused e trace h = judged_as (sym (over_refused (number_in e.reason) e.line h)) (refuses e trace)
 
-      pub last_decides_holds : first ≡ lists_most → Judged (answer_on (take met (options_of list)) (verdict_of (scenario_in count boards words) code)) trace trace_exit r
-          → Judged (judged_over file code (lists_of file)) trace trace_exit r
-      last_decides_holds f j =
-          let S = scenario_in count boards words in
-          let taken : take met (options_of list) ≡ h.options = list_taken h.options list met h.place h.size (beginning_most file h.is_list.beginning) in
-          judged_as
-          (ap (λ (l : List Bool). answer_on l (verdict_of S code)) taken ∙ alone h.options S h.scenario ∙ sym (h.last_decides f) ∙ sym (over_locks h.unrefused))
-          j
+  module _ (boards words : List ℕ) where
+    module _ (w : Walked) (h : LastList file code boards words w) where
+      pub walked_short : w.met ≤ choices_most
+      walked_short = omega (arith, h.size, beginning_most file h.is_list.beginning)
 
-      pub ahead_decides : Judged (lock_in file code (lists_of file)) trace trace_exit r → Judged (judged_over file code (lists_of file)) trace trace_exit r
-      ahead_decides j = judged_as (sym (over_locks h.unrefused)) j
+      module _ (trace trace_exit : List ℕ) (r : Result Choice Refusal) where
+        -- the last list decides
+        pub walked_decides : w.first ≡ None
+            → Judged (answer_on (take w.met (options_of w.list)) (verdict_of (scenario_in w.messages boards words) code)) trace trace_exit r
+            → Judged (judged_over file code (lists_of file)) trace trace_exit r
+        walked_decides f j =
+            let S = scenario_in w.messages boards words in
+            let taken : take w.met (options_of w.list) ≡ h.options = list_taken h.options w.list w.met h.place h.size (beginning_most file h.is_list.beginning) in
+            judged_as
+            (ap (λ (l : List Bool). answer_on l (verdict_of S code)) taken ∙ alone h.options S h.scenario ∙ sym (h.last_decides f) ∙ sym (over_locks h.unrefused))
+            j
 
--- as the code matches on it
-module _ (file : List Row) (code : ℕ) (boards words : List ℕ) (w : Walked) (h : WalkedAs file code boards words w) where
-  pub walked_refused : (number line : ℕ) (trace : List ℕ) → w ≡ walked.Refused number line
-      → Judged (judged_over file code (lists_of file)) trace trace (Refused number line)
-  walked_refused number line trace i =
-      judged_as (sym (over_refused file code number line (subst (λ (v : Walked). WalkedAs file code boards words v) i h))) (refuses number line trace)
-
-  module _ (list count met first : ℕ) (i : w ≡ walked.Last list count met first) where
-    pub walked_last : LastList file code boards words list count met first
-    walked_last = subst (λ (v : Walked). WalkedAs file code boards words v) i h
-
-    pub walked_fit : Fit count boards words
-    walked_fit = walked_last.fit
-
-    pub walked_short : met ≤ choices_most
-    walked_short = last_short file code boards boards Free boards words list count met first walked_last
-
-    pub walked_locked : (first ≡ lists_most → ⊥) → LockAt file code first
-    walked_locked n = walked_last.locked_ahead n
-
-    pub walked_decides : (trace trace_exit : List ℕ) (r : Choice) → first ≡ lists_most
-        → Judged (answer_on (take met (options_of list)) (verdict_of (scenario_in count boards words) code)) trace trace_exit r
-        → Judged (judged_over file code (lists_of file)) trace trace_exit r
-    walked_decides trace trace_exit r f j = last_decides_holds file code trace trace_exit r boards words list count met first walked_last f j
-
-    pub walked_ahead : (trace trace_exit : List ℕ) (r : Choice) → Judged (lock_in file code (lists_of file)) trace trace_exit r
-        → Judged (judged_over file code (lists_of file)) trace trace_exit r
-    walked_ahead trace trace_exit r j = ahead_decides file code trace trace_exit r boards words list count met first walked_last j
+        -- one ahead of it does
+        pub walked_ahead : Judged (lock_in file code (lists_of file)) trace trace_exit r → Judged (judged_over file code (lists_of file)) trace trace_exit r
+        walked_ahead j = judged_as (sym (over_locks h.unrefused)) j
 
 -- The first locked list, walked once more.
-module _ (file : List Row) (code list : ℕ) (k : LockAt file code list) (boards words : List ℕ) (r : Counted)
+module _ (file : List Row) (code list : ℕ) (k : LockAt file code list) (boards words : List ℕ) (r : Result Counted Refusal)
     (h : counted_of r boards words ≡ counted_with (options_of list) file) where
-  pub lock_refused : {C : Type 0} (number line : ℕ) → r ≡ counted.Refused number line → C
-  lock_refused number line i =
-      not_refused (sym (list_refused file k.options k.is_list list k.place boards words r h number line i) ∙ k.is_scenario)
+  pub lock_refused : {C : Type 0} (e : Refusal) → r ≡ Err e → C
+  lock_refused e i = not_refused (sym (list_refused file k.options k.is_list list k.place boards words r h e i) ∙ k.is_scenario)
 
-  module _ (count met : ℕ) (i : r ≡ counted.Messages count met) where
-    is_scenario_holds : expanded_with k.options file ≡ ok (scenario_in count boards words)
-    is_scenario_holds = list_scenario file k.options k.is_list list k.place boards words r h count met i
+  module _ (m : Counted) (i : r ≡ Ok m) where
+    abbrev S : Scenario
+    S = scenario_in m.messages boards words
 
-    is_met : met ≡ length k.options
-    is_met = list_met file k.options k.is_list list k.place boards words r h count met i
+    is_scenario_holds : expanded_with k.options file ≡ ok S
+    is_scenario_holds = list_scenario file k.options k.is_list list k.place boards words r h m i
 
-    pub lock_short : met ≤ choices_most
+    is_met : m.choices ≡ length k.options
+    is_met = list_met file k.options k.is_list list k.place boards words r h m i
+
+    pub lock_short : m.choices ≤ choices_most
     lock_short = omega (arith, is_met, beginning_most file k.is_list.beginning)
 
-    pub lock_decides : (trace trace_exit : List ℕ) (c : Choice)
-        → Judged (answer_on (take met (options_of list)) (verdict_of (scenario_in count boards words) code)) trace trace_exit c
+    pub lock_decides : (trace trace_exit : List ℕ) (c : Result Choice Refusal)
+        → Judged (answer_on (take m.choices (options_of list)) (verdict_of S code)) trace trace_exit c
         → Judged (lock_in file code (lists_of file)) trace trace_exit c
     lock_decides trace trace_exit c j =
-        let S = scenario_in count boards words in
         let same : S ≡ k.scenario = one k.is_scenario is_scenario_holds in
-        let taken : take met (options_of list) ≡ k.options = list_taken k.options list met k.place is_met (beginning_most file k.is_list.beginning) in
+        let taken : take m.choices (options_of list) ≡ k.options = list_taken k.options list m.choices k.place is_met (beginning_most file k.is_list.beginning) in
         judged_as
         (ap (λ (l : List Bool). answer_on l (verdict_of S code)) taken
         ∙ ap (λ (T : Scenario). answer_on k.options (verdict_of T code)) same
@@ -209,9 +176,9 @@ module _ (file : List Row) (code list : ℕ) (k : LockAt file code list) (boards
         one e d = cc
 
 -- the boards and the words of that list
-pub lock_fit : (kind one two : List ℕ) (count : ℕ) (start : List ℕ) (code list : ℕ) (boards words : List ℕ) (r : Counted) (messages met : ℕ)
-    → LockAt (rows_of kind one two count) code list → counted_of r boards words ≡ counted_with (options_of list) (rows_of kind one two count)
-    → r ≡ counted.Messages messages met → RowsRead kind one two count start → length boards ≡ 2 * messages_most → length words ≡ 2 * messages_most * width
-    → Fit messages boards words
-lock_fit kind one two count start code list boards words r messages met k h i lent b w =
-    list_fit (rows_of kind one two count) k.options k.is_list list k.place boards words r h messages met i (rows_fit kind one two count start lent) b w
+pub lock_fit : (kind one two : List ℕ) (count : ℕ) (start : List ℕ) (code list : ℕ) (boards words : List ℕ) (m : Counted)
+    → LockAt (rows_of kind one two count) code list → counted_of (Ok m) boards words ≡ counted_with (options_of list) (rows_of kind one two count)
+    → RowsRead kind one two count start → length boards ≡ 2 * messages_most → length words ≡ 2 * messages_most * width
+    → Fit m.messages boards words
+lock_fit kind one two count start code list boards words m k h lent b w =
+    list_fit (rows_of kind one two count) k.options k.is_list list k.place boards words (Ok m) h m refl (rows_fit kind one two count start lent) b w

@@ -3,11 +3,10 @@
 
 ghost use Rattle.std.specs.Prelude.{◌≡◌, ◌+◌, ◌*◌, ◌<◌, ◌≤◌, length};
 ghost use Rattle.model.specs.Bounded.{lowest};
+ghost use Rattle.outcome.specs.Options.{found_in};
 ghost use Rattle.relation.specs.Width.{width, word_bits};
-ghost use Rattle.relation.specs.Own.{found_in, is_own};
+ghost use Rattle.relation.specs.Own.{is_own};
 ghost use Rattle.closure.specs.Insertion.{inserted};
-
-use relation::Found;
 
 // Event x is put before event y, and so before every event behind y, among the rows from .. to - 1. The relation is kept closed:
 // where x is before y already, that is all done.
@@ -31,15 +30,15 @@ pub fn insert(words: &mut [u64], x: usize, y: usize, from: usize, to: usize)
 }
 
 // The lowest event that is its own predecessor, if one is.
-pub fn lowest_own(words: &[u64], rows: usize) -> Found
+pub fn lowest_own(words: &[u64], rows: usize) -> Option<usize>
     requires width_in_bounds { rows * width ≤ length words.now }
     requires rows_bound { rows ≤ word_bits * width }
     ensures { found_in result ≡ lowest rows (is_own width words.now) }
 {
     for event in 0..rows {
         if relation::test(words, event, event) {
-            return Found::Event(event);
+            return Some(event);
         }
     }
-    Found::Nothing
+    None
 }

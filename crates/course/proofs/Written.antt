@@ -3,7 +3,7 @@ use mathlib.Core.Path.{◌≡◌, refl, sym, ap, ◌∙◌, subst, subst⁻¹}
 use mathlib.Core.Bool.{Bool, true, false, not, ◌&&◌, ◌||◌, and-true}
 use mathlib.Core.Logic.{⊎_elim}
 use mathlib.Core.List.{List, [], ◌∷◌, ◌++◌}
-use mathlib.Core.Option.{Option, none, some}
+use mathlib.Core.Option.{some}
 use Prim.Native.Nat.{ℕ, suc, ◌+◌, ◌<◌, ◌≤◌}
 use native.Mathlib.Numerals.{add-one}
 use native.Mathlib.Omega.{arith}
@@ -11,7 +11,7 @@ use lib.Dec.{eqb, ltb}
 use lib.ListN.{length, set, drop, length-set}
 use lib.Seq.{set_at, drop-cons, append_snoc}
 use borrow.Author.Tests.{lt-ltb, ltb-true, not-true}
-use Rattle.model.specs.Bounded.{every, among}
+use Rattle.model.specs.Bounded.{every, among, lowest}
 use Rattle.model.specs.Taps.{is_next, course_of}
 use Rattle.model.proofs.Bounded.{and_left, and_right, and_both, which, not_both, every_at, every_from, lowest_none, lowest_hit, lowest_nowhere}
 use Rattle.model.proofs.Closure.{Over, closure_least}
@@ -22,7 +22,12 @@ use Rattle.relation.specs.Rows.{holds}
 use Rattle.relation.specs.Order.{before}
 use Rattle.relation.specs.Own.{is_own}
 use Rattle.run.specs.State.{in_row, Without}
-use Rattle.free_event.specs.Free.{row_bits, nothing_left, is_free, lowest_free}
+use Rattle.std.specs.Prelude as code
+use Rattle.std.specs.Prelude.{Some, None}
+use Rattle.std.specs.Option.{is_some}
+use Rattle.std.proofs.Math.Option.{some-injective, none-ne-some}
+use Rattle.outcome.specs.Options.{found_in}
+use Rattle.free_event.specs.Free.{row_bits, nothing_left, is_free}
 use Rattle.course.specs.Left.{AllLeft, NoCircle}
 
 -- the first i events of the course are written, and the row has the events that are left
@@ -37,6 +42,11 @@ pub writing_start : (n : ℕ) (words out left : List ℕ) → AllLeft n left →
 unfolding course_of among
 writing_start n words out left all long =
     record { exact = refl; left_are = λ k h. all k h ∙ sym (and-true (ltb k n)); most = omega arith; row_long = long; keeps = refl }
+
+-- what was found is there
+found_some : (o : code.Option ℕ) (k : ℕ) → found_in o ≡ some k → is_some o ≡ true
+found_some (Some j) k e = refl
+found_some None k e = absurd (none-ne-some k e)
 
 module _ (n : ℕ) (words : List ℕ) (C : NoCircle n words) where
   -- a closed relation is its own closure, so it links no event to itself
@@ -94,23 +104,28 @@ module _ (n : ℕ) (words : List ℕ) (C : NoCircle n words) where
             not_both (among x (course i))
             ((next_use n (before width words) (course i) k t).before x l.0 (and_left (holds width words k x) (in_row left x) e)) l.1
 
-    module _ (h : i < n) (r : ℕ) (e : r ≡ lowest_free words left) where
-      -- so the event found is the course's next
-      found_next : r ≡ (course_goes n (before width words) none_own_holds i h).event
-      unfolding lowest_free
-      found_next =
+    module _ (h : i < n) where
+      -- the lowest event that is free is the course's next
+      lowest_next : lowest row_bits (is_free words left) ≡ some (course_goes n (before width words) none_own_holds i h).event
+      lowest_next =
           let G = course_goes n (before width words) none_own_holds i h in
           let L = G.lowest_next in
-          e
-          ∙ ap (λ (o : Option ℕ). elim o [ none ↦ row_bits | some k ↦ k ])
-          (lowest_hit row_bits G.event (is_free words left)
+          lowest_hit row_bits G.event (is_free words left)
           (lowest_nowhere G.event (is_free words left)
           (λ j b.
           ⊎_elim
           (λ t. not_both (is_next n (before width words) (course i) j) (free_next j (omega (arith, L.below)) t).1 (L.first j b))
           (λ f. f)
           (which (is_free words left j))))
-          (next_free G.event L.below L.passes) (omega (arith, L.below)))
+          (next_free G.event L.below L.passes) (omega (arith, L.below))
+
+      -- so the search finds one while the course is not whole
+      pub finds : (o : code.Option ℕ) → found_in o ≡ lowest row_bits (is_free words left) → is_some o ≡ true
+      finds o e = found_some o _ (e ∙ lowest_next)
+
+    module _ (h : i < n) (o : code.Option ℕ) (r : ℕ) (f : found_in o ≡ lowest row_bits (is_free words left)) (u : o ≡ Some r) where
+      found_next : r ≡ (course_goes n (before width words) none_own_holds i h).event
+      found_next = some-injective _ _ (ap found_in (sym u) ∙ f ∙ lowest_next h)
 
       pub found_below : r < n
       found_below =

@@ -12,21 +12,14 @@ ghost use Rattle.course.specs.Left.{AllLeft, NoCircle};
 use free_event::next_event;
 use relation::WIDTH;
 
-// An event's number, as an index.
-fn wide(event: u16) -> usize
-    ensures { result ≡ event }
-{
-    event as usize
-}
-
 // The members of the list are events, below `events`, and none is there twice.
 pub fn each_once(list: &[u16], events: usize) -> bool
     requires { events ≤ word_bits * width }
     ensures { result ≡ each_once events list.now }
 {
     let mut seen = [0u64; WIDTH];
-    for i in 0..list.len() {
-        let event = wide(list[i]);
+    for member in list {
+        let event = *member as usize;
         if events <= event {
             return false;
         }
@@ -46,8 +39,8 @@ pub fn link(words: &mut [u64], list: &[u16], events: usize)
 {
     for i in 1..list.len() {
         let ahead = i - 1;
-        let x = wide(list[ahead]);
-        let y = wide(list[i]);
+        let x = list[ahead] as usize;
+        let y = list[i] as usize;
         closure::insert(words, x, y, 0, events);
     }
 }
@@ -73,7 +66,7 @@ pub fn write_course(words: &[u64], events: usize, output: &mut [u16])
 {
     let mut left = all_left(events);
     for i in 0..events {
-        let k = next_event(words, &left);
+        let k = next_event(words, &left).unwrap();
         output[i] = k as u16;
         left = run::without(left, k);
     }

@@ -2,21 +2,13 @@
 // becomes that of the events directly before its send, on its board.
 #![tactic(auto)]
 
-ghost use Rattle.std.specs.Prelude.{◌≡◌, ◌+◌, ◌*◌, ◌^◌, ◌<◌, ◌≤◌, length, get_or};
+ghost use Rattle.std.specs.Prelude.{◌≡◌, ◌+◌, ◌*◌, ◌<◌, ◌≤◌, length, get_or};
 ghost use Rattle.model.specs.Limits.{messages_most};
 ghost use Rattle.relation.specs.Width.{width, word_bits};
-ghost use Rattle.board.specs.Boards.{BoardsBelow};
-ghost use Rattle.board.specs.Masks.{mask_rows, Standing};
 ghost use Rattle.covers.specs.Covers.{RowOf, hidden_by, hidden_at, Hidden, CoverWord, cover_at, Sheet, CoverRows};
 
+use board::Scenario;
 use relation::{SENDS, WIDTH, WORD_BITS};
-
-// A count of bits, as an index.
-fn wide(bits: u32) -> usize
-    ensures { (result ≡ bits) × (result < 2 ^ 32) }
-{
-    bits as usize
-}
 
 // All that is before the send is hidden, where it is one of the sheet's.
 fn hide_by(words: &[u64], hidden: &mut [u64], count: usize, send: usize)
@@ -40,12 +32,13 @@ fn hide_word(words: &[u64], hidden: &mut [u64], count: usize, e: usize, i: usize
     let at = 2 * e * WIDTH + i;
     let sends = words[at] & SENDS;
     let mut bit = 0;
+    // Not a `for`: it goes from send to send, not from bit to bit.
     while bit < WORD_BITS {
         let left = sends >> bit;
         if left == 0 {
             return;
         }
-        let here = bit + wide(u64::trailing_zeros(left));
+        let here = bit + left.trailing_zeros() as usize;
         hide_by(words, hidden, count, WORD_BITS * i + here);
         bit = here + 1;
     }
@@ -73,32 +66,29 @@ fn cover_word(row: u64, hidden: u64, mask: u64) -> u64
 }
 
 // Word i of the events on the board of e's send.
-fn mask_word(masks: &[u64], boards: &[u8], count: usize, e: usize, i: usize) -> u64
-    requires width_in_bounds { mask_rows * width ≤ length masks.now }
-    requires count_in_bounds { (2 * count ≤ length boards.now) × BoardsBelow count boards.now }
-    requires e_lt_count { (e < count) × (i < width) }
-    ensures { result ≡ get_or masks.now (get_or boards.now (2 * e) 0 * width + i) 0 }
+fn mask_word(scenario: &Scenario, e: usize, i: usize) -> u64
+    requires { (e < scenario.now.count) × (i < width) }
+    ensures { result ≡ get_or scenario.now.masks.now (get_or scenario.now.boards.now (2 * e) 0 * width + i) 0 }
 {
     let send = 2 * e;
-    let board = board::board_of(boards, send);
+    let board = board::board_of(scenario.boards, send);
     let at = board * WIDTH + i;
-    masks[at]
+    scenario.masks[at]
 }
 
 // The events directly before e's send, on its board.
-fn cover(words: &[u64], masks: &[u64], boards: &[u8], count: usize, e: usize) -> [u64; WIDTH]
-    requires standing { Standing count boards.now words.now masks.now }
-    requires e_lt_count { e < count }
-    ensures { RowOf (cover_at words.now boards.now count e) result }
+fn cover(scenario: &Scenario, e: usize) -> [u64; WIDTH]
+    requires { e < scenario.now.count }
+    ensures { RowOf (cover_at scenario.now.words.now scenario.now.boards.now scenario.now.count e) result }
 {
-    let hidden = hidden_from(words, count, e);
+    let hidden = hidden_from(scenario.words, scenario.count, e);
     let send = 2 * e;
     let from = send * WIDTH;
     let mut row = [0u64; WIDTH];
     for i in 0..WIDTH {
         let at = from + i;
-        let mask = mask_word(masks, boards, count, e, i);
-        row[i] = cover_word(words[at], hidden[i], mask);
+        let mask = mask_word(scenario, e, i);
+        row[i] = cover_word(scenario.words[at], hidden[i], mask);
     }
     row
 }
@@ -111,7 +101,13 @@ pub fn cover_rows(words: &mut [u64], boards: &[u8], count: usize)
     let mut masks = [0u64; board::MASK_WORDS];
     board::board_masks(boards, count, &mut masks);
     for e in 0..count {
-        let row = cover(words, &masks, boards, count, e);
+        let scenario = Scenario {
+            words: &*words,
+            masks: &masks,
+            boards,
+            count,
+        };
+        let row = cover(&scenario, e);
         let receive = 2 * e + 1;
         joined_rows::copy_from(words, receive, &row, 0);
     }

@@ -17,8 +17,10 @@ use Rattle.model.proofs.Cure.{cure_promised}
 use Rattle.relation.specs.Rows.{cleared}
 use Rattle.relation.proofs.Cleared.{cleared_all}
 use Rattle.relation.specs.Scenario.{scenario_in}
-use Rattle.expansion.specs.declared.Expanded.{Expanded}
-use Rattle.expansion.specs.declared.Expanded.TheVariants as expanded
+use Rattle.std.specs.Prelude.{Result, Ok, Err}
+use Rattle.outcome.specs.declared.Refusal.{Refusal}
+use Rattle.outcome.specs.declared.Reason.TheVariants.{Bench, CuredRows}
+use Rattle.outcome.specs.Refusals.{number_in}
 use Rattle.scenario.specs.Contract.{SheetIn}
 use Rattle.scenario.proofs.Laws.{sheet_refused, sheet_is, scratch_behind_holds}
 use Rattle.sheet_text.specs.Writing.{Writes}
@@ -26,8 +28,6 @@ use Rattle.covers.specs.Covers.{CoverRows}
 use Rattle.order_count.specs.Orders.{orders_to}
 use Rattle.cured_sheet.specs.Sheet.{rows_in, text_in}
 use Rattle.cured_sheet.proofs.Rows.{rows_count}
-use Rattle.cure.specs.declared.Answer.{Answer}
-use Rattle.cure.specs.declared.Answer.TheVariants as answer
 use Rattle.cure.specs.Parts.{numbers_for, outcome_in, Decides}
 use Rattle.cure.proofs.Bridge.{rows_same}
 
@@ -39,14 +39,15 @@ module _ (boards made : List ℕ) (count orders : ℕ) (counts : orders ≡ leng
   pub rows_fit : 1 + count + orders ≤ rows_most → length (rows_in count boards made) ≤ rows_most
   rows_fit h = omega (arith, whole)
 
-  pub too_many : (output : List ℕ) → rows_most < 1 + count + orders → Decides (outcome_in count boards made) output output (answer.Refused cured_rows_refusal 0)
+  pub too_many : (output : List ℕ) → rows_most < 1 + count + orders → (r : Refusal) → r ≡ record { reason = CuredRows; line = 0 }
+      → Decides (outcome_in count boards made) output output (Err r)
   unfolding outcome_in output_with
-  too_many output h =
+  too_many output h r i =
       let l : rows_most < length (rows_in count boards made) = omega (arith, whole) in
-      record { answer = rw (lt-ltb rows_most (length (rows_in count boards made)) l); output_left = rw (lt-ltb rows_most (length (rows_in count boards made)) l) }
+      record { answer = rw (i, lt-ltb rows_most (length (rows_in count boards made)) l); output_left = rw (lt-ltb rows_most (length (rows_in count boards made)) l) }
 
   pub sheet_decides : (output exit : List ℕ) (n : ℕ) → 1 + count + orders ≤ rows_most → Writes (text_in count boards made) output exit n
-      → Decides (outcome_in count boards made) output exit (answer.Written n)
+      → Decides (outcome_in count boards made) output exit (Ok n)
   unfolding outcome_in output_with
   sheet_decides output exit n h w =
       let l : length (rows_in count boards made) ≤ rows_most = rows_fit h in
@@ -56,14 +57,14 @@ module _ (boards made : List ℕ) (count orders : ℕ) (counts : orders ≡ leng
       }
 
 -- What the way to the scenario hands on.
-module _ (text boards words : List ℕ) (v : Expanded) (p : SheetIn text boards words v) (output : List ℕ) where
-  pub scenario_refused : (number line : ℕ) → v ≡ expanded.Refused number line → Decides (and_then (sheet_of text) cured_of) output output (answer.Refused number line)
+module _ (text boards words : List ℕ) (v : Result ℕ Refusal) (p : SheetIn text boards words v) (output : List ℕ) where
+  pub scenario_refused : (f : Refusal) → v ≡ Err f → Decides (and_then (sheet_of text) cured_of) output output (Err f)
   unfolding and_then output_with
-  scenario_refused number line i =
-      let e = sheet_refused text boards words v p number line i in
+  scenario_refused f i =
+      let e = sheet_refused text boards words v p f i in
       record { answer = rw e; output_left = rw e }
 
-  pub scenario_decided : (count : ℕ) → v ≡ expanded.Messages count → (made exit : List ℕ) (r : Answer) → CoverRows count boards words made
+  pub scenario_decided : (count : ℕ) → v ≡ Ok count → (made exit : List ℕ) (r : Result ℕ Refusal) → CoverRows count boards words made
       → Decides (outcome_in count boards made) output exit r → Decides (and_then (sheet_of text) cured_of) output exit r
   unfolding and_then outcome_in cured_of text_in cured_text
   scenario_decided count i made exit r R d =
@@ -76,17 +77,20 @@ module _ (text boards words : List ℕ) (v : Expanded) (p : SheetIn text boards 
 
 -- What each return of `cure` is to show: refusal 2 for a short buffer, else what the sheet decides.
 module _ (text scratch output : List ℕ) where
-  refuses : cure_of text (length scratch) (length output) ≡ refusal bench_refusal 0 → CureChecked text scratch scratch output output (numbers_for (answer.Refused bench_refusal 0))
+  refuses : (r : Refusal) → r ≡ record { reason = Bench; line = 0 } → cure_of text (length scratch) (length output) ≡ refusal bench_refusal 0
+      → CureChecked text scratch scratch output output (numbers_for (Err r))
   unfolding scratch_behind output_with
-  refuses e = cure_promised text scratch scratch output output _ (rw e) (rw e) (rw e)
+  refuses r i e = cure_promised text scratch scratch output output _ (rw (e, i)) (rw e) (rw e)
 
-  pub refuses_scratch : length scratch < scratch_least → CureChecked text scratch scratch output output (numbers_for (answer.Refused bench_refusal 0))
+  pub refuses_scratch : (r : Refusal) → r ≡ record { reason = Bench; line = 0 } → length scratch < scratch_least
+      → CureChecked text scratch scratch output output (numbers_for (Err r))
   unfolding cure_of
-  refuses_scratch l = refuses (rw (lt-ltb (length scratch) scratch_least l))
+  refuses_scratch r i l = refuses r i (rw (lt-ltb (length scratch) scratch_least l))
 
-  pub refuses_output : length output < sheet_output_least → CureChecked text scratch scratch output output (numbers_for (answer.Refused bench_refusal 0))
+  pub refuses_output : (r : Refusal) → r ≡ record { reason = Bench; line = 0 } → length output < sheet_output_least
+      → CureChecked text scratch scratch output output (numbers_for (Err r))
   unfolding cure_of
-  refuses_output l = refuses (rw (lt-ltb (length output) sheet_output_least l, or-true (ltb (length scratch) scratch_least)))
+  refuses_output r i l = refuses r i (rw (lt-ltb (length output) sheet_output_least l, or-true (ltb (length scratch) scratch_least)))
 
   -- refusal 15 is behind the sheet's, so the rows do not change what is left in the scratch
   scratch_same : (o : Out Scenario) → scratch_behind o scratch ≡ scratch_behind (and_then o cured_of) scratch
@@ -98,7 +102,7 @@ module _ (text scratch output : List ℕ) where
       go true = refl
       go false = refl
 
-  pub answers : (scratch_exit output_exit used : List ℕ) (n : ℕ) (r : Answer) (w : ℕ) → scratch_least ≤ length scratch → sheet_output_least ≤ length output → length used ≡ n
+  pub answers : (scratch_exit output_exit used : List ℕ) (n : ℕ) (r : Result ℕ Refusal) (w : ℕ) → scratch_least ≤ length scratch → sheet_output_least ≤ length output → length used ≡ n
       → n ≤ scratch_least → scratch_exit ≡ cleared w (used ++ drop n scratch) → w ≡ scratch_least → Decides (and_then (sheet_of text) cured_of) output output_exit r
       → CureChecked text scratch scratch_exit output output_exit (numbers_for r)
   unfolding cure_of

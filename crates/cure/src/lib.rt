@@ -11,17 +11,15 @@ ghost use Rattle.scenario.specs.Contract.{Fit};
 ghost use Rattle.covers.specs.Covers.{CoverRows};
 ghost use Rattle.cure.specs.Parts.{outcome_in, numbers_for, Decides};
 
-use expansion::Expanded;
+use outcome::{Reason, Refusal};
 
-// Written, with the text's length; or refused, with number and line.
-#[derive(Clone, Copy)]
-pub enum Answer {
-    Written(usize),
-    Refused(u8, usize),
-}
-
-// A sheet: what stands directly before each send, and its cure, unless that has too many rows.
-fn decide(words: &mut [u64], boards: &[u8], count: usize, output: &mut [u8]) -> Answer
+// A sheet: what stands directly before each send, and its cure, unless that has too many rows. The length of the text.
+fn decide(
+    words: &mut [u64],
+    boards: &[u8],
+    count: usize,
+    output: &mut [u8],
+) -> Result<usize, Refusal>
     requires fit { Fit count boards.now words.old }
     requires sheet_output_least_in_bounds { sheet_output_least ≤ length output.old }
     ensures cover_rows { CoverRows count boards.now words.old words.new }
@@ -31,35 +29,28 @@ fn decide(words: &mut [u64], boards: &[u8], count: usize, output: &mut [u8]) -> 
     let orders = order_count::count_orders(words, count);
     let rows = 1 + count + orders;
     if model::ROWS_MOST < rows {
-        return Answer::Refused(model::CURED_ROWS, 0);
+        return Err(Reason::CuredRows.at(0));
     }
-    Answer::Written(cured_sheet::write_sheet(words, boards, count, output))
+    Ok(cured_sheet::write_sheet(words, boards, count, output))
 }
 
 // A text: its scenario, in the words of the relation, and its cure.
-fn judge(text: &[u8], words: &mut [u64], output: &mut [u8]) -> Answer
+fn judge(text: &[u8], words: &mut [u64], output: &mut [u8]) -> Result<usize, Refusal>
     requires words_len { length words.old ≡ 2 * messages_most * width }
     requires sheet_output_least_in_bounds { sheet_output_least ≤ length output.old }
     ensures { Decides (and_then (sheet_of text.now) cured_of) output.old output.new result }
 {
     let mut boards = [0u8; model::EVENTS_MOST];
-    let outcome = scenario::scenario_of(text, &mut boards, words);
-    match outcome {
-        Expanded::Refused(number, line) => Answer::Refused(number, line),
-        Expanded::Messages(count) => decide(words, &boards, count, output),
-    }
+    let count = scenario::scenario_of(text, &mut boards, words)?;
+    decide(words, &boards, count, output)
 }
 
-// The call: refusal 2 touches nothing; behind every other answer the scratch is cleared.
-pub fn cure(text: &[u8], scratch: &mut [u64], output: &mut [u8]) -> Answer
+// The call, with the length of the text written: refusal 2 touches nothing; behind every other answer the scratch is cleared.
+pub fn cure(text: &[u8], scratch: &mut [u64], output: &mut [u8]) -> Result<usize, Refusal>
     ensures { CureChecked text.now scratch.old scratch.new output.old output.new (numbers_for result) }
 {
-    if scratch.len() < model::SCRATCH_LEAST {
-        return Answer::Refused(model::BENCH, 0);
-    }
-    if output.len() < model::SHEET_OUTPUT_LEAST {
-        return Answer::Refused(model::BENCH, 0);
-    }
+    lent::at_least(model::SCRATCH_LEAST, scratch.len())?;
+    lent::at_least(model::SHEET_OUTPUT_LEAST, output.len())?;
     let end = model::SCRATCH_LEAST;
     let answer = judge(text, &mut scratch[..end], output);
     relation::clear(scratch, model::SCRATCH_LEAST);

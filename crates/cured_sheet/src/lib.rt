@@ -2,7 +2,7 @@
 #![tactic(auto)]
 
 ghost use Rattle.std.specs.Prelude.{◌≡◌, ◌+◌, ◌*◌, ◌/◌, ◌%◌, ◌<◌, ◌≤◌, length};
-ghost use Rattle.model.specs.Limits.{messages_most, number_most, rows_most, sheet_output_least};
+ghost use Rattle.model.specs.Limits.{messages_most, rows_most, sheet_output_least};
 ghost use Rattle.model.specs.Cure.{row_text, rows_text, order_rows};
 ghost use Rattle.relation.specs.Width.{width, word_bits};
 ghost use Rattle.relation.specs.Rows.{has};
@@ -20,14 +20,6 @@ const MESSAGE: u8 = 77;
 
 const ORDER: u8 = 80;
 
-// A board's number, as one of a row.
-fn wide(board: u8) -> u16
-    ensures value { result ≡ board }
-    ensures upper_bound { result ≤ number_most }
-{
-    board as u16
-}
-
 // The M row of message m.
 fn write_message(boards: &[u8], m: usize, rest: &mut [u8]) -> usize
     requires m_lt_messages_most { (m < messages_most) × (2 * m + 1 < length boards.now) }
@@ -36,7 +28,7 @@ fn write_message(boards: &[u8], m: usize, rest: &mut [u8]) -> usize
 {
     let send = 2 * m;
     let receive = send + 1;
-    sheet_text::write_row(rest, MESSAGE, wide(boards[send]), wide(boards[receive]))
+    sheet_text::write_row(rest, MESSAGE, boards[send] as u16, boards[receive] as u16)
 }
 
 // The M rows, in the walk's numbering.
@@ -112,13 +104,10 @@ fn end_behind(words: &[u64], count: usize, w: usize) -> usize
     requires width_in_bounds { 2 * count * width ≤ length words.now }
     ensures { NoneLast words.now count w result }
 {
-    let mut end = count;
-    while 0 < end {
-        let e = end - 1;
+    for e in (0..count).rev() {
         if word_before(words, e, w) != 0 {
-            return end;
+            return e + 1;
         }
-        end = e;
     }
     0
 }

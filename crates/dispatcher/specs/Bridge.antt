@@ -3,11 +3,13 @@ use Rattle.std.specs.Prelude.{List, [], ℕ, ◌*◌, replicate}
 use Rattle.model.specs.Limits.{messages_most, jobs_most}
 use Rattle.model.specs.Order.{Scenario}
 use Rattle.model.specs.Dispatcher as model
-use Rattle.model.specs.Dispatcher.{DispatcherState, admit, turn, cancel, Told, Served, Serves}
+use Rattle.model.specs.Dispatcher.{DispatcherState, admit, turn, cancel, refused_word, no_answer, Told, Served, Serves}
 use Rattle.queue.specs.Bridge.{empty_queue}
 use Rattle.last_turn.specs.Answer.{numbers_in}
 use Rattle.held_jobs.specs.Held.{Held, dispatcher_of, HoldsJob}
 pub use Rattle.held_jobs.specs.Held.{lent}
+use Rattle.outcome.specs.declared.Refusal.{Refusal}
+use Rattle.outcome.specs.Refusals.{number_in}
 use Rattle.dispatcher.specs.declared.Dispatcher.{Dispatcher}
 use Rattle.dispatcher.specs.declared.DispatcherAnswer.{DispatcherAnswer}
 
@@ -26,6 +28,10 @@ told_in r = record { word = r.word; one = r.one; two = r.two; answer = numbers_i
 
 abbrev pub answer_in : DispatcherAnswer → Served Dispatcher
 answer_in r = record { told = told_in r; next = r.next }
+
+-- a call refused: the dispatcher as it was
+abbrev pub refused_as : Refusal → Dispatcher → Served Dispatcher
+refused_as f d = record { told = record { word = refused_word; one = number_in f.reason; two = f.line; answer = no_answer }; next = d }
 
 -- the dispatcher that holds no job and gave out no number
 abbrev pub emptied : Dispatcher

@@ -1,13 +1,16 @@
 // Several makers at the counter: up to eight jobs, each with its place and its words, and a turn at a time for the head of their queue.
 #![tactic(auto)]
 
-ghost use Rattle.std.specs.Prelude.{◌≡◌};
+ghost use Rattle.std.specs.Prelude.{◌≡◌, ◌<◌, ◌^◌};
 ghost use Rattle.model.specs.Dispatcher.{empty_dispatcher, WholeLists};
-ghost use Rattle.dispatcher.specs.Bridge.{dispatcher_in, Holds, emptied, answer_in, AdmitOf, TurnOf, CancelOf};
+ghost use Rattle.dispatcher.specs.Bridge.{dispatcher_in, Holds, emptied, answer_in, refused_as, AdmitOf, TurnOf, CancelOf};
 
 use admission::Part;
+use answer_words::served::{ADMITTED, ANSWERED, CANCELLED, IDLE, REFUSED, TAKEN};
+use head_turn::Turn;
 pub use held_jobs::Boards;
 use last_turn::Numbers;
+use outcome::Refusal;
 use queue::Queue;
 use share::Race;
 
@@ -54,7 +57,21 @@ impl Dispatcher {
         }
     }
 
-    // An admission: the new sheet and its code are lent in the place that it takes. The parts that it may change are taken out and put back.
+    // A call refused: the dispatcher stays as it was.
+    fn refused(&self, refusal: Refusal) -> DispatcherAnswer
+        requires { refusal.line < 2 ^ 32 }
+        ensures { answer_in result ≡ refused_as refusal self.now }
+    {
+        DispatcherAnswer {
+            word: REFUSED,
+            one: refusal.reason.number(),
+            two: refusal.line as u32,
+            answer: Numbers::zero(),
+            next: *self,
+        }
+    }
+
+    // An admission: the new sheet and its code are lent in the place that it takes.
     pub fn admit(
         self,
         sheets: &[u8],
@@ -64,60 +81,49 @@ impl Dispatcher {
     ) -> DispatcherAnswer
         ensures { AdmitOf self sheets.now lengths.now codes.now words.old words.new (answer_in result) × WholeLists dispatcher_in Holds emptied }
     {
-        let queue = self.queue;
-        let mut boards = self.boards;
-        let mut races = self.races;
-        let place = taken_places::spare_place(queue);
-        let own = boards[place];
-        let race = races[place];
-        let part = part_of(queue, self.given, race, own);
-        let entry = admission::admit_into(part, place, sheets, lengths, codes, words);
-        let next = entry.queue;
-        let found = entry.race;
-        let on = entry.boards;
-        races[place] = found;
-        boards[place] = on;
+        let mut next = self;
+        let place = taken_places::spare_place(self.queue);
+        let part = Part {
+            queue: self.queue,
+            given: self.given,
+        };
+        let entry = match admission::admit_into(part, place, sheets, lengths, codes, words) {
+            Err(refusal) => return next.refused(refusal),
+            Ok(entry) => entry,
+        };
+        next.queue = entry.queue;
+        next.given = entry.given;
+        next.races[place] = entry.race;
+        next.boards[place] = entry.boards;
         DispatcherAnswer {
-            word: entry.word,
-            one: entry.one,
-            two: entry.two,
+            word: ADMITTED,
+            one: entry.number,
+            two: entry.place,
             answer: Numbers::zero(),
-            next: Dispatcher {
-                queue: next,
-                given: entry.given,
-                races,
-                boards,
-            },
+            next,
         }
     }
 
-    // A turn takes the head of the queue. It reads no sheet and no code. The parts that it may change are taken out and put back, since a value is
-    // copied whole wherever it goes.
+    // A turn takes the head of the queue. It reads no sheet and no code.
     pub fn turn(self, words: &mut [u64], trace: &mut [u8]) -> DispatcherAnswer
         ensures { TurnOf self words.old trace.old words.new trace.new (answer_in result) × WholeLists dispatcher_in Holds emptied }
     {
-        let queue = self.queue;
-        let boards = self.boards;
-        let mut races = self.races;
-        let place = queue.first_place();
-        let own = boards[place];
-        let race = races[place];
-        let turn = head_turn::serve(queue, place, race, &own.on, words, trace);
-        let next = turn.queue;
-        let answer = turn.answer;
-        let found = turn.race;
-        races[place] = found;
-        DispatcherAnswer {
-            word: turn.word,
-            one: turn.one,
-            two: 0,
-            answer,
-            next: Dispatcher {
-                queue: next,
-                given: self.given,
-                races,
-                boards,
-            },
+        let mut next = self;
+        let place = self.queue.first_place();
+        let own = self.boards[place];
+        let race = self.races[place];
+        match head_turn::serve(self.queue, place, race, &own.on, words, trace) {
+            Err(refusal) => next.refused(refusal),
+            Ok(Turn::Idle) => answered(IDLE, 0, Numbers::zero(), &next),
+            Ok(Turn::Taken(number, found, queue)) => {
+                next.queue = queue;
+                next.races[place] = found;
+                answered(TAKEN, number, Numbers::zero(), &next)
+            }
+            Ok(Turn::Answered(number, answer, queue)) => {
+                next.queue = queue;
+                answered(ANSWERED, number, answer, &next)
+            }
         }
     }
 
@@ -125,34 +131,33 @@ impl Dispatcher {
     pub fn cancel(self, number: u32, words: &mut [u64]) -> DispatcherAnswer
         ensures { CancelOf self number words.old words.new (answer_in result) × WholeLists dispatcher_in Holds emptied }
     {
-        let queue = self.queue;
-        let races = self.races;
-        let boards = self.boards;
-        let left = cancellation::leave(queue, number, words);
-        let next = left.queue;
-        DispatcherAnswer {
-            word: left.word,
-            one: left.one,
-            two: 0,
-            answer: Numbers::zero(),
-            next: Dispatcher {
-                queue: next,
-                given: self.given,
-                races,
-                boards,
-            },
+        let mut next = self;
+        match cancellation::leave(self.queue, number, words) {
+            Err(refusal) => next.refused(refusal),
+            Ok(left) => {
+                next.queue = left;
+                DispatcherAnswer {
+                    word: CANCELLED,
+                    one: number,
+                    two: 0,
+                    answer: Numbers::zero(),
+                    next,
+                }
+            }
         }
     }
 }
 
-// What an admission may change, from what was taken out.
-fn part_of(queue: Queue, given: u32, race: Race, boards: Boards) -> Part
-    ensures { result ≡ record { queue = queue; given = given; race = race; boards = boards } }
+// The answer to a turn: a word and the job that it names, the check's answer, and the dispatcher to go on with, which is lent, since a value
+// is copied whole wherever it goes.
+fn answered(word: u32, one: u32, answer: Numbers, next: &Dispatcher) -> DispatcherAnswer
+    ensures { result ≡ record { word = word; one = one; two = 0; answer = answer; next = next.now } }
 {
-    Part {
-        queue,
-        given,
-        race,
-        boards,
+    DispatcherAnswer {
+        word,
+        one,
+        two: 0,
+        answer,
+        next: *next,
     }
 }

@@ -1,11 +1,11 @@
 -- The whole expansion: the walk begins with nothing met, each block goes on with it, and what it leaves is the paper's answer.
 -- Assumes nothing.
-use Prim.Native.Nat.{ℕ, ◌+◌, ◌-◌, ◌*◌, ◌<◌, ◌≤◌}
+use Prim.Native.Nat.{ℕ, ◌-◌, ◌*◌, ◌<◌}
 use native.Mathlib.Omega.{arith}
 use mathlib.Core.Path.{◌≡◌, refl, sym, ◌∙◌, ap, subst}
 use mathlib.Core.Bool.{Bool, true}
-use mathlib.Core.List.{List, ◌++◌, append-nil}
-use lib.ListN.{length, get_or, replicate, length-replicate, drop_of_length-le}
+use mathlib.Core.List.{List}
+use lib.ListN.{length, get_or, replicate, length-replicate}
 use Rattle.model.specs.Limits.{boards, messages_most, levels}
 use Rattle.model.specs.Refusal.{Out, ok, refusal, and_then}
 use Rattle.model.specs.Rows.{Row}
@@ -14,15 +14,12 @@ use Rattle.model.specs.Expansion.{Progress, start_of, block_opened, walk_rows, c
 use Rattle.model.proofs.Lists.{replicate_at}
 use Rattle.model.proofs.Standing.{read_fits}
 use Rattle.relation.specs.Width.{width}
-use Rattle.relation.specs.Rows.{cleared}
-use Rattle.relation.proofs.Loops.{Clearing, clearing_end}
 use Rattle.sheet.specs.Bridge.{rows_of}
 use Rattle.blocks.specs.Store.{Store, store_of, store_ops, concluded, counted_with, walked_on}
 use Rattle.blocks.specs.Room.{Room}
 use Rattle.walk.specs.Block.{fresh, opened, state_of, rows_from, block_walked, Leaves, AllStand, Ready}
 use Rattle.walk.specs.declared.Walk.{Walk}
 use Rattle.walk.specs.declared.Walked.{Walked}
-use Rattle.walk.specs.declared.Walked.TheVariants.{To, Stopped}
 use Rattle.walk.proofs.Meeting.{in_rows, rows_drop}
 use Rattle.blocks.proofs.Sim.{Begins}
 use Rattle.blocks.proofs.Again.{counted_same}
@@ -31,23 +28,18 @@ use Rattle.expansion.specs.Outcome.{counted_of, zeros}
 use Rattle.levels.specs.Options.{options_of}
 use Rattle.next_block.specs.Levels.{after, idle, rest, rank, Between, Reaches}
 use Rattle.expansion.specs.Ends.{Rests, ended_of, Ends, beginning}
-use Rattle.expansion.specs.declared.Ended.{Ended}
-use Rattle.expansion.specs.declared.Ended.TheVariants as ended
-use Rattle.expansion.specs.declared.Counted.TheVariants as counted
+use Rattle.std.specs.Prelude.{Result, Ok, Err}
+use Rattle.outcome.specs.declared.Refusal.{Refusal}
+use Rattle.outcome.specs.Refusals.{number_in}
 use Rattle.next_block.specs.declared.Reached.{Reached}
 use Rattle.next_block.specs.declared.Reached.TheVariants as reached
 use Rattle.expansion.proofs.Reading.{start_zero, start_stand}
 use Rattle.next_block.proofs.Closing.{rest_walked, AfterBlock, block_ends, block_more}
 
--- the boards are zeros once the loop over them is done
-cleared_zeros : (n : ℕ) (l : List ℕ) → length l ≡ n → cleared n l ≡ zeros n
-unfolding cleared zeros
-cleared_zeros n l e =
-    ap (λ (r : List ℕ). replicate n 0 ++ r) (drop_of_length-le l {i = n} (omega arith)) ∙ append-nil (replicate n 0)
-
-pub boards_zero : (l : List ℕ) (i : ℕ) (now : List ℕ) → Clearing (2 * messages_most) l i now → 2 * messages_most ≤ i → length l ≡ 2 * messages_most
-    → now ≡ zeros (2 * messages_most)
-boards_zero l i now j h e = clearing_end (2 * messages_most) l i now j h ∙ cleared_zeros (2 * messages_most) l e
+-- boards filled with zeros
+pub boards_zero : (given now : List ℕ) → length given ≡ 2 * messages_most → now ≡ replicate (length given) 0 → now ≡ zeros (2 * messages_most)
+unfolding zeros
+boards_zero given now l e = e ∙ ap (λ (n : ℕ). replicate n 0) l
 
 -- What the loop over the blocks keeps: from here the walk comes to the whole.
 pub record Walking (options : ℕ) (kind one two : List ℕ) (count : ℕ) (whole : Out (Progress Store)) (from : List ℕ) (level i : ℕ) (w : Walk) (t : Store) : Type 0 where
@@ -90,20 +82,20 @@ module _ (options : ℕ) (kind one two : List ℕ) (count : ℕ) where
 
   module _ (whole : Out (Progress Store)) where
     module _ (from : List ℕ) (level i : ℕ) (w : Walk) (t : Store) (j : Walking options kind one two count whole from level i w t) (from' : List ℕ) where
-      abbrev Reached_as : Reached → Type 0
+      abbrev Reached_as : Result Reached Refusal → Type 0
       Reached_as r = Reaches options kind one two count from level i w.calls w.choices r from'
 
-      pub walking_stopped : (number line : ℕ) → Reached_as (reached.Stopped number line) → Ends (ended.Refused number line) t whole
-      walking_stopped number line r = record { exact = sym (r.exact w.count t) ∙ j.exact; rests = tt }
+      pub walking_stopped : (e : Refusal) → Reached_as (Err e) → Ends (Err e) t whole
+      walking_stopped e r = record { exact = sym (r.exact w.count t) ∙ j.exact; rests = tt }
 
       -- sheet 0 has ended
-      pub walking_end : (calls choices : ℕ) → Reached_as (reached.End calls choices) → (v : Walk) → v ≡ opened calls choices w.count
-          → Ends (ended.At v) t whole
+      pub walking_end : (calls choices : ℕ) → Reached_as (Ok (reached.End calls choices)) → (v : Walk) → v ≡ opened calls choices w.count
+          → Ends (Ok v) t whole
       walking_end calls choices r v e =
           rw e (record { exact = sym (r.exact w.count t) ∙ j.exact; rests = record { few = r.stands; empty = refl; room = j.room } })
 
       -- a block is walked, from its beginning on
-      module _ (level' i' calls choices : ℕ) (r : Reached_as (reached.Block level' i' calls choices)) (v : Walk)
+      module _ (level' i' calls choices : ℕ) (r : Reached_as (Ok (reached.Block level' i' calls choices))) (v : Walk)
           (e : v ≡ opened calls choices w.count) where
         abbrev b : Between options kind one two count from' level' i' calls
         b = r.stands.between
@@ -123,10 +115,10 @@ module _ (options : ℕ) (kind one two : List ℕ) (count : ℕ) where
         abbrev walked : Out (ℕ × Progress Store)
         walked = block_walked (rows_from kind one two count i') i' s
 
-        abbrev Left : Walked → Store → Walk → Type 0
+        abbrev Left : Result Walked Refusal → Store → Walk → Type 0
         Left o t' u = Leaves o t' (block_walked (rows_from kind one two count i') i' (state_of u t))
 
-        left : (o : Walked) (t' : Store) → Left o t' v → Leaves o t' walked
+        left : (o : Result Walked Refusal) (t' : Store) → Left o t' v → Leaves o t' walked
         left o t' l = subst (Left o t') e l
 
         onward : (o : Out (ℕ × Progress Store)) → o ≡ walked → and_then o (λ p. rest options kind one two count from' level' p.0 p.1) ≡ whole
@@ -136,13 +128,13 @@ module _ (options : ℕ) (kind one two : List ℕ) (count : ℕ) where
             ∙ sym (r.exact w.count t)
             ∙ j.exact
 
-        pub walking_refused : (number line : ℕ) (t' : Store) → Left (Stopped number line) t' v → Ends (ended.Refused number line) t' whole
+        pub walking_refused : (e : Refusal) (t' : Store) → Left (Err e) t' v → Ends (Err e) t' whole
         unfolding and_then
-        walking_refused number line t' l = record { exact = onward (refusal number line) (left (Stopped number line) t' l).exact; rests = tt }
+        walking_refused e t' l = record { exact = onward (refusal (number_in e.reason) e.line) (left (Err e) t' l).exact; rests = tt }
 
-        module _ (k : ℕ) (u : Walk) (t' : Store) (h : Left (To k u) t' v) where
-          l : Leaves (To k u) t' walked
-          l = left (To k u) t' h
+        module _ (k : ℕ) (u : Walk) (t' : Store) (h : Left (Ok (record { row = k; walk = u })) t' v) where
+          l : Leaves (Ok (record { row = k; walk = u })) t' walked
+          l = left (Ok (record { row = k; walk = u })) t' h
 
           behind : AfterBlock options kind one two count i' s (k, state_of u t')
           behind = block_ends options kind one two count i' 0 s (k, state_of u t') b.stand (sym l.exact)
@@ -209,7 +201,7 @@ module _ (words : List ℕ) (l : length words ≡ 2 * messages_most * width) whe
         };
       })
 
-pub fresh_ends : (options : List Bool) (file : List Row) (words events past : List ℕ) (w : Walk) (r : Ended) (t : Store)
+pub fresh_ends : (options : List Bool) (file : List Row) (words events past : List ℕ) (w : Walk) (r : Result Walk Refusal) (t : Store)
     → events ≡ zeros (2 * messages_most) → past ≡ zeros (boards * width) → w ≡ fresh
     → Ends r t (walked_on options file (state_of w (store_of events words past)))
     → Ends r t (walked_on options file (beginning words))
@@ -217,21 +209,20 @@ fresh_ends options file words events past w r t e p f h =
     subst (Ends r t) (λ i. walked_on options file (state_of (f i) (store_of (e i) words (p i)))) h
 
 module _ (options : ℕ) (kind one two : List ℕ) (count : ℕ) (start : List ℕ) (lent : RowsRead kind one two count start) (words : List ℕ)
-    (l : length words ≡ 2 * messages_most * width) (r : Ended) (t : Store)
+    (l : length words ≡ 2 * messages_most * width) (r : Result Walk Refusal) (t : Store)
     (h : Ends r t (walked_on (options_of options) (rows_of kind one two count) (beginning words))) where
-  ended_counted : (o : Ended) → r ≡ o → and_then (ended_of o t) concluded ≡ counted_with (options_of options) (rows_of kind one two count)
+  ended_counted : (o : Result Walk Refusal) → r ≡ o → and_then (ended_of o t) concluded ≡ counted_with (options_of options) (rows_of kind one two count)
   ended_counted o e =
-      ap (λ (q : Ended). and_then (ended_of q t) concluded) (sym e)
+      ap (λ (q : Result Walk Refusal). and_then (ended_of q t) concluded) (sym e)
       ∙ ap (λ (q : Out (Progress Store)). and_then q concluded) h.exact
       ∙ counted_same (options_of options) (rows_of kind one two count) (read_fits lent.read.0 lent.read.1 (rows_of kind one two count) lent.read.2)
       (store_of (zeros (2 * messages_most)) words (zeros (boards * width))) (nothing_begins words l)
 
-  pub counted_refused : (number line : ℕ) → r ≡ ended.Refused number line
-      → counted_of (counted.Refused number line) t.events t.words ≡ counted_with (options_of options) (rows_of kind one two count)
+  pub counted_refused : (e : Refusal) → r ≡ Err e → counted_of (Err e) t.events t.words ≡ counted_with (options_of options) (rows_of kind one two count)
   unfolding and_then
-  counted_refused number line e = ended_counted (ended.Refused number line) e
+  counted_refused e i = ended_counted (Err e) i
 
-  pub counted_messages : (w : Walk) → r ≡ ended.At w
-      → counted_of (counted.Messages w.count w.choices) t.events t.words ≡ counted_with (options_of options) (rows_of kind one two count)
+  pub counted_messages : (w : Walk) → r ≡ Ok w
+      → counted_of (Ok (record { messages = w.count; choices = w.choices })) t.events t.words ≡ counted_with (options_of options) (rows_of kind one two count)
   unfolding and_then
-  counted_messages w e = ended_counted (ended.At w) e
+  counted_messages w i = ended_counted (Ok w) i

@@ -5,6 +5,7 @@ use Rattle.model.specs.Refusal.{ok}
 use Rattle.model.specs.Rows.{Row}
 use Rattle.model.specs.Place.{read_with}
 use Rattle.sheet.specs.Bridge.{rows_of, starts_of}
+use Rattle.sheet.specs.declared.Rows.{Rows}
 
 -- the rows are those of some text, with or without A rows let through
 abbrev pub AreRead : List Row → Type 0
@@ -17,3 +18,7 @@ pub record RowsRead (kind one two : List ℕ) (count : ℕ) (start : List ℕ) :
   pub kind_long : count ≤ length kind
   pub one_long : count ≤ length one
   pub two_long : count ≤ length two
+
+-- the same of the code's value
+abbrev pub AreLent : Rows → Type 0
+AreLent rs = RowsRead rs.kind.now rs.one.now rs.two.now rs.count rs.start.now

@@ -70,11 +70,10 @@ module _ (most : ℕ) where
         same = digits_at text from to value i v l ∙ numeral_digit value (get_or text i 0) (slice (i + 1) to text) h k;
       }
 
-  pub digits_low : (text : List ℕ) (from to value i : ℕ) → Valued text from to value i → i < to → get_or text i 0 < 48 → none ≡ numeral most 0 (slice from to text)
-  digits_low text from to value i v l h = sym (digits_at text from to value i v l ∙ numeral_low value (get_or text i 0) (slice (i + 1) to text) h)
-
-  pub digits_high : (text : List ℕ) (from to value i : ℕ) → Valued text from to value i → i < to → 57 < get_or text i 0 → none ≡ numeral most 0 (slice from to text)
-  digits_high text from to value i v l h = sym (digits_at text from to value i v l ∙ numeral_high value (get_or text i 0) (slice (i + 1) to text) h)
+  pub digits_other : (text : List ℕ) (from to value i : ℕ) → Valued text from to value i → i < to → (get_or text i 0 < 48) ⊎ ((48 ≤ get_or text i 0) × (57 < get_or text i 0))
+      → none ≡ numeral most 0 (slice from to text)
+  digits_other text from to value i v l (inl h) = sym (digits_at text from to value i v l ∙ numeral_low value (get_or text i 0) (slice (i + 1) to text) h)
+  digits_other text from to value i v l (inr h) = sym (digits_at text from to value i v l ∙ numeral_high value (get_or text i 0) (slice (i + 1) to text) h.1)
 
   pub digits_large : (text : List ℕ) (from to value i : ℕ) → Valued text from to value i → i < to → 48 ≤ get_or text i 0 → get_or text i 0 ≤ 57
       → most < value * 10 + (get_or text i 0 - 48) → none ≡ numeral most 0 (slice from to text)

@@ -9,14 +9,15 @@ use borrow.Author.Tests.{ne_eqb, leb-true}
 use lib.Dec.{leb}
 use lib.ListN.{length, get_or}
 use lib.Seq.{slice, slice-cons, slice_empty, length-slice}
+use Rattle.std.specs.Prelude.{Option}
 use Rattle.model.specs.Bounded.{same}
 use Rattle.model.proofs.Bounded.{and_right}
 use Rattle.model.specs.Text.{well_begun, digits_only, decimal, number_up_to}
+use Rattle.outcome.specs.Options.{found_in}
 use Rattle.line.specs.Parts.{Cut, fields_in}
 use Rattle.line.specs.declared.Cuts.{Cuts}
-use Rattle.fields.specs.Fields.{span_of, letter_of, numeral_from}
+use Rattle.fields.specs.Fields.{span_of, letter_of}
 use Rattle.fields.specs.declared.Span.{Span}
-use Rattle.fields.specs.declared.Numeral.{Numeral}
 
 -- the three spans, by the tests of the code
 pub span_first : (c : Cuts) (place : ℕ) → place ≡ 0 → record { from = c.at; to = c.first } ≡ span_of c place
@@ -77,7 +78,7 @@ module _ (text : List ℕ) (c : Cuts) (place : ℕ) (s : Span) (h : Cut text c) 
       go (a ∷ d ∷ f) k = refl
 
   -- a number or a name is that of the bytes
-  pub number_field : (most : ℕ) (n : Numeral) → numeral_from n ≡ number_up_to most (slice s.from s.to text) → numeral_from n ≡ number_up_to most (get_or (fields_in text c) place [])
+  pub number_field : (most : ℕ) (n : Option ℕ) → found_in n ≡ number_up_to most (slice s.from s.to text) → found_in n ≡ number_up_to most (get_or (fields_in text c) place [])
   number_field most n p = p ∙ ap (number_up_to most) span_bytes
 
   pub name_field : (name : List ℕ) (r : Bool) → r ≡ same name (slice s.from s.to text) → r ≡ same name (get_or (fields_in text c) place [])

@@ -4,8 +4,6 @@ use Rattle.std.proofs.Math.Option.{Option, none, some}
 use Rattle.model.specs.Text.{digits_only, decimal}
 use Rattle.line.specs.declared.Cuts.{Cuts}
 use Rattle.fields.specs.declared.Span.{Span}
-use Rattle.fields.specs.declared.Numeral.{Numeral}
-use Rattle.fields.specs.declared.Numeral.TheVariants.{Is, Bad}
 
 -- the span of the field with the given number
 unfoldable pub span_of : Cuts → ℕ → Span
@@ -22,7 +20,3 @@ letter_of (b ∷ c ∷ s) = 0
 -- the number of the digits, up to the largest, behind digits of value n
 unfoldable pub numeral : ℕ → ℕ → List ℕ → Option ℕ
 numeral most n ds = cond (digits_only ds && leb (decimal n ds) most) (some (decimal n ds)) none
-
-abbrev pub numeral_from : Numeral → Option ℕ
-numeral_from (Is n) = some n
-numeral_from Bad = none

@@ -5,8 +5,9 @@ ghost use Rattle.std.specs.Prelude.{◌≡◌, [], ◌^◌, ◌≤◌, ◌<◌, 
 ghost use Rattle.std.proofs.Math.Seq.{slice};
 ghost use Rattle.model.specs.Bounded.{same};
 ghost use Rattle.model.specs.Text.{number_of, number_up_to};
+ghost use Rattle.outcome.specs.Options.{found_in};
 ghost use Rattle.line.specs.Parts.{Cut, fields_in};
-ghost use Rattle.fields.specs.Fields.{span_of, letter_of, numeral, numeral_from};
+ghost use Rattle.fields.specs.Fields.{span_of, letter_of, numeral};
 
 use line::Cuts;
 
@@ -15,13 +16,6 @@ use line::Cuts;
 struct Span {
     pub from: usize,
     pub to: usize,
-}
-
-// A number up to a largest that is given.
-#[derive(Clone, Copy)]
-pub enum Numeral {
-    Is(u16),
-    Bad,
 }
 
 // The field with the number `place`, from 0, of the three.
@@ -58,60 +52,53 @@ pub fn letter_in(text: &[u8], cuts: Cuts, place: usize) -> u8
 }
 
 // The number that a field of a sheet file holds.
-pub fn number_in(text: &[u8], cuts: Cuts, place: usize) -> Numeral
+pub fn number_in(text: &[u8], cuts: Cuts, place: usize) -> Option<u16>
     requires { Cut text.now cuts × (place < 3) }
-    ensures { numeral_from result ≡ number_of (get_or (fields_in text.now cuts) place []) }
+    ensures { found_in result ≡ number_of (get_or (fields_in text.now cuts) place []) }
 {
     number_up_to(text, cuts, place, model::NUMBER_MOST)
 }
 
 // The number that a field holds, at most `most`: decimal, without leading zeros.
-pub fn number_up_to(text: &[u8], cuts: Cuts, place: usize, most: usize) -> Numeral
+pub fn number_up_to(text: &[u8], cuts: Cuts, place: usize, most: usize) -> Option<u16>
     requires { Cut text.now cuts × (place < 3) × (most < 2 ^ 16) }
-    ensures { numeral_from result ≡ number_up_to most (get_or (fields_in text.now cuts) place []) }
+    ensures { found_in result ≡ number_up_to most (get_or (fields_in text.now cuts) place []) }
 {
     let span = field(cuts, place);
     number_at(text, span.from, span.to, most)
 }
 
 // The number of the bytes from `from` up to `to`.
-fn number_at(text: &[u8], from: usize, to: usize, most: usize) -> Numeral
+fn number_at(text: &[u8], from: usize, to: usize, most: usize) -> Option<u16>
     requires { (from ≤ to) × (to ≤ length text.now) × (most < 2 ^ 16) }
-    ensures { numeral_from result ≡ number_up_to most (slice from to text.now) }
+    ensures { found_in result ≡ number_up_to most (slice from to text.now) }
 {
     if from == to {
-        return Numeral::Bad;
+        return None;
     }
-    if text[from] == b'0' {
-        if from + 1 < to {
-            return Numeral::Bad;
-        }
+    if text[from] == b'0' && from + 1 < to {
+        return None;
     }
     digits(text, from, to, most)
 }
 
 // The value of the digits from `from` up to `to`.
-fn digits(text: &[u8], from: usize, to: usize, most: usize) -> Numeral
+fn digits(text: &[u8], from: usize, to: usize, most: usize) -> Option<u16>
     requires { (from ≤ to) × (to ≤ length text.now) × (most < 2 ^ 16) }
-    ensures { numeral_from result ≡ numeral most 0 (slice from to text.now) }
+    ensures { found_in result ≡ numeral most 0 (slice from to text.now) }
 {
     let mut value = 0;
-    let mut i = from;
-    while i < to {
+    for i in from..to {
         let b = text[i];
-        if b < 48 {
-            return Numeral::Bad;
+        if b < b'0' || b'9' < b {
+            return None;
         }
-        if 57 < b {
-            return Numeral::Bad;
-        }
-        value = value * 10 + (b - 48) as usize;
+        value = value * 10 + (b - b'0') as usize;
         if most < value {
-            return Numeral::Bad;
+            return None;
         }
-        i += 1;
     }
-    Numeral::Is(value as u16)
+    Some(value as u16)
 }
 
 // A field is the given name.
@@ -131,12 +118,10 @@ fn are_bytes(text: &[u8], from: usize, to: usize, name: &[u8]) -> bool
     if to - from != name.len() {
         return false;
     }
-    let mut i = 0;
-    while i < name.len() {
+    for i in 0..name.len() {
         if name[i] != text[from + i] {
             return false;
         }
-        i += 1;
     }
     true
 }

@@ -1,9 +1,9 @@
 -- What the loops keep that look for the next event: the words passed, the bits passed. Assumes nothing.
-use mathlib.Core.Path.{◌≡◌, refl, sym, ap, ◌∙◌, subst, subst⁻¹}
+use mathlib.Core.Path.{◌≡◌, refl, sym, ◌∙◌, subst, subst⁻¹}
 use mathlib.Core.Bool.{Bool, true, false, not, ◌&&◌, and-false}
 use mathlib.Core.Logic.{⊎_elim}
 use mathlib.Core.List.{List}
-use mathlib.Core.Option.{Option, none, some}
+use mathlib.Core.Option.{none, some}
 use Prim.Native.Nat.{ℕ, ◌+◌, ◌-◌, ◌*◌, ◌/◌, ◌%◌, ◌^◌, ◌<◌, ◌≤◌}
 use native.Mathlib.Decide.{dec_lt}
 use native.Mathlib.Omega.{arith}
@@ -13,14 +13,18 @@ use lib.Dec.{eqb}
 use lib.ListN.{get_or}
 use lib.Pow.{pow-lt}
 use borrow.Author.Tests.{eqb-true, eq-eqb}
-use Rattle.model.specs.Bounded.{every}
-use Rattle.model.proofs.Bounded.{and_left, and_both, which, not_both, not_is_true, every_at, every_from, lowest_hit, lowest_nowhere}
+use Rattle.std.specs.Prelude.{Option, Some, None}
+use Rattle.std.specs.Option.{is_some}
+use Rattle.outcome.specs.Options.{found_in}
+use Rattle.model.specs.Bounded.{lowest}
+use Rattle.model.proofs.Bounded.{and_left, and_both, which, not_both, not_is_true, lowest_hit, lowest_nowhere}
 use Rattle.relation.specs.Width.{width, word_bits}
-use Rattle.relation.specs.Rows.{has, holds}
+use Rattle.relation.specs.Rows.{has}
 use Rattle.relation.proofs.Bits.{has_zero, has_power, mask_power}
-use Rattle.relation.proofs.Words.{has_and, has_not, some_bit, trailing_clear, trailing_set, trailing_below, word_holds, alone_row}
+use Rattle.relation.proofs.Words.{has_and, has_not, trailing_clear, trailing_set, trailing_below, alone_row}
 use Rattle.run.specs.State.{in_row}
-use Rattle.free_event.specs.Free.{row_bits, nothing_left, is_free, FreeInWord, lowest_free}
+use Rattle.row_tests.specs.Tests.{none_in}
+use Rattle.free_event.specs.Free.{row_bits, nothing_left, is_free, FreeInWord, LowestInWord}
 
 -- the bits of word i of a row
 module _ (i b : ℕ) (h : b < word_bits) where
@@ -30,52 +34,10 @@ module _ (i b : ℕ) (h : b < word_bits) where
       let m : (word_bits * i + b) % word_bits ≡ b = omega arith in
       alone_row width row (word_bits * i + b) ∙ rw (d, m)
 
--- The test of event k: no event of the words passed is left and in row k.
-module _ (words left : List ℕ) (k : ℕ) where
-  -- event x is not left, or not before k
-  abbrev apart : ℕ → Bool
-  apart x = not (holds width words k x && in_row left x)
-
-  pub record Free (i : ℕ) : Type 0 where
-    pub passed : (x : ℕ) → x < word_bits * i → apart x ≡ true
-    pub most : i ≤ width
-
-  pub free_start : Free 0
-  free_start = record { passed = λ x h. absurd (omega arith); most = omega arith }
-
-  -- the events of word i that are left and in row k
-  both : (i b : ℕ) → b < word_bits → apart (word_bits * i + b) ≡ not (has (bit_and (get_or words (k * width + i) 0) (get_or left i 0)) b)
-  both i b h =
-      rw (word_holds width words k i b h, in_word i b h left, has_and (get_or words (k * width + i) 0) (get_or left i 0) b)
-
-  pub free_more : (i : ℕ) → Free i → i < width → bit_and (get_or words (k * width + i) 0) (get_or left i 0) ≡ 0 → Free (i + 1)
-  free_more i f l z = record { passed = λ x h. go x h (dec_lt x (word_bits * i)); most = omega arith }
-    where
-      go : (x : ℕ) → x < word_bits * (i + 1) → Dec (x < word_bits * i) → apart x ≡ true
-      go x h (yes p) = f.passed x p
-      go x h (no p) =
-          let at : word_bits * i + (x - word_bits * i) ≡ x = omega arith in
-          subst (λ (y : ℕ). apart y ≡ true) at
-          (both i (x - word_bits * i) (omega arith) ∙ rw (z, has_zero (x - word_bits * i)))
-
-  pub free_end : (i : ℕ) → Free i → width ≤ i → true ≡ nothing_left words left k
-  unfolding nothing_left
-  free_end i f h = sym (every_from row_bits apart (λ x l. f.passed x (omega arith)))
-
-  pub free_not : (i : ℕ) → i < width → get_or words (k * width + i) 0 < 2 ^ word_bits
-      → (bit_and (get_or words (k * width + i) 0) (get_or left i 0) ≡ 0 → ⊥) → false ≡ nothing_left words left k
-  unfolding nothing_left
-  free_not i l small z =
-      let u = get_or words (k * width + i) 0 in
-      let v = get_or left i 0 in
-      let s = some_bit word_bits (bit_and u v) (omega (arith, and_le_l u v)) z in
-      let b = s.0 in
-      ⊎_elim
-      (λ t.
-      let p : apart (word_bits * i + b) ≡ true = every_at row_bits apart t (word_bits * i + b) (omega (arith, s.1)) in
-      not_both (not (has (bit_and u v) b)) (sym (both i b s.1) ∙ p) (ap not s.2))
-      sym
-      (which (every row_bits apart))
+-- the test of a row says that nothing left is before event k
+nothing_by_test : (words left : List ℕ) (k : ℕ) → none_in row_bits width words k left 0 ≡ nothing_left words left k
+unfolding nothing_left none_in
+nothing_by_test words left k = refl
 
 -- The bits of word w that are left to be tried: each is an event that is left, and the others of the word are not free.
 module _ (words left : List ℕ) (w : ℕ) where
@@ -101,17 +63,17 @@ module _ (words left : List ℕ) (w : ℕ) where
     bit_set : has bits bit ≡ true
     bit_set = subst⁻¹ (λ (b : ℕ). has bits b ≡ true) is (trailing_set word_bits bits t.small z)
 
-    pub trying_found : (r : Bool) → r ≡ nothing_left words left (word_bits * w + bit) → r ≡ true → w < width → FreeInWord words left w (word_bits * w + bit)
+    pub trying_found : (r : Bool) → r ≡ none_in row_bits width words (word_bits * w + bit) left 0 → r ≡ true → FreeInWord words left w (Some (word_bits * w + bit))
     unfolding is_free
-    trying_found r e y h =
+    trying_found r e y =
         let l = bit_below in
         record {
-          found = λ s. (and_both (in_row left (word_bits * w + bit)) (nothing_left words left (word_bits * w + bit)) (in_word w bit l left ∙ t.within bit l bit_set) (sym e ∙ y), omega arith);
+          found = and_both (in_row left (word_bits * w + bit)) (nothing_left words left (word_bits * w + bit)) (in_word w bit l left ∙ t.within bit l bit_set) (sym (e ∙ nothing_by_test words left (word_bits * w + bit)) ∙ y);
+          inside = omega arith;
           absent = λ j from to below.
               let at : word_bits * w + (j - word_bits * w) ≡ j = omega arith in
               subst (λ (k : ℕ). is_free words left k ≡ false) at
               (t.passed (j - word_bits * w) (omega arith) (trailing_clear word_bits bits (j - word_bits * w) (omega (arith, is))));
-          most = omega arith;
         }
 
     -- without it
@@ -133,7 +95,7 @@ module _ (words left : List ℕ) (w : ℕ) where
         let other : fewer ≡ bits → ⊥ = λ e. not_both (has bits bit) bit_set (subst (λ (n : ℕ). has n bit ≡ false) e cleared) in
         omega arith
 
-    pub trying_more : (r : Bool) → r ≡ nothing_left words left (word_bits * w + bit) → r ≡ false → Trying fewer
+    pub trying_more : (r : Bool) → r ≡ none_in row_bits width words (word_bits * w + bit) left 0 → r ≡ false → Trying fewer
     unfolding is_free
     trying_more r e f =
         record {
@@ -150,19 +112,14 @@ module _ (words left : List ℕ) (w : ℕ) where
             same : eqb b bit ≡ true → (in_row left (word_bits * w + b) && nothing_left words left (word_bits * w + b)) ≡ false
             same y =
                 let none : nothing_left words left (word_bits * w + b) ≡ false =
-                subst⁻¹ (λ (c : ℕ). nothing_left words left (word_bits * w + c) ≡ false) (eqb-true b bit y) (sym e ∙ f) in
+                subst⁻¹ (λ (c : ℕ). nothing_left words left (word_bits * w + c) ≡ false) (eqb-true b bit y) (sym (e ∙ nothing_by_test words left (word_bits * w + bit)) ∙ f) in
                 rw (none, and-false)
 
-  pub trying_end : (bits : ℕ) → Trying bits → bits ≡ 0 → FreeInWord words left w row_bits
-  trying_end bits t z =
-      record {
-        found = λ h. absurd (omega arith);
-        absent = λ j from to below.
-            let at : word_bits * w + (j - word_bits * w) ≡ j = omega arith in
-            subst (λ (k : ℕ). is_free words left k ≡ false) at
-            (t.passed (j - word_bits * w) (omega arith) (rw z (has_zero (j - word_bits * w))));
-        most = omega arith;
-      }
+  pub trying_end : (bits : ℕ) → Trying bits → bits ≡ 0 → FreeInWord words left w None
+  trying_end bits t z = λ j from to.
+      let at : word_bits * w + (j - word_bits * w) ≡ j = omega arith in
+      subst (λ (k : ℕ). is_free words left k ≡ false) at
+      (t.passed (j - word_bits * w) (omega arith) (rw z (has_zero (j - word_bits * w))))
 
 -- The words passed have no free event.
 module _ (words left : List ℕ) where
@@ -173,33 +130,37 @@ module _ (words left : List ℕ) where
   pub searching_start : Searching 0
   searching_start = record { none = λ j h. absurd (omega arith); most = omega arith }
 
-  -- a free event of the word at hand is the lowest
-  lowest_free_holds : (k : ℕ) → k < row_bits → is_free words left k ≡ true → ((j : ℕ) → j < k → is_free words left j ≡ false) → k ≡ lowest_free words left
-  unfolding lowest_free
-  lowest_free_holds k l t below =
-      sym
-      (ap (λ (o : Option ℕ). elim o [ none ↦ row_bits | some k ↦ k ])
-      (lowest_hit row_bits k (is_free words left) (lowest_nowhere k (is_free words left) below) t l))
-
-  module _ (w k : ℕ) (s : Searching w) (f : FreeInWord words left w k) where
-    here_or_earlier : (j : ℕ) → j < word_bits * w + word_bits → j < k → is_free words left j ≡ false
-    here_or_earlier j h l = go (dec_lt j (word_bits * w))
+  module _ (w : ℕ) (s : Searching w) where
+    -- a free event of the word at hand is the lowest
+    lowest_here : (k : ℕ) → w < width → LowestInWord words left w k → lowest row_bits (is_free words left) ≡ some k
+    lowest_here k l f =
+        lowest_hit row_bits k (is_free words left) (lowest_nowhere k (is_free words left) (λ j h. go j h (dec_lt j (word_bits * w)))) f.found (omega (arith, f.inside))
       where
-        go : Dec (j < word_bits * w) → is_free words left j ≡ false
-        go (yes p) = s.none j p
-        go (no p) = f.absent j (omega arith) h l
+        go : (j : ℕ) → j < k → Dec (j < word_bits * w) → is_free words left j ≡ false
+        go j h (yes p) = s.none j p
+        go j h (no p) = f.absent j (omega arith) (omega (arith, f.inside)) h
 
-    pub searching_found : k < row_bits → k ≡ lowest_free words left
-    searching_found l =
-        let g = f.found l in
-        lowest_free_holds k l g.0 (λ j h. here_or_earlier j (omega (arith, g.1)) h)
+    none_here : w < width → FreeInWord words left w None → Searching (w + 1)
+    none_here l f = record { none = λ j b. go j b (dec_lt j (word_bits * w)); most = omega arith }
+      where
+        go : (j : ℕ) → j < word_bits * (w + 1) → Dec (j < word_bits * w) → is_free words left j ≡ false
+        go j b (yes p) = s.none j p
+        go j b (no p) = f j (omega arith) (omega arith)
 
-    pub searching_more : w < width → row_bits ≤ k → Searching (w + 1)
-    searching_more l h = record { none = λ j b. here_or_earlier j (omega arith) (omega arith); most = omega arith }
+    module _ (r : Option ℕ) (b : Bool) (f : FreeInWord words left w r) (is : b ≡ is_some r) where
+      pub searching_found : b ≡ true → w < width → found_in r ≡ lowest row_bits (is_free words left)
+      searching_found t l = go r f (sym is ∙ t)
+        where
+          go : (r : Option ℕ) → FreeInWord words left w r → is_some r ≡ true → found_in r ≡ lowest row_bits (is_free words left)
+          go (Some k) f t = sym (lowest_here k l f)
+          go None f t = not_both false t refl
 
-  pub searching_end : (w : ℕ) → Searching w → width ≤ w → row_bits ≡ lowest_free words left
-  unfolding lowest_free
-  searching_end w s h =
-      sym
-      (ap (λ (o : Option ℕ). elim o [ none ↦ row_bits | some k ↦ k ])
-      (lowest_nowhere row_bits (is_free words left) (λ j b. s.none j (omega arith))))
+      pub searching_more : b ≡ false → w < width → Searching (w + 1)
+      searching_more t l = go r f (sym is ∙ t)
+        where
+          go : (r : Option ℕ) → FreeInWord words left w r → is_some r ≡ false → Searching (w + 1)
+          go (Some k) f t = not_both true refl t
+          go None f t = none_here l f
+
+    pub searching_end : width ≤ w → none ≡ lowest row_bits (is_free words left)
+    searching_end h = sym (lowest_nowhere row_bits (is_free words left) (λ j b. s.none j (omega arith)))

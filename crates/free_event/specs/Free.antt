@@ -1,7 +1,6 @@
--- The events that have nothing left before them, and the lowest of them. Assumes nothing.
-use Rattle.std.specs.Prelude.{◌≡◌, Bool, true, false, not, ◌&&◌, List, ℕ, ◌+◌, ◌*◌, ◌<◌, ◌≤◌}
-use Rattle.std.proofs.Math.Option.{none, some}
-use Rattle.model.specs.Bounded.{every, lowest}
+-- The events that have nothing left before them, and the lowest of a word. Assumes nothing.
+use Rattle.std.specs.Prelude.{◌≡◌, Bool, true, false, not, ◌&&◌, List, ℕ, ◌+◌, ◌*◌, ◌<◌, ◌≤◌, Option, Some, None}
+use Rattle.model.specs.Bounded.{every}
 use Rattle.relation.specs.Width.{width, word_bits}
 use Rattle.relation.specs.Rows.{holds}
 use Rattle.run.specs.State.{in_row}
@@ -18,12 +17,13 @@ nothing_left words left k = every row_bits (λ x. not (holds width words k x && 
 unfoldable pub is_free : List ℕ → List ℕ → ℕ → Bool
 is_free words left k = in_row left k && nothing_left words left k
 
--- r is such an event, up to word w, unless it is the bits of a row; and none of word w below r is one
-pub record FreeInWord (words left : List ℕ) (w r : ℕ) : Type 0 where
-  pub found : r < row_bits → (is_free words left r ≡ true) × (r < word_bits * w + word_bits)
+-- r is such an event of word w, and none of the word below it is
+pub record LowestInWord (words left : List ℕ) (w r : ℕ) : Type 0 where
+  pub found : is_free words left r ≡ true
+  pub inside : r < word_bits * w + word_bits
   pub absent : (j : ℕ) → word_bits * w ≤ j → j < word_bits * w + word_bits → j < r → is_free words left j ≡ false
-  pub most : r ≤ row_bits
 
--- the lowest such event, or the bits of a row
-unfoldable pub lowest_free : List ℕ → List ℕ → ℕ
-lowest_free words left = elim (lowest row_bits (is_free words left)) [ none ↦ row_bits | some k ↦ k ]
+-- the event found is the lowest such of word w, or the word has none
+abbrev pub FreeInWord : List ℕ → List ℕ → ℕ → Option ℕ → Type 0
+FreeInWord words left w (Some r) = LowestInWord words left w r
+FreeInWord words left w None = (j : ℕ) → word_bits * w ≤ j → j < word_bits * w + word_bits → is_free words left j ≡ false

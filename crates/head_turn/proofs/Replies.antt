@@ -3,7 +3,7 @@ use mathlib.Core.Path.{◌≡◌, refl, sym, ◌∙◌, ap, subst⁻¹}
 use mathlib.Core.Bool.{Bool, true, false}
 use mathlib.Core.List.{List, [], ◌∷◌}
 use mathlib.Core.Option.{none, some}
-use Prim.Native.Nat.{ℕ, ◌-◌, ◌%◌, ◌<◌, ◌≤◌}
+use Prim.Native.Nat.{ℕ, ◌-◌, ◌%◌, ◌<◌, ◌≤◌, ◌^◌}
 use native.Mathlib.Omega.{arith}
 use borrow.Rule.Slice.PartMut.{mid_of}
 use lib.ListN.{length, set}
@@ -15,8 +15,8 @@ use Rattle.model.specs.Dispatcher.{is_last, turned, idle, idle_word, taken_word,
 use Rattle.queue.specs.declared.Job.{Job}
 use Rattle.queue.specs.declared.Queue.{Queue}
 use Rattle.queue.specs.declared.Taken.{Taken}
-use Rattle.queue.specs.declared.Head.{Head}
-use Rattle.queue.specs.declared.Head.TheVariants as head
+use Rattle.std.specs.Prelude as std
+use Rattle.std.specs.Prelude.{Some, None, Result, Ok, Err}
 use Rattle.queue.specs.Bridge.{job_in, queue_in, PlacesOf, head_in, head_of, FirstPlace}
 use Rattle.taken_places.specs.Places.{TakenIn}
 use Rattle.queue_moves.proofs.Turns.{turned_places}
@@ -30,7 +30,11 @@ use Rattle.last_turn.specs.Answer.{zeros, Concludes}
 use Rattle.held_jobs.specs.Held.{Held, dispatcher_of, boards_at, lent, told_with}
 use Rattle.held_jobs.proofs.Cases.{turn_words, turn_trace, turn_idle}
 use Rattle.held_jobs.proofs.Serving.{untouched, cleared}
+use Rattle.outcome.specs.declared.Refusal.{Refusal}
+use Rattle.outcome.specs.declared.Reason.{Reason}
+use Rattle.outcome.specs.declared.Reason.TheVariants.{Bench}
 use Rattle.head_turn.specs.declared.Turn.{Turn}
+use Rattle.head_turn.specs.declared.Turn.TheVariants as turn
 use Rattle.head_turn.specs.Serving.{Parts, turned_by, Turns, TurnIn, TakesTurn}
 use Rattle.head_turn.proofs.Turning.{taken_serves, answered_serves}
 
@@ -42,7 +46,7 @@ module _ (d : Held) (words trace : List ℕ) (r : Served Held) where
   pub turn_short_trace : length trace < trace_least → r ≡ told_with refused_word bench_refusal 0 d → Turns d words trace words trace r
   turn_short_trace h e sheets lengths codes = untouched d _ bench_refusal 0 r (turn_trace (dispatcher_of d) (lent sheets lengths codes words) trace h) (omega arith) e
 
-  pub turn_idles : (exit : List ℕ) (h : Head) → head_in h ≡ head_of (queue_in d.queue) → h ≡ head.Nothing → job_words_least ≤ length words → trace_least ≤ length trace
+  pub turn_idles : (exit : List ℕ) (h : std.Option Job) → head_in h ≡ head_of (queue_in d.queue) → h ≡ None → job_words_least ≤ length words → trace_least ≤ length trace
       → FreeCleared (queue_in d.queue) words exit → r ≡ told_with idle_word 0 0 d → Turns d words trace exit trace r
   unfolding touches_nothing leaves_all
   turn_idles exit h found i w t F e sheets lengths codes =
@@ -55,49 +59,32 @@ module _ (d : Held) (words trace : List ℕ) (r : Served Held) where
 pub last_is : (j : model.Job) (r b : Bool) → r ≡ is_last j → r ≡ b → is_last j ≡ b
 last_is j r b e t = sym e ∙ t
 
-pub is_head : (js : List model.Job) (v : Head) (job : Job) → head_in v ≡ head_of js → v ≡ head.Job job → head_of js ≡ some (job_in job)
+pub is_head : (js : List model.Job) (v : std.Option Job) (job : Job) → head_in v ≡ head_of js → v ≡ Some job → head_of js ≡ some (job_in job)
 is_head js v job e i = sym e ∙ ap head_in i
 
 -- ---- a turn, as it is of every dispatcher with these parts
-pub unmoved_as : (word one : ℕ) (race : Race) (queue : Queue) (a : Numbers) → a ≡ zeros
-    → ◌≡◌ {A = Turn} (record { word = word; one = one; answer = a; race = race; queue = queue }) (record { word = word; one = one; answer = zeros; race = race; queue = queue })
-unmoved_as word one race queue a e = ap (λ (n : Numbers). record { word = word; one = one; answer = n; race = race; queue = queue }) e
-
 module _ (queue : Queue) (place : ℕ) (race : Race) (on : List ℕ) where
-  -- what is put back is what was taken out
-  races_kept : (d : Held) → Parts d queue place race on → set d.races place race ≡ d.races
-  races_kept d P = ap (λ (r : Race). set d.races place r) (sym P.is_race) ∙ set-get_or d.races place _
+  module _ (words trace : List ℕ) where
+    pub serve_short_words : (r : Refusal) → r ≡ record { reason = Bench; line = 0 } → length words < job_words_least → TurnIn queue place race on words trace words trace (Err r)
+    serve_short_words r i h = record { serves = λ d P. turn_short_words d words trace _ h (ap (λ (q : Refusal). turned_by d place (Err q)) i) }
 
-  alone : (d : Held) → Parts d queue place race on → (word one : ℕ) (r : Turn)
-      → r ≡ record { word = word; one = one; answer = zeros; race = race; queue = queue } → turned_by d place r ≡ told_with word one 0 d
-  alone d P word one r e =
-      ap (turned_by d place) e
-      ∙ ap (λ (q : Queue). told_with word one 0 (record { queue = q; given = d.given; races = set d.races place race; boards = d.boards })) (sym P.is_queue)
-      ∙ ap (λ (l : List Race). told_with word one 0 (record { queue = d.queue; given = d.given; races = l; boards = d.boards })) (races_kept d P)
+    pub serve_short_trace : (r : Refusal) → r ≡ record { reason = Bench; line = 0 } → length trace < trace_least → TurnIn queue place race on words trace words trace (Err r)
+    serve_short_trace r i h = record { serves = λ d P. turn_short_trace d words trace _ h (ap (λ (q : Refusal). turned_by d place (Err q)) i) }
 
-  module _ (words trace : List ℕ) (r : Turn) where
-    pub serve_short_words : length words < job_words_least → r ≡ record { word = refused_word; one = bench_refusal; answer = zeros; race = race; queue = queue }
-        → TurnIn queue place race on words trace words trace r
-    serve_short_words h e = record { serves = λ d P. turn_short_words d words trace (turned_by d place r) h (alone d P refused_word bench_refusal r e) }
-
-    pub serve_short_trace : length trace < trace_least → r ≡ record { word = refused_word; one = bench_refusal; answer = zeros; race = race; queue = queue }
-        → TurnIn queue place race on words trace words trace r
-    serve_short_trace h e = record { serves = λ d P. turn_short_trace d words trace (turned_by d place r) h (alone d P refused_word bench_refusal r e) }
-
-    pub serve_idles : (taken : Taken) → TakenIn queue taken → (exit : List ℕ) (h : Head) → head_in h ≡ head_of (queue_in queue) → h ≡ head.Nothing
+    pub serve_idles : (taken : Taken) → TakenIn queue taken → (exit : List ℕ) (h : std.Option Job) → head_in h ≡ head_of (queue_in queue) → h ≡ None
         → job_words_least ≤ length words → trace_least ≤ length trace → ClearedBut taken.places words exit
-        → r ≡ record { word = idle_word; one = 0; answer = zeros; race = race; queue = queue } → TurnIn queue place race on words trace exit trace r
-    serve_idles taken T exit h found i w t C e =
+        → TurnIn queue place race on words trace exit trace (Ok turn.Idle)
+    serve_idles taken T exit h found i w t C =
         record {
           serves = λ d P.
-              turn_idles d words trace (turned_by d place r) exit h
+              turn_idles d words trace (turned_by d place (Ok turn.Idle)) exit h
               (subst⁻¹ (λ (q : Queue). head_in h ≡ head_of (queue_in q)) P.is_queue found) i w t
-              (subst⁻¹ (λ (q : Queue). FreeCleared (queue_in q) words exit) P.is_queue (C.cleared (queue_in queue) T.taken)) (alone d P idle_word 0 r e);
+              (subst⁻¹ (λ (q : Queue). FreeCleared (queue_in q) words exit) P.is_queue (C.cleared (queue_in queue) T.taken)) refl;
         }
 
 -- the place taken out is that of the head
-module _ (queue : Queue) (place : ℕ) (F : FirstPlace (queue_in queue) place) (race : Race) (on words exit : List ℕ) (r : Turn) (v : Head) (job : Job)
-    (found : head_in v ≡ head_of (queue_in queue)) (i : v ≡ head.Job job) where
+module _ (queue : Queue) (place : ℕ) (F : FirstPlace (queue_in queue) place) (race : Race) (on words exit : List ℕ) (r : Result Turn Refusal) (v : std.Option Job) (job : Job)
+    (found : head_in v ≡ head_of (queue_in queue)) (i : v ≡ Some job) where
   at_head : place ≡ job.place % jobs_most
   at_head = F.head (job_in job) (is_head (queue_in queue) v job found i)
 
@@ -125,9 +112,8 @@ module _ (queue : Queue) (job : Job) (race : Race) (on words : List ℕ) (head :
     left_of = subst⁻¹ (λ (q : Queue). queue_in left ≡ turned (queue_in q)) P.is_queue is_left
 
   pub take_serves : (taken : Taken) → TakenIn queue taken → ClearedBut taken.places words exit → is_last (job_in job) ≡ false → (found : Race)
-      → Looks job.count on own job.code job.turns race found → (a : Numbers) → a ≡ zeros
-      → TakesTurn queue at race on words exit (record { word = taken_word; one = job.number; answer = a; race = found; queue = left })
-  take_serves taken T C early found looks a e =
+      → Looks job.count on own job.code job.turns race found → TakesTurn queue at race on words exit (Ok (turn.Taken job.number found left))
+  take_serves taken T C early found looks =
       record {
         serves = λ trace t.
             record {
@@ -138,21 +124,18 @@ module _ (queue : Queue) (job : Job) (race : Race) (on words : List ℕ) (head :
                   left (left_of d P) exit
                   (subst⁻¹ (λ (js : List model.Job). FreeCleared js words exit) is_left
                   (C.cleared (turned (queue_in queue)) (turned_places (queue_in queue) (job_in job) taken.places head early T.taken)))
-                  (lent sheets lengths codes words) refl trace t _
-                  (ap (λ (n : Numbers). turned_by d at (record { word = taken_word; one = job.number; answer = n; race = found; queue = left })) e);
+                  (lent sheets lengths codes words) refl trace t _ refl;
             };
       }
 
   pub answer_serves : (bits : ℕ) → PlacesOf (queue_in left) bits → ClearedBut bits words exit → is_last (job_in job) ≡ true → (trace trace_exit : List ℕ) (a : Numbers)
       → Concludes job.count on own job.code race trace trace_exit (last.numbers_in a) → trace_least ≤ length trace
-      → TurnIn queue at race on words trace exit trace_exit (record { word = answered_word; one = job.number; answer = a; race = race; queue = left })
+      → TurnIn queue at race on words trace exit trace_exit (Ok (turn.Answered job.number a left))
   answer_serves bits B C late trace trace_exit a K t =
       record {
         serves = λ d P sheets lengths codes.
             answered_serves d job words (head_of_holds d P) long P.races late left (left_of d P) exit (C.cleared (queue_in left) B) trace trace_exit (last.numbers_in a)
             (subst⁻¹ (λ (r : Race). Concludes job.count (boards_at d at) own job.code r trace trace_exit (last.numbers_in a)) P.is_race
             (subst⁻¹ (λ (b : List ℕ). Concludes job.count b own job.code race trace trace_exit (last.numbers_in a)) P.is_on K))
-            (lent sheets lengths codes words) refl t _
-            (ap (λ (l : List Race). record { told = record { word = answered_word; one = job.number; two = 0; answer = last.numbers_in a }; next = record { queue = left; given = d.given; races = l; boards = d.boards } })
-            (races_kept queue at race on d P));
+            (lent sheets lengths codes words) refl t _ refl;
       }

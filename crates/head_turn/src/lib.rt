@@ -1,43 +1,27 @@
 // A turn of the head of the queue: a share of its race search, or, on its last turn, the check's answer.
 #![tactic(auto)]
 
-ghost use Rattle.std.specs.Prelude.{◌≡◌, true, false, ◌%◌, ◌≤◌, length};
+ghost use Rattle.std.specs.Prelude.{Ok, ◌≡◌, true, false, ◌%◌, ◌≤◌, length};
 ghost use Rattle.std.proofs.Math.Option.{some};
 ghost use Rattle.model.specs.Limits.{jobs_most, job_words_least, trace_least};
 ghost use Rattle.model.specs.Dispatcher.{is_last};
 ghost use Rattle.queue.specs.Bridge.{job_in, queue_in, Counted, head_of, FirstPlace};
 ghost use Rattle.taken_places.specs.Places.{TakenIn};
-ghost use Rattle.last_turn.specs.Answer.{zeros};
+ghost use Rattle.lent.specs.Lent.{LineFits};
 ghost use Rattle.head_turn.specs.Serving.{TakesTurn, TurnIn};
 
-use answer_words::served::{ANSWERED, IDLE, REFUSED, TAKEN};
 use last_turn::Numbers;
-use queue::{Head, Job, Queue, Taken};
+use outcome::Refusal;
+use queue::{Job, Queue, Taken};
 use share::Race;
 
-// What a turn leaves of what it may change: its word and the job that it names, the check's answer, what the search of the head has found, and
-// the queue.
+// A turn: no job is held; or the job of a number had one, with what the search has found and the queue that it leaves; or it is answered, with the
+// check's answer and the queue without it.
 #[derive(Clone, Copy)]
-pub struct Turn {
-    pub word: u32,
-    pub one: u32,
-    pub answer: Numbers,
-    pub race: Race,
-    pub queue: Queue,
-}
-
-// A turn that leaves the dispatcher as it was.
-fn unmoved(word: u32, one: u32, race: Race, queue: Queue) -> Turn
-    ensures { result ≡ record { word = word; one = one; answer = zeros; race = race; queue = queue } }
-{
-    let answer = Numbers::zero();
-    Turn {
-        word,
-        one,
-        answer,
-        race,
-        queue,
-    }
+pub enum Turn {
+    Idle,
+    Taken(u32, Race, Queue),
+    Answered(u32, Numbers, Queue),
 }
 
 // A turn that is not its job's last: a share of the race search, and the job goes behind the last. The places held stay the same.
@@ -52,7 +36,7 @@ fn take(
     requires taken_in { TakenIn queue taken }
     requires queue_value { (head_of (queue_in queue) ≡ some (job_in job)) × (is_last (job_in job) ≡ false) }
     requires job_words_least_in_bounds { job_words_least ≤ length words.old }
-    ensures { TakesTurn queue (job.place % jobs_most) race boards.now words.old words.new result }
+    ensures { TakesTurn queue (job.place % jobs_most) race boards.now words.old words.new (Ok result) }
 {
     let place = job.place as usize % model::JOBS_MOST;
     let from = place * model::SCRATCH_LEAST;
@@ -67,14 +51,7 @@ fn take(
     );
     let turned = queue_moves::turned(queue, job, taken.count);
     places::clear_free(words, taken.places);
-    let answer = Numbers::zero();
-    Turn {
-        word: TAKEN,
-        one: job.number,
-        answer,
-        race: found,
-        queue: turned,
-    }
+    Turn::Taken(job.number, found, turned)
 }
 
 // A job's last turn: the check's answer, and the job leaves.
@@ -90,7 +67,7 @@ fn answer(
     requires counted { Counted queue count }
     requires queue_value { (head_of (queue_in queue) ≡ some (job_in job)) × (is_last (job_in job) ≡ true) }
     requires job_words_least_in_bounds { (job_words_least ≤ length words.old) × (trace_least ≤ length trace.old) }
-    ensures { TurnIn queue (job.place % jobs_most) race boards.now words.old trace.old words.new trace.new result }
+    ensures { TurnIn queue (job.place % jobs_most) race boards.now words.old trace.old words.new trace.new (Ok result) }
 {
     let place = job.place as usize % model::JOBS_MOST;
     let from = place * model::SCRATCH_LEAST;
@@ -106,16 +83,10 @@ fn answer(
     let turned = queue_moves::turned(queue, job, count);
     let left = taken_places::places(turned);
     places::clear_free(words, left);
-    Turn {
-        word: ANSWERED,
-        one: job.number,
-        answer: told,
-        race,
-        queue: turned,
-    }
+    Turn::Answered(job.number, told, turned)
 }
 
-// A turn, from the queue and what stands in the place of its head.
+// A turn, from the queue and what stands in the place of its head. A turn that is idle or refused leaves the dispatcher as it was.
 pub fn serve(
     queue: Queue,
     place: usize,
@@ -123,24 +94,20 @@ pub fn serve(
     boards: &[u8; model::EVENTS_MOST],
     words: &mut [u64],
     trace: &mut [u8],
-) -> Turn
+) -> Result<Turn, Refusal>
     requires { FirstPlace (queue_in queue) place }
-    ensures { TurnIn queue place race boards.now words.old trace.old words.new trace.new result }
+    ensures turns { TurnIn queue place race boards.now words.old trace.old words.new trace.new result }
+    ensures fits { LineFits result }
 {
-    if words.len() < model::JOB_WORDS_LEAST {
-        return unmoved(REFUSED, model::BENCH as u32, race, queue);
-    }
-    if trace.len() < model::TRACE_LEAST {
-        return unmoved(REFUSED, model::BENCH as u32, race, queue);
-    }
+    lent::at_least(model::JOB_WORDS_LEAST, words.len())?;
+    lent::at_least(model::TRACE_LEAST, trace.len())?;
     let taken = taken_places::taken(queue);
-    let head = queue.head(taken.count);
-    let Head::Job(job) = head else {
+    let Some(job) = queue.head(taken.count) else {
         places::clear_free(words, taken.places);
-        return unmoved(IDLE, 0, race, queue);
+        return Ok(Turn::Idle);
     };
     if job.is_last() {
-        return answer(queue, taken.count, job, race, boards, words, trace);
+        return Ok(answer(queue, taken.count, job, race, boards, words, trace));
     }
-    take(queue, taken, job, race, boards, words)
+    Ok(take(queue, taken, job, race, boards, words))
 }

@@ -19,7 +19,9 @@ use Rattle.queue.specs.declared.Job.{Job}
 use Rattle.queue.specs.declared.Queue.{Queue}
 use Rattle.queue.specs.Bridge.{job_in, jobs_in, queue_in, Counted}
 use Rattle.queue.proofs.Jobs.{jobs_append, jobs_length, jobs_more, counted_length}
-use Rattle.job_numbers.specs.Position.{position_of}
+use Rattle.std.specs.Prelude.{Option, Some, None}
+use Rattle.std.specs.Option.{is_some}
+use Rattle.job_numbers.specs.Position.{position_of, IsPosition}
 
 other_number : (n k : ℕ) (rest : Bool) → (eqb n k || rest) ≡ false → (k ≡ n → ⊥) × (rest ≡ false)
 other_number n k rest h = (λ i. not_both _ (or_left _ rest (eq-eqb n k (sym i))) h, or_rest (eqb n k) rest h)
@@ -35,13 +37,6 @@ position_behind n [] j b h e = rw (eq-eqb j.number n e)
 position_behind n (k ∷ a) j b h e =
     let o = other_number n k.number (among n (numbers_in a)) h in
     rw (ne_eqb k.number n o.0) (ap suc (position_behind n a j b o.1 e))
-
-position_none : (n : ℕ) (a : List model.Job) → among n (numbers_in a) ≡ false → position_of n a ≡ length a
-unfolding among numbers_in position_of
-position_none n [] h = refl
-position_none n (k ∷ a) h =
-    let o = other_number n k.number (among n (numbers_in a)) h in
-    rw (ne_eqb k.number n o.0) (ap suc (position_none n a o.1))
 
 numbers_append : (x y : List model.Job) → numbers_in (x ++ y) ≡ numbers_in x ++ numbers_in y
 unfolding numbers_in
@@ -70,26 +65,24 @@ module _ (q : Queue) (number count : ℕ) where
       }
 
   pub looked_here : (i : ℕ) (other : Job) → Counted q count → Looked q number count i → (get_or q.jobs i other).number ≡ number → i < count
-      → i ≡ position_of number (queue_in q)
+      → IsPosition number (queue_in q) (Some i)
   unfolding jobs_in
   looked_here i other C p e l =
       let L = take count q.jobs in
       let long : length L ≡ count = length-take-le count q.jobs (omega (arith, C.room, C.most)) in
       let cut : L ≡ take i q.jobs ++ get_or q.jobs i other ∷ drop (suc i) L =
-      split_at L i other (omega arith) ∙ rw (take-take i count q.jobs (omega arith), get_or-take count q.jobs i other l) in
-      sym
-      (ap (position_of number) (C.first ∙ ap jobs_in cut ∙ jobs_append (take i q.jobs) (get_or q.jobs i other ∷ drop (suc i) L))
-      ∙ position_behind number (jobs_in (take i q.jobs)) (job_in (get_or q.jobs i other)) (jobs_in (drop (suc i) L)) p.none e
-      ∙ jobs_length (take i q.jobs) ∙ length-take-le i q.jobs (omega (arith, C.room, C.most)))
+      split_at L i other (omega arith) ∙ rw (take-take i count q.jobs (omega arith), get_or-take count q.jobs i other l) in (
+        sym
+            (ap (position_of number) (C.first ∙ ap jobs_in cut ∙ jobs_append (take i q.jobs) (get_or q.jobs i other ∷ drop (suc i) L))
+            ∙ position_behind number (jobs_in (take i q.jobs)) (job_in (get_or q.jobs i other)) (jobs_in (drop (suc i) L)) p.none e
+            ∙ jobs_length (take i q.jobs) ∙ length-take-le i q.jobs (omega (arith, C.room, C.most))),
+        omega (arith, counted_length q count C),
+      )
 
-  pub looked_all : (i : ℕ) → Counted q count → Looked q number count i → count ≤ i → count ≡ position_of number (queue_in q)
+  pub looked_all : (i : ℕ) → Counted q count → Looked q number count i → count ≤ i → IsPosition number (queue_in q) None
   looked_all i C p l =
       let e : i ≡ count = omega (arith, p.within) in
-      let nowhere : among number (numbers_in (queue_in q)) ≡ false =
-      ap (λ s. among number (numbers_in s)) C.first ∙ ap (λ n. among number (numbers_in (jobs_in (take n q.jobs)))) (sym e) ∙ p.none in
-      sym
-      (position_none number (queue_in q) nowhere
-      ∙ ap length C.first ∙ jobs_length (take count q.jobs) ∙ length-take-le count q.jobs (omega (arith, C.room, C.most)))
+      ap (λ s. among number (numbers_in s)) C.first ∙ ap (λ n. among number (numbers_in (jobs_in (take n q.jobs)))) (sym e) ∙ p.none
 
 position_held : (n : ℕ) (js : List model.Job) → ltb (position_of n js) (length js) ≡ among n (numbers_in js)
 unfolding among numbers_in position_of
@@ -105,11 +98,9 @@ position_held n (j ∷ js) = go (position_held n js) (ℕ_discrete n j.number)
     go rest (yes e) = rw (eq-eqb j.number n (sym e), eq-eqb n j.number e) (lt-ltb 0 (suc (length js)) (omega arith))
     go rest (no h) = rw (ne_eqb j.number n (λ i. h (sym i)), ne_eqb n j.number h) (shift (position_of n js) (length js) ∙ rest)
 
-pub holds_as : (q : Queue) (number at count : ℕ) → at ≡ position_of number (queue_in q) → Counted q count → ltb at count ≡ among number (numbers_in (queue_in q))
-holds_as q number at count e C = rw (e, ← counted_length q count C) (position_held number (queue_in q))
-
-pub position_below : (q : Queue) (number at : ℕ) → at ≡ position_of number (queue_in q) → among number (numbers_in (queue_in q)) ≡ true → at < length (queue_in q)
-position_below q number at e t = ltb-true at (length (queue_in q)) (rw e (position_held number (queue_in q) ∙ t))
+pub holds_as : (q : Queue) (number : ℕ) (r : Option ℕ) (b : Bool) → IsPosition number (queue_in q) r → b ≡ is_some r → b ≡ among number (numbers_in (queue_in q))
+holds_as q number (Some at) b p e = e ∙ sym (sym (position_held number (queue_in q)) ∙ rw (← p.0) (lt-ltb at (length (queue_in q)) p.1))
+holds_as q number None b p e = e ∙ sym p
 
 without_at : (n : ℕ) (js : List model.Job) → take (position_of n js) js ++ drop (suc (position_of n js)) js ≡ without n js
 unfolding position_of without

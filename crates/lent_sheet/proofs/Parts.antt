@@ -9,7 +9,8 @@ use lib.ListN.{length, get_or, take, drop, length-drop, drop_of_length-le, get_o
 use lib.Seq.{take_all, take-nil, take-take}
 use borrow.Rule.Slice.PartMut.{mid_of, put_mid, mid_len}
 use Rattle.model.specs.Limits.{text_most, scratch_least, jobs_most, job_words_least}
-use Rattle.expansion.specs.declared.Expanded.{Expanded}
+use Rattle.std.specs.Prelude.{Result}
+use Rattle.outcome.specs.declared.Refusal.{Refusal}
 use Rattle.scenario.specs.Contract.{SheetIn}
 use Rattle.places.proofs.Parts.{from, to, span, part_put}
 use Rattle.lent_sheet.specs.Sheet.{sheet_in, ReadsSheet}
@@ -76,7 +77,7 @@ module _ (sheets : List ℕ) (size place first last : ℕ) (few : size ≤ text_
                   above : (first + size < n → ⊥) → n - first ≤ size
                   above b = omega arith
 
-  pub reads : (words boards ys : List ℕ) (r : Expanded) → job_words_least ≤ length words → place < jobs_most
+  pub reads : (words boards ys : List ℕ) (r : Result ℕ Refusal) → job_words_least ≤ length words → place < jobs_most
       → SheetIn (take (last - first) (drop first sheets)) boards ys r → length ys ≡ length (mid_of (from place) (to place - from place) words)
       → ReadsSheet sheets size place words boards (put_mid (from place) (to place - from place) words ys) r
   reads words boards ys r long l s same =

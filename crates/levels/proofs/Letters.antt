@@ -1,5 +1,5 @@
 -- What the letter read at a row says of that row. Assumes nothing.
-use Prim.Native.Nat.{ℕ, ◌<◌, ◌≤◌}
+use Prim.Native.Nat.{ℕ, ◌<◌}
 use native.Mathlib.Decide.{dec_lt}
 use native.Mathlib.Omega.{arith}
 use mathlib.Core.Path.{◌≡◌, sym}
@@ -25,7 +25,3 @@ module _ (kind : List ℕ) (count i letter : ℕ) (read : letter ≡ letter_at k
 pub letter_inside : (kind : List ℕ) (count i : ℕ) → i < count → get_or kind i 0 ≡ letter_at kind count i
 unfolding letter_at
 letter_inside kind count i h = rw (lt-ltb i count h)
-
-pub letter_behind : (kind : List ℕ) (count i : ℕ) → count ≤ i → 83 ≡ letter_at kind count i
-unfolding letter_at
-letter_behind kind count i h = rw (le-ltb i count h)

@@ -9,6 +9,7 @@ ghost use Rattle.levels.specs.Letters.{letter_at};
 use walk::Walk;
 
 // The letter of a row. Behind the last it is an S: the file's end ends its last sheet.
+#[tactic(auto, unfolding(crate::specs::Letters::letter_at))]
 pub fn letter_at(kind: &[u8], rows: usize, row: usize) -> u8
     requires { rows ≤ length kind.now }
     ensures { result ≡ letter_at kind.now rows row }
@@ -30,6 +31,5 @@ pub fn start_of(start: &[u16], sheet: u16) -> usize
     requires { sheet < length start.now }
     ensures { result ≡ get_or start.now sheet 0 }
 {
-    let n = sheet as usize;
-    start[n] as usize
+    start[sheet as usize] as usize
 }

@@ -9,11 +9,11 @@ use borrow.Author.Tests.{eq-eqb, ltb-true, ltb-false, eqb-true, not-true, not-fa
 use lib.Dec.{eqb, ltb}
 use lib.ListN.{length, drop, get_or, drop_of_length-le}
 use lib.Seq.{drop-cons}
+use Rattle.std.specs.Prelude.{Some, None}
 use Rattle.model.proofs.Bounded.{not_both}
 use Rattle.model.specs.Text.{line_end, space}
-use Rattle.line.specs.Scan.{behind_field, begins_with, behind_byte, Parts, three, other, parts_of}
+use Rattle.line.specs.Scan.{behind_field, begins_with, behind_byte, Parts, other, parts_of}
 use Rattle.line.specs.Parts.{FieldEnd, SplitAs}
-use Rattle.line.specs.declared.Split.TheVariants.{Three, Other}
 
 -- behind a byte that is there, and where it is not
 not_begun : (b : ℕ) (s : List ℕ) (f : List ℕ → Parts) → begins_with b s ≡ false → behind_byte b s f ≡ other
@@ -53,19 +53,19 @@ module _ (text : List ℕ) (at a : ℕ) (f : FieldEnd text at a) where
   go : (b : ℕ) (k : List ℕ → Parts) → begins_with b (drop a text) ≡ true → behind_byte b (behind_field (drop at text)) k ≡ k (drop (a + 1) text)
   go b k h = ap (λ (s : List ℕ). behind_byte b s k) (sym f.behind) ∙ begun_at text b a k h
 
-pub cut_one : (text : List ℕ) (at a : ℕ) (r : Bool) → FieldEnd text at a → r ≡ begins_with space (drop a text) → not r ≡ true → SplitAs text at Other
+pub cut_one : (text : List ℕ) (at a : ℕ) (r : Bool) → FieldEnd text at a → r ≡ begins_with space (drop a text) → not r ≡ true → SplitAs text at None
 unfolding parts_of
 cut_one text at a r f e h = record { parts = sym (stop text at a f space _ (sym e ∙ not-true r h)); cut = tt }
 
 pub cut_two : (text : List ℕ) (at a b : ℕ) (r r' : Bool) → FieldEnd text at a → r ≡ begins_with space (drop a text) → not r ≡ false
-    → FieldEnd text (a + 1) b → r' ≡ begins_with space (drop b text) → not r' ≡ true → SplitAs text at Other
+    → FieldEnd text (a + 1) b → r' ≡ begins_with space (drop b text) → not r' ≡ true → SplitAs text at None
 unfolding parts_of
 cut_two text at a b r r' f e h g e' h' =
     record { parts = sym (go text at a f space _ (sym e ∙ not-false r h) ∙ stop text (a + 1) b g space _ (sym e' ∙ not-true r' h')); cut = tt }
 
 pub cut_three : (text : List ℕ) (at a b e : ℕ) (r r' r'' : Bool) → FieldEnd text at a → r ≡ begins_with space (drop a text) → not r ≡ false
     → FieldEnd text (a + 1) b → r' ≡ begins_with space (drop b text) → not r' ≡ false
-    → FieldEnd text (b + 1) e → r'' ≡ begins_with line_end (drop e text) → not r'' ≡ true → SplitAs text at Other
+    → FieldEnd text (b + 1) e → r'' ≡ begins_with line_end (drop e text) → not r'' ≡ true → SplitAs text at None
 unfolding parts_of
 cut_three text at a b e r r' r'' f p h g p' h' l p'' h'' =
     record {
@@ -77,7 +77,7 @@ cut_three text at a b e r r' r'' f p h g p' h' l p'' h'' =
 pub cut_whole : (text : List ℕ) (at a b e : ℕ) (r r' r'' : Bool) → FieldEnd text at a → r ≡ begins_with space (drop a text) → not r ≡ false
     → FieldEnd text (a + 1) b → r' ≡ begins_with space (drop b text) → not r' ≡ false
     → FieldEnd text (b + 1) e → r'' ≡ begins_with line_end (drop e text) → not r'' ≡ false
-    → SplitAs text at (Three (record { at = at; first = a; second = b; end = e }))
+    → SplitAs text at (Some (record { at = at; first = a; second = b; end = e }))
 unfolding parts_of
 cut_whole text at a b e r r' r'' f p h g p' h' l p'' h'' =
     record {

@@ -8,12 +8,11 @@ use borrow.Author.Tests.{eqb-true, ne_eqb}
 use lib.Dec.{eqb}
 use lib.ListN.{length, get_or, drop}
 use lib.Seq.{drop-cons}
+use Rattle.std.specs.Prelude.{Some, None}
 use Rattle.model.specs.Text.{line_end, space, lines_of, ahead_of_line, fields_of, ahead_of_field}
 use Rattle.line.specs.Scan.{first_line, behind_line, first_field, behind_field, behind_byte, Parts, three, other, parts_of}
 use Rattle.line.specs.Parts.{Cut, fields_in, parts_in, SplitAs, Onward}
 use Rattle.line.specs.declared.Cuts.{Cuts}
-use Rattle.line.specs.declared.Split.{Split}
-use Rattle.line.specs.declared.Split.TheVariants.{Three, Other}
 
 -- a text that is not empty is its first line and the lines behind it
 lines_cons : (b : ℕ) (s : List ℕ) → lines_of (b ∷ s) ≡ first_line (b ∷ s) ∷ lines_of (behind_line (b ∷ s))
@@ -156,13 +155,10 @@ lines_at text at h =
     subst (λ (l : List ℕ). lines_of l ≡ first_line l ∷ lines_of (behind_line l)) (sym (drop-cons text at 0 h)) (lines_cons (get_or text at 0) (drop (suc at) text))
 
 -- What a split says of the line: it has its end and the three fields between the cuts, and the next line begins behind it; or it has not.
-module _ (text : List ℕ) (at : ℕ) (s : Split) (p : SplitAs text at s) where
-  module _ (c : Cuts) (e : s ≡ Three c) where
-    split : SplitAs text at (Three c)
-    split = subst (λ (x : Split). SplitAs text at x) e p
-
-    parted : Parted (drop at text) (parts_in text (Three c))
-    parted = subst (λ (q : Parts). Parted (drop at text) q) (sym split.parts) (parts_line (drop at text))
+module _ (text : List ℕ) (at : ℕ) where
+  module _ (c : Cuts) (p : SplitAs text at (Some c)) where
+    parted : Parted (drop at text) (parts_in text (Some c))
+    parted = subst (λ (q : Parts). Parted (drop at text) q) (sym p.parts) (parts_line (drop at text))
 
     pub line_ended : (first_line (drop at text)).ended ≡ true
     line_ended = parted.0
@@ -171,18 +167,15 @@ module _ (text : List ℕ) (at : ℕ) (s : Split) (p : SplitAs text at s) where
     line_fields = parted.1
 
     pub cut_known : Cut text c
-    cut_known = split.cut.1
+    cut_known = p.cut.1
 
     pub onward : Onward text at (c.end + 1)
     onward =
         record {
-          further = omega (arith, split.cut.0, cut_known.one, cut_known.two, cut_known.three);
+          further = omega (arith, p.cut.0, cut_known.one, cut_known.two, cut_known.three);
           inside = omega (arith, cut_known.inside);
           behind = sym parted.2;
         }
 
-  pub line_other : s ≡ Other → ((first_line (drop at text)).ended && eqb (length (fields_of (first_line (drop at text)).bytes)) 3) ≡ false
-  line_other e =
-      let split : SplitAs text at Other = subst (λ (x : Split). SplitAs text at x) e p in
-      let parted : Parted (drop at text) other = subst (λ (q : Parts). Parted (drop at text) q) (sym split.parts) (parts_line (drop at text)) in
-      parted
+  pub line_other : SplitAs text at None → ((first_line (drop at text)).ended && eqb (length (fields_of (first_line (drop at text)).bytes)) 3) ≡ false
+  line_other p = subst (λ (q : Parts). Parted (drop at text) q) (sym p.parts) (parts_line (drop at text))

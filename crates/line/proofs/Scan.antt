@@ -3,10 +3,11 @@ use Prim.Native.Nat.{ℕ, suc, ◌+◌, ◌≤◌, ◌<◌}
 use native.Mathlib.Numerals.{add-one}
 use native.Mathlib.Omega.{arith}
 use mathlib.Core.Path.{◌≡◌, refl, sym, ◌∙◌, ap}
+use mathlib.Core.Logic.{◌⊎◌, inl, inr}
 use mathlib.Core.Bool.{true, false}
 use mathlib.Core.List.{List, [], ◌∷◌, ◌++◌, append_assoc}
-use borrow.Author.Tests.{ne_eqb}
-use lib.Dec.{eqb}
+use borrow.Author.Tests.{ne_eqb, le-ltb}
+use lib.Dec.{eqb, ltb}
 use lib.ListN.{length, take, drop, get_or, drop_of_length-le, length-take}
 use lib.Seq.{slice, drop-cons, take-suc, slice_empty, drop-append-le}
 use Rattle.model.specs.Text.{line_end, space}
@@ -63,11 +64,12 @@ scanned text at i e b s =
       behind = sym (s.behind ∙ b);
     }
 
-pub scan_end : (text : List ℕ) (at i : ℕ) → length text ≤ i → Scanned text at i → FieldEnd text at i
+pub scan_end : (text : List ℕ) (at i : ℕ) → length text ≤ i → Scanned text at i → FieldEnd text at (length text)
 unfolding first_field behind_field
 scan_end text at i l s =
     let d : drop i text ≡ [] = drop_of_length-le text l in
-    scanned text at i (rw d) (rw d) s
+    let e : i ≡ length text = omega (arith, s.to) in
+    rw (← e) (scanned text at i (rw d) (rw d) s)
 
 marked : (text : List ℕ) (at i : ℕ) → i < length text → is_mark (get_or text i 0) ≡ true → Scanned text at i → FieldEnd text at i
 unfolding first_field behind_field
@@ -75,17 +77,16 @@ marked text at i l m s =
     let d : drop i text ≡ get_or text i 0 ∷ drop (suc i) text = drop-cons text i 0 l in
     scanned text at i (rw (d, m)) (rw (d, m)) s
 
-pub scan_space : (text : List ℕ) (at i : ℕ) → get_or text i 0 ≡ space → i < length text → Scanned text at i → FieldEnd text at i
-scan_space text at i h l s = marked text at i l (rw h) s
-
-pub scan_line_end : (text : List ℕ) (at i : ℕ) → get_or text i 0 ≡ line_end → i < length text → Scanned text at i → FieldEnd text at i
-scan_line_end text at i h l s = marked text at i l (rw h) s
+pub scan_mark : (text : List ℕ) (at i : ℕ) → (get_or text i 0 ≡ space) ⊎ ((get_or text i 0 ≡ space → ⊥) × (get_or text i 0 ≡ line_end)) → i < length text
+    → Scanned text at i → FieldEnd text at i
+scan_mark text at i (inl h) l s = marked text at i l (rw h) s
+scan_mark text at i (inr h) l s = marked text at i l (rw h.1) s
 
 -- a byte at a position
 pub begins_in : (text : List ℕ) (b at : ℕ) → at < length text → eqb (get_or text at 0) b ≡ begins_with b (drop at text)
 unfolding begins_with
 begins_in text b at h = rw (drop-cons text at 0 h)
 
-pub begins_out : (text : List ℕ) (b at : ℕ) → length text ≤ at → false ≡ begins_with b (drop at text)
+pub begins_out : (text : List ℕ) (b at : ℕ) → length text ≤ at → ltb at (length text) ≡ begins_with b (drop at text)
 unfolding begins_with
-begins_out text b at h = rw (drop_of_length-le text h)
+begins_out text b at h = rw (drop_of_length-le text h, le-ltb at (length text) h)

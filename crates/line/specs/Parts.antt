@@ -1,10 +1,8 @@
 -- The reader's cuts of a line, as the model's fields. Assumes nothing.
-use Rattle.std.specs.Prelude.{ℕ, ◌+◌, ◌≤◌, ◌<◌, ◌≡◌, List, [], ◌∷◌, length, drop}
+use Rattle.std.specs.Prelude.{ℕ, ◌+◌, ◌≤◌, ◌<◌, ◌≡◌, List, [], ◌∷◌, length, drop, Option, Some, None}
 use Rattle.std.proofs.Math.Seq.{slice}
 use Rattle.line.specs.Scan.{behind_line, first_field, behind_field, Parts, three, other, parts_of}
 use Rattle.line.specs.declared.Cuts.{Cuts}
-use Rattle.line.specs.declared.Split.{Split}
-use Rattle.line.specs.declared.Split.TheVariants.{Three, Other}
 
 -- a field ends at r
 pub record FieldEnd (text : List ℕ) (at r : ℕ) : Type 0 where
@@ -25,17 +23,17 @@ fields_in text c =
     slice c.at c.first text ∷ slice (c.first + 1) c.second text ∷ slice (c.second + 1) c.end text ∷ []
 
 -- a split of the text from a position on, as parts
-abbrev pub parts_in : List ℕ → Split → Parts
-parts_in text (Three c) =
+abbrev pub parts_in : List ℕ → Option Cuts → Parts
+parts_in text (Some c) =
     three (slice c.at c.first text) (slice (c.first + 1) c.second text) (slice (c.second + 1) c.end text) (drop (c.end + 1) text)
-parts_in text Other = other
+parts_in text None = other
 
 -- the cuts of a split begin at the position given, and lie in the text
-abbrev pub CutFrom : List ℕ → ℕ → Split → Type 0
-CutFrom text at (Three c) = (c.at ≡ at) × Cut text c
-CutFrom text at Other = Unit {0}
+abbrev pub CutFrom : List ℕ → ℕ → Option Cuts → Type 0
+CutFrom text at (Some c) = (c.at ≡ at) × Cut text c
+CutFrom text at None = Unit {0}
 
-pub record SplitAs (text : List ℕ) (at : ℕ) (r : Split) : Type 0 where
+pub record SplitAs (text : List ℕ) (at : ℕ) (r : Option Cuts) : Type 0 where
   pub parts : parts_in text r ≡ parts_of (drop at text)
   pub cut : CutFrom text at r
 

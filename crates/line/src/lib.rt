@@ -19,49 +19,38 @@ pub struct Cuts {
     pub end: usize,
 }
 
-#[derive(Clone, Copy)]
-pub enum Split {
-    Three(Cuts),
-    Other,
-}
-
 // Where the field that begins at `at` ends: at a space, a line end, or the end of the text.
 fn field_end(text: &[u8], at: usize) -> usize
     requires { at ≤ length text.now }
     ensures { FieldEnd text.now at result }
 {
-    let mut i = at;
-    while i < text.len() {
+    for i in at..text.len() {
         let b = text[i];
-        if b == SPACE {
+        if b == SPACE || b == LINE_END {
             return i;
         }
-        if b == LINE_END {
-            return i;
-        }
-        i += 1;
     }
-    i
+    text.len()
 }
 
 // The line that begins at `at`, if it has its end and three fields.
-pub fn cut(text: &[u8], at: usize) -> Split
+pub fn cut(text: &[u8], at: usize) -> Option<Cuts>
     requires { at ≤ length text.now }
     ensures { SplitAs text.now at result }
 {
     let first = field_end(text, at);
     if !is_byte(text, first, SPACE) {
-        return Split::Other;
+        return None;
     }
     let second = field_end(text, first + 1);
     if !is_byte(text, second, SPACE) {
-        return Split::Other;
+        return None;
     }
     let end = field_end(text, second + 1);
     if !is_byte(text, end, LINE_END) {
-        return Split::Other;
+        return None;
     }
-    Split::Three(Cuts {
+    Some(Cuts {
         at,
         first,
         second,
@@ -73,9 +62,5 @@ pub fn cut(text: &[u8], at: usize) -> Split
 fn is_byte(text: &[u8], at: usize, b: u8) -> bool
     ensures { result ≡ begins_with b (drop at text.now) }
 {
-    if at < text.len() {
-        text[at] == b
-    } else {
-        false
-    }
+    at < text.len() && text[at] == b
 }

@@ -16,10 +16,10 @@ use Rattle.model.proofs.Bounded.{which, not_both, any_from, any_some, lowest_non
 use Rattle.relation.specs.Scenario.{scenario_in}
 use Rattle.race.specs.declared.Rule.{Rule}
 use Rattle.race.specs.declared.Rule.TheVariants.{Never}
-use Rattle.relation.specs.declared.Found.{Found}
-use Rattle.relation.specs.declared.Found.TheVariants as found
+use Rattle.std.specs.Prelude as code
+use Rattle.std.specs.Prelude.{Some, None}
 use Rattle.race.specs.Bridge.{rule_in}
-use Rattle.relation.specs.Own.{found_in}
+use Rattle.outcome.specs.Options.{found_in}
 
 module _ (count : ℕ) (boards words : List ℕ) where
   -- a message races where its search finds an event
@@ -48,16 +48,16 @@ module _ (count : ℕ) (boards words : List ℕ) where
   unfolding lowest
   messages_begin q = record { within = omega arith; passed = refl }
 
-  pub messages_go_on : (q : RaceRule) (e : ℕ) (f : Found) → Passed q e → f ≡ found.Nothing
+  pub messages_go_on : (q : RaceRule) (e : ℕ) (f : code.Option ℕ) → Passed q e → f ≡ None
       → found_in f ≡ lowest_event (scenario_in count boards words) q e → e < count → Passed q (e + 1)
   messages_go_on q e f p i h l =
-      record { within = omega arith; passed = rw add-one (lowest_miss e (races (scenario_in count boards words) q) p.passed (races_none q e (sym h ∙ ap found_in i))) }
+      record { within = omega arith; passed = rw add-one (lowest_miss e (races (scenario_in count boards words) q) p.passed (races_none q e (sym h ∙ ap (found_in {A = ℕ}) i))) }
 
-  pub messages_find : (q : RaceRule) (e x : ℕ) (f : Found) → Passed q e → f ≡ found.Event x
+  pub messages_find : (q : RaceRule) (e x : ℕ) (f : code.Option ℕ) → Passed q e → f ≡ Some x
       → found_in f ≡ lowest_event (scenario_in count boards words) q e → e < count → some (e, x) ≡ lowest_race (scenario_in count boards words) q
   unfolding lowest_race lowest_message
   messages_find q e x f p i h l =
-      let at : lowest_event (scenario_in count boards words) q e ≡ some x = sym h ∙ ap found_in i in
+      let at : lowest_event (scenario_in count boards words) q e ≡ some x = sym h ∙ ap (found_in {A = ℕ}) i in
       let m : lowest count (races (scenario_in count boards words) q) ≡ some e =
       lowest_hit count e (races (scenario_in count boards words) q) p.passed (races_some q e x at) l in
       let race : Option (ℕ × ℕ) = some (e, x) in

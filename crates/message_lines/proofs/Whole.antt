@@ -8,22 +8,22 @@ use lib.ListN.{length, get_or, take, drop, get_or-append}
 use lib.Seq.{length-take-le, get_or-take}
 use Rattle.model.specs.Refusal.{and_then}
 use Rattle.model.specs.Senders.{lines_met}
-use Rattle.sheet.specs.declared.Verdict.{Verdict}
-use Rattle.sheet.specs.declared.Verdict.TheVariants as verdict
+use Rattle.std.specs.Prelude.{Result, Ok, Err}
+use Rattle.outcome.specs.declared.Refusal.{Refusal}
 use Rattle.sheet.specs.Bridge.{rows_of, ReadAs}
 use Rattle.sheet.proofs.Bridge.{refused_is, rows_are}
 use Rattle.message_lines.specs.Lines.{lines_in}
 
-module _ (text kind one two start : List ℕ) (v : Verdict) (p : ReadAs false text kind one two start v) (asked : ℕ) (there : asked ≤ length (lines_met text)) where
+module _ (text kind one two start : List ℕ) (v : Result ℕ Refusal) (p : ReadAs false text kind one two start v) (asked : ℕ) (there : asked ≤ length (lines_met text)) where
   -- a text that is refused has no message
-  pub not_read : (number line : ℕ) → v ≡ verdict.Refused number line → (given : List ℕ) → given ≡ take asked (lines_met text) ++ drop asked given
+  pub not_read : (e : Refusal) → v ≡ Err e → (given : List ℕ) → given ≡ take asked (lines_met text) ++ drop asked given
   unfolding lines_met and_then
-  not_read number line i given =
-      let none : lines_met text ≡ [] = rw (refused_is false text kind one two start v p number line i, lines_met) in
+  not_read e i given =
+      let none : lines_met text ≡ [] = rw (refused_is false text kind one two start v p e i, lines_met) in
       let no : 0 ≡ asked = omega (arith, subst (λ (l : List ℕ). asked ≤ length l) none there) in
       ap (λ (k : ℕ). take k (lines_met text) ++ drop k given) no
 
-  module _ (count : ℕ) (i : v ≡ verdict.Rows count) where
+  module _ (count : ℕ) (i : v ≡ Ok count) where
     same : lines_met text ≡ lines_in (rows_of kind one two count)
     unfolding lines_met and_then lines_in
     same = rw (rows_are false text kind one two start v p count i, lines_met)

@@ -5,40 +5,33 @@ ghost use Rattle.std.specs.Prelude.{◌≡◌, ◌++◌, ◌*◌, ◌<◌, ◌�
 ghost use Rattle.model.specs.Limits.{messages_most};
 ghost use Rattle.model.specs.Senders.{lines_met};
 ghost use Rattle.relation.specs.Width.{width};
-ghost use Rattle.sheet.specs.Bridge.{rows_of};
-ghost use Rattle.expansion.specs.Lent.{RowsRead};
+ghost use Rattle.sheet.specs.Columns.{rows_in};
+ghost use Rattle.expansion.specs.Lent.{AreLent};
 ghost use Rattle.message_lines.specs.Lines.{lines_in};
 
-use sheet::Verdict;
+use sheet::Rows;
 
 // The walk of the rows: the line of each M row that it meets, up to so many. No limit of a walk is met on the way, since the rows are
 // those of an accepted sheet. Calls are counted as what brings the walk nearer to its end.
-fn walk_rows(
-    kind: &[u8],
-    one: &[u16],
-    two: &[u16],
-    rows: usize,
-    start: &[u16],
-    asked: usize,
-    lines: &mut [u16],
-)
-    requires rows_read { RowsRead kind.now one.now two.now rows start.now }
-    requires asked_in_bounds { asked ≤ length (lines_in (rows_of kind.now one.now two.now rows)) }
+fn walk_rows(rows: &Rows, asked: usize, lines: &mut [u16])
+    requires rows_read { AreLent rows.now }
+    requires asked_in_bounds { asked ≤ length (lines_in (rows_in rows.now)) }
     requires asked_in_bounds_2 { asked ≤ length lines.old }
-    ensures { lines.new ≡ take asked (lines_in (rows_of kind.now one.now two.now rows)) ++ drop asked lines.old }
+    ensures { lines.new ≡ take asked (lines_in (rows_in rows.now)) ++ drop asked lines.old }
 {
     let mut from = [0usize; model::LEVELS];
     let mut level = 0;
-    let mut at = levels::start_of(start, 0);
+    let mut at = levels::start_of(rows.start, 0);
     let mut calls = 0usize;
     let mut met = 0;
+    // Not a `for`: calls and the ends of sheets lead from row to row.
     while met < asked {
-        let letter = levels::letter_at(kind, rows, at);
+        let letter = levels::letter_at(rows.kind, rows.count, at);
         if letter == b'C' {
             from[level] = at;
             level += 1;
             calls += 1;
-            at = levels::start_of(start, one[at]);
+            at = levels::start_of(rows.start, rows.one[at]);
             continue;
         }
         if letter == b'S' {
@@ -68,20 +61,19 @@ pub fn lines_of(text: &[u8], asked: usize, words: &mut [u64], lines: &mut [u16])
     let mut one = [0u16; model::ROWS_MOST];
     let mut two = [0u16; model::ROWS_MOST];
     let mut start = [0u16; model::SHEETS];
-    let verdict = sheet::read(
+    let read = sheet::read(
         text, false, &mut kind, &mut one, &mut two, &mut start, words,
     );
-    match verdict {
-        Verdict::Refused(_, _) => {}
-        Verdict::Rows(count) => walk_rows(&kind, &one, &two, count, &start, asked, lines),
+    if let Ok(count) = read {
+        let rows = Rows {
+            kind: &kind,
+            one: &one,
+            two: &two,
+            count,
+            start: &start,
+        };
+        walk_rows(&rows, asked, lines);
     }
-}
-
-// A line, as the answers hold it.
-fn wide(line: u16) -> usize
-    ensures { result ≡ line }
-{
-    line as usize
 }
 
 // The line of the M row of one message.
@@ -93,5 +85,5 @@ pub fn line_of(text: &[u8], message: usize, words: &mut [u64]) -> usize
 {
     let mut lines = [0u16; model::MESSAGES_MOST];
     lines_of(text, message + 1, words, &mut lines);
-    wide(lines[message])
+    usize::from(lines[message])
 }

@@ -1,5 +1,5 @@
 // The model is the definitions of specs/ and the theorems of proofs/. What stands here are its limits, for the code to use:
-// each is a number of specs/Limits, Place, Refusal or Waits, and a proof that uses one ties the two together.
+// each is a number of specs/Limits, Place or Waits, and a proof that uses one ties the two together.
 #![tactic(auto)]
 
 // The sheet file: bytes, rows, the largest number of a field, sheets, boards.
@@ -61,44 +61,3 @@ pub const JOB_WORDS_LEAST: usize = JOBS_MOST * SCRATCH_LEAST;
 
 // What stands for a board that waits for no event (specs/Waits).
 pub const NO_WAIT: u16 = 65535;
-
-// The refusals, by the numbers of the paper's table and of the requests.
-pub const CHANNEL: u8 = 1;
-
-pub const BENCH: u8 = 2;
-
-pub const LENGTH: u8 = 3;
-
-pub const HEADING: u8 = 4;
-
-pub const ROW: u8 = 5;
-
-pub const PLACE: u8 = 6;
-
-pub const ABSENT: u8 = 7;
-
-pub const DEPTH: u8 = 8;
-
-pub const CALLS: u8 = 9;
-
-pub const MESSAGES: u8 = 10;
-
-pub const CIRCLE: u8 = 11;
-
-pub const TRACE: u8 = 12;
-
-pub const CHOICES: u8 = 13;
-
-pub const SWITCH: u8 = 14;
-
-pub const CURED_ROWS: u8 = 15;
-
-pub const JOBS: u8 = 16;
-
-pub const HELD: u8 = 17;
-
-pub const SENDER_TABLE: u8 = 18;
-
-pub const FORBIDDEN: u8 = 19;
-
-pub const TAP: u8 = 20;

@@ -1,4 +1,10 @@
 -- The whole promises, from what the parts of the calls hand on. Assumes nothing.
+use Rattle.std.specs.Prelude.{Err}
+use mathlib.Core.Logic.{⊎_elim}
+use Rattle.outcome.specs.declared.Reason.{Reason}
+use Rattle.outcome.specs.declared.Reason.TheVariants.{Channel, Bench}
+use Rattle.outcome.specs.declared.Refusal.{Refusal}
+use Rattle.outcome.specs.Refusals.{number_in}
 use mathlib.Core.Path.{◌≡◌, refl, sym, ◌∙◌, ap, subst, subst⁻¹}
 use mathlib.Core.Bool.{Bool, true, false, cond}
 use mathlib.Core.List.{List, ◌++◌}
@@ -26,7 +32,7 @@ use Rattle.run.specs.declared.Run.{Run}
 use Rattle.run.specs.State.{state_of, OnlySends}
 use Rattle.run.proofs.Written.{start_zeros, state_back, only_sends}
 use Rattle.monitor.specs.declared.Monitor.{Monitor}
-use Rattle.monitor.specs.Bridge.{held_in, monitor_of, zeros, refused_as, Begins, Takes, Steps, Made, Switches}
+use Rattle.monitor.specs.Bridge.{held_in, monitor_of, zeros, refused_as, answer_of, Lends, Begins, Takes, Steps, Made, Switches}
 
 abbrev Reply : Type 0
 Reply = model.MonitorAnswer Monitor
@@ -41,6 +47,10 @@ same_refusal : {A : Type 0} (number line n l : ℕ) (m : Monitor) (r : Reply) �
     → ◌≡◌ {A = Out A} (refusal number line) (refusal n l) → r ≡ refused_as n l m
 unfolding reply_to
 same_refusal number line n l m r e i = e ∙ ap (λ o. reply_to o m r) i
+
+-- the answer to a refusal of the call's own
+refuses_as : (m : Monitor) (e : Refusal) (reason : Reason) → e ≡ record { reason = reason; line = 0 } → answer_of m (Err e) ≡ refused_as (number_in reason) 0 m
+refuses_as m e reason i = ap (λ (q : Refusal). refused_as (number_in q.reason) q.line m) i
 
 -- What a code that is no channel's, and a scratch that is too short, come to.
 module _ (text : List ℕ) where
@@ -65,7 +75,7 @@ untouched number words o l e = sym (rw (e, le-leb number bench_refusal l))
 read_back : (h : Held) → Inside h → held_in (monitor_of h) ≡ h
 read_back h i = ap (λ (s : State). record { state = s; code = h.code }) (state_back h.state i.done i.way i.boards_hold)
 
-all_lists : WholeLists held_in monitor_of zeros
+pub all_lists : WholeLists held_in monitor_of zeros
 all_lists = whole_lists held_in monitor_of zeros (λ code. ap (λ (q : Run). record { run = q; code = code }) (sym start_zeros)) read_back
 
 -- What is known of a monitor that some list of calls has left: what it holds, that its words are those, and that none has a bit of a receive.
@@ -83,42 +93,43 @@ left_by m text S e code cs i =
 
 -- ---- opening
 
-module _ (text : List ℕ) (code : ℕ) (scratch : List ℕ) (m : Monitor) (r : Reply) (z : m ≡ zeros 0) where
+module _ (text : List ℕ) (code : ℕ) (scratch : List ℕ) (r : Reply) where
   abbrev Promise : List ℕ → Type 0
-  Promise scratch_exit = Opened held_in monitor_of zeros text code scratch scratch_exit r × WholeLists held_in monitor_of zeros
+  Promise scratch_exit = Opened held_in monitor_of zeros text code scratch scratch_exit r
 
-  refuses : (number : ℕ) → watchable text code (length scratch) ≡ refusal number 0 → r ≡ refused_as number 0 m → number ≤ bench_refusal → Promise scratch
-  refuses number w e l = (
-    record {
-      refused_when = λ n k i. same_refusal number 0 n k (zeros 0) r (e ∙ ap (refused_as number 0) z) (sym w ∙ i);
-      opened_when = λ S i. not_refused (sym w ∙ i);
-      causal_order = λ S i. not_refused (sym w ∙ i);
-      scratch_left = untouched number scratch (watchable text code (length scratch)) l w;
-    },
-    all_lists,
-  )
+  refuses : (number : ℕ) → watchable text code (length scratch) ≡ refusal number 0 → r ≡ refused_as number 0 (zeros 0) → number ≤ bench_refusal → Promise scratch
+  refuses number w e l =
+      record {
+        refused_when = λ n k i. same_refusal number 0 n k (zeros 0) r e (sym w ∙ i);
+        opened_when = λ S i. not_refused (sym w ∙ i);
+        causal_order = λ S i. not_refused (sym w ∙ i);
+        scratch_left = untouched number scratch (watchable text code (length scratch)) l w;
+      }
 
-  pub open_unknown : channels ≤ code → r ≡ refused_as channel_refusal 0 m → Promise scratch
+  open_unknown : channels ≤ code → r ≡ refused_as channel_refusal 0 (zeros 0) → Promise scratch
   open_unknown h e = refuses channel_refusal (unknown text code (length scratch) h) e (omega arith)
 
-  pub open_short : code < channels → length scratch < scratch_least → r ≡ refused_as bench_refusal 0 m → Promise scratch
+  open_short : code < channels → length scratch < scratch_least → r ≡ refused_as bench_refusal 0 (zeros 0) → Promise scratch
   open_short h l e = refuses bench_refusal (short text code (length scratch) h l) e (omega arith)
+
+pub open_unlent : (text : List ℕ) (code : ℕ) (scratch : List ℕ) (e : Refusal) → Lends code (length scratch) (Err e)
+    → Opened held_in monitor_of zeros text code scratch scratch (answer_of (zeros 0) (Err e))
+open_unlent text code scratch e u =
+    ⊎_elim (λ q. open_unknown text code scratch _ q.0 (refuses_as (zeros 0) e Channel q.1)) (λ q. open_short text code scratch _ q.0 q.1 (refuses_as (zeros 0) e Bench q.2)) u
 
 pub opens : (text : List ℕ) (code : ℕ) (scratch scratch_exit used : List ℕ) (n : ℕ) (r : Reply) (k : ℕ) → code < channels → scratch_least ≤ length scratch
     → length used ≡ n → n ≤ scratch_least → scratch_exit ≡ cleared k (used ++ drop n scratch) → k ≡ scratch_least → Begins (sheet_of text) code r
-    → Opened held_in monitor_of zeros text code scratch scratch_exit r × WholeLists held_in monitor_of zeros
+    → Opened held_in monitor_of zeros text code scratch scratch_exit r
 opens text code scratch scratch_exit used n r k h l e m s all b =
     let w = lent text code (length scratch) h l in
     let at : (o : Out Scenario) → watchable text code (length scratch) ≡ o → Begins o code r
-    = λ o i. subst (λ (q : Out Scenario). Begins q code r) (sym w ∙ i) b in (
-      record {
-        refused_when = λ number line i. at (refusal number line) i;
-        opened_when = λ S i. at (ok S) i;
-        causal_order = λ S i. sheet_meets text S (sym w ∙ i);
-        scratch_left = cleared_all scratch_least k (used ++ drop n scratch) scratch_exit s all ∙ scratch_behind_holds text scratch used n e m ∙ ap (λ (o : Out Scenario). scratch_behind o scratch) (sym w);
-      },
-      all_lists,
-    )
+    = λ o i. subst (λ (q : Out Scenario). Begins q code r) (sym w ∙ i) b in
+    record {
+      refused_when = λ number line i. at (refusal number line) i;
+      opened_when = λ S i. at (ok S) i;
+      causal_order = λ S i. sheet_meets text S (sym w ∙ i);
+      scratch_left = cleared_all scratch_least k (used ++ drop n scratch) scratch_exit s all ∙ scratch_behind_holds text scratch used n e m ∙ ap (λ (o : Out Scenario). scratch_behind o scratch) (sym w);
+    }
 
 -- ---- a step
 
@@ -127,37 +138,35 @@ module _ (m : Monitor) (kind message : ℕ) (text scratch : List ℕ) (r : Reply
   asked = model.step kind message (length scratch)
 
   abbrev StepPromise : List ℕ → Type 0
-  StepPromise scratch_exit = Stepped held_in monitor_of zeros m kind message text scratch scratch_exit r × WholeLists held_in monitor_of zeros
+  StepPromise scratch_exit = Stepped held_in monitor_of zeros m kind message text scratch scratch_exit r
 
   step_refuses : (number : ℕ) → watchable text m.code (length scratch) ≡ refusal number 0 → r ≡ refused_as number 0 m → number ≤ bench_refusal
       → ((S : Scenario) → m.code < channels → refused_word ≡ word_to S (held_in m) asked) → StepPromise scratch
   unfolding behind
-  step_refuses number w e l word = (
-    record {
-      refused_when = λ n k i. same_refusal number 0 n k m r e (sym w ∙ i);
-      refused_only = λ S i u. not_refused (sym w ∙ i);
-      scratch_left = untouched number scratch (watchable text m.code (length scratch)) l w;
-      by_the_rules = λ S code cs is_sheet known left.
-          let l = left_by m text S is_sheet code cs left in
-          let in_force : m.code < channels = subst⁻¹ (λ (h : Held). h.code < channels) l.holds (held_code S cs (fresh code) known) in
-          let two = word S in_force in
-          let same : behind S (held_in m) asked ≡ held_in m = rw (← two) in
-          subst (λ (h : Held). ByTheRules held_in monitor_of zeros S h m asked r) l.holds
-          (record {
-            word = ap (λ (a : Reply). a.word) e ∙ two;
-            monitor = ap (λ (a : Reply). a.next) e ∙ l.written ∙ ap monitor_of (sym same);
-            taken = λ f. let one : refused_word ≡ taken_word = sym (ap (λ (a : Reply). a.word) e) ∙ f in absurd (omega (arith, one));
-            forbidden = λ f. let one : refused_word ≡ forbidden_word = sym (ap (λ (a : Reply). a.word) e) ∙ f in absurd (omega (arith, one));
-          });
-    },
-    all_lists,
-  )
+  step_refuses number w e l word =
+      record {
+        refused_when = λ n k i. same_refusal number 0 n k m r e (sym w ∙ i);
+        refused_only = λ S i u. not_refused (sym w ∙ i);
+        scratch_left = untouched number scratch (watchable text m.code (length scratch)) l w;
+        by_the_rules = λ S code cs is_sheet known left.
+            let l = left_by m text S is_sheet code cs left in
+            let in_force : m.code < channels = subst⁻¹ (λ (h : Held). h.code < channels) l.holds (held_code S cs (fresh code) known) in
+            let two = word S in_force in
+            let same : behind S (held_in m) asked ≡ held_in m = rw (← two) in
+            subst (λ (h : Held). ByTheRules held_in monitor_of zeros S h m asked r) l.holds
+            (record {
+              word = ap (λ (a : Reply). a.word) e ∙ two;
+              monitor = ap (λ (a : Reply). a.next) e ∙ l.written ∙ ap monitor_of (sym same);
+              taken = λ f. let one : refused_word ≡ taken_word = sym (ap (λ (a : Reply). a.word) e) ∙ f in absurd (omega (arith, one));
+              forbidden = λ f. let one : refused_word ≡ forbidden_word = sym (ap (λ (a : Reply). a.word) e) ∙ f in absurd (omega (arith, one));
+            });
+      }
 
-  pub step_unknown : channels ≤ m.code → r ≡ refused_as channel_refusal 0 m → StepPromise scratch
+  step_unknown : channels ≤ m.code → r ≡ refused_as channel_refusal 0 m → StepPromise scratch
   step_unknown h e =
       step_refuses channel_refusal (unknown text m.code (length scratch) h) e (omega arith) (λ S k. absurd (omega (arith, h, k)))
 
-  pub step_short : m.code < channels → length scratch < scratch_least → r ≡ refused_as bench_refusal 0 m → StepPromise scratch
+  step_short : m.code < channels → length scratch < scratch_least → r ≡ refused_as bench_refusal 0 m → StepPromise scratch
   unfolding word_to
   step_short h l e =
       step_refuses bench_refusal (short text m.code (length scratch) h l) e (omega arith) (λ S k. sym (rw (lt-ltb (length scratch) scratch_least l)))
@@ -211,18 +220,21 @@ module _ (m : Monitor) (kind message : ℕ) (text scratch : List ℕ) (r : Reply
       → length used ≡ n → n ≤ scratch_least → scratch_exit ≡ cleared k (used ++ drop n scratch) → k ≡ scratch_least → told ≡ step_told kind message
       → Steps (sheet_of text) m told r → StepPromise scratch_exit
   steps scratch_exit used n told k h l e f s all t b =
-      let w = lent text m.code (length scratch) h l in (
-        record {
-          refused_when = λ number line i. subst (λ (o : Out Scenario). Steps o m told r) (sym w ∙ i) b;
-          refused_only = λ S i. step_unrefused S told (subst (λ (o : Out Scenario). Steps o m told r) (sym w ∙ i) b);
-          scratch_left = cleared_all scratch_least k (used ++ drop n scratch) scratch_exit s all ∙ scratch_behind_holds text scratch used n e f ∙ ap (λ (o : Out Scenario). scratch_behind o scratch) (sym w);
-          by_the_rules = λ S code cs is_sheet known left.
-              let known = left_by m text S is_sheet code cs left in
-              subst (λ (h : Held). ByTheRules held_in monitor_of zeros S h m asked r) known.holds
-              (step_rules S told t l (subst (λ (o : Out Scenario). Steps o m told r) is_sheet b) known.written known.sends);
-        },
-        all_lists,
-      )
+      let w = lent text m.code (length scratch) h l in
+      record {
+        refused_when = λ number line i. subst (λ (o : Out Scenario). Steps o m told r) (sym w ∙ i) b;
+        refused_only = λ S i. step_unrefused S told (subst (λ (o : Out Scenario). Steps o m told r) (sym w ∙ i) b);
+        scratch_left = cleared_all scratch_least k (used ++ drop n scratch) scratch_exit s all ∙ scratch_behind_holds text scratch used n e f ∙ ap (λ (o : Out Scenario). scratch_behind o scratch) (sym w);
+        by_the_rules = λ S code cs is_sheet known left.
+            let known = left_by m text S is_sheet code cs left in
+            subst (λ (h : Held). ByTheRules held_in monitor_of zeros S h m asked r) known.holds
+            (step_rules S told t l (subst (λ (o : Out Scenario). Steps o m told r) is_sheet b) known.written known.sends);
+      }
+
+pub step_unlent : (m : Monitor) (kind message : ℕ) (text scratch : List ℕ) (e : Refusal) → Lends m.code (length scratch) (Err e)
+    → Stepped held_in monitor_of zeros m kind message text scratch scratch (answer_of m (Err e))
+step_unlent m kind message text scratch e u =
+    ⊎_elim (λ q. step_unknown m kind message text scratch _ q.0 (refuses_as m e Channel q.1)) (λ q. step_short m kind message text scratch _ q.0 q.1 (refuses_as m e Bench q.2)) u
 
 -- ---- a switch
 
@@ -231,7 +243,7 @@ module _ (m : Monitor) (code : ℕ) (text scratch : List ℕ) (r : Reply) where
   wanted = model.switch code (length scratch)
 
   abbrev SwitchPromise : List ℕ → Type 0
-  SwitchPromise scratch_exit = Switched held_in monitor_of zeros m code text scratch scratch_exit r × WholeLists held_in monitor_of zeros
+  SwitchPromise scratch_exit = Switched held_in monitor_of zeros m code text scratch scratch_exit r
 
   -- a switch that is refused changes nothing
   stays : (S : Scenario) → refused_word ≡ word_to S (held_in m) wanted → (number : ℕ) → r ≡ refused_as number 0 m → m ≡ monitor_of (held_in m)
@@ -258,24 +270,22 @@ module _ (m : Monitor) (code : ℕ) (text scratch : List ℕ) (r : Reply) where
 
   switch_refuses : (number : ℕ) → watchable text code (length scratch) ≡ refusal number 0 → r ≡ refused_as number 0 m → number ≤ bench_refusal
       → ((S : Scenario) → refused_word ≡ word_to S (held_in m) wanted) → SwitchPromise scratch
-  switch_refuses number w e l word = (
-    record {
-      refused_when = λ n k i. same_refusal number 0 n k m r e (sym (first number w) ∙ i);
-      refused_only = λ S i u. not_refused (sym (first number w) ∙ i);
-      scratch_left = untouched number scratch (switchable text code (length scratch) (state_of m.run)) l (first number w);
-      by_the_rules = λ S opened cs is_sheet known left.
-          let l = left_by m text S is_sheet opened cs left in
-          subst (λ (h : Held). ByTheRules held_in monitor_of zeros S h m wanted r) l.holds (stays S (word S) number e l.written);
-    },
-    all_lists,
-  )
+  switch_refuses number w e l word =
+      record {
+        refused_when = λ n k i. same_refusal number 0 n k m r e (sym (first number w) ∙ i);
+        refused_only = λ S i u. not_refused (sym (first number w) ∙ i);
+        scratch_left = untouched number scratch (switchable text code (length scratch) (state_of m.run)) l (first number w);
+        by_the_rules = λ S opened cs is_sheet known left.
+            let l = left_by m text S is_sheet opened cs left in
+            subst (λ (h : Held). ByTheRules held_in monitor_of zeros S h m wanted r) l.holds (stays S (word S) number e l.written);
+      }
 
-  pub switch_unknown : channels ≤ code → r ≡ refused_as channel_refusal 0 m → SwitchPromise scratch
+  switch_unknown : channels ≤ code → r ≡ refused_as channel_refusal 0 m → SwitchPromise scratch
   unfolding word_to
   switch_unknown h e =
       switch_refuses channel_refusal (unknown text code (length scratch) h) e (omega arith) (λ S. sym (rw (le-ltb code channels h)))
 
-  pub switch_short : code < channels → length scratch < scratch_least → r ≡ refused_as bench_refusal 0 m → SwitchPromise scratch
+  switch_short : code < channels → length scratch < scratch_least → r ≡ refused_as bench_refusal 0 m → SwitchPromise scratch
   unfolding word_to
   switch_short h l e =
       switch_refuses bench_refusal (short text code (length scratch) h l) e (omega arith)
@@ -343,15 +353,18 @@ module _ (m : Monitor) (code : ℕ) (text scratch : List ℕ) (r : Reply) where
       → length used ≡ n → n ≤ scratch_least → scratch_exit ≡ cleared k (used ++ drop n scratch) → k ≡ scratch_least
       → Switches (sheet_of text) m code r → SwitchPromise scratch_exit
   switches scratch_exit used n k h l e f s all b =
-      let w = switch_judged h l in (
-        record {
-          refused_when = λ number line i. judged_refused (sheet_of text) number line b (sym w ∙ i);
-          refused_only = λ S i. judged_unrefused (sheet_of text) S b (sym w ∙ i);
-          scratch_left = cleared_all scratch_least k (used ++ drop n scratch) scratch_exit s all ∙ scratch_behind_holds text scratch used n e f ∙ same_scratch (sheet_of text) ∙ ap (λ (o : Out Scenario). scratch_behind o scratch) (sym w);
-          by_the_rules = λ S opened cs is_sheet known left.
-              let known = left_by m text S is_sheet opened cs left in
-              subst (λ (q : Held). ByTheRules held_in monitor_of zeros S q m wanted r) known.holds
-              (switch_rules S h l (subst (λ (o : Out Scenario). Switches o m code r) is_sheet b) known.written);
-        },
-        all_lists,
-      )
+      let w = switch_judged h l in
+      record {
+        refused_when = λ number line i. judged_refused (sheet_of text) number line b (sym w ∙ i);
+        refused_only = λ S i. judged_unrefused (sheet_of text) S b (sym w ∙ i);
+        scratch_left = cleared_all scratch_least k (used ++ drop n scratch) scratch_exit s all ∙ scratch_behind_holds text scratch used n e f ∙ same_scratch (sheet_of text) ∙ ap (λ (o : Out Scenario). scratch_behind o scratch) (sym w);
+        by_the_rules = λ S opened cs is_sheet known left.
+            let known = left_by m text S is_sheet opened cs left in
+            subst (λ (q : Held). ByTheRules held_in monitor_of zeros S q m wanted r) known.holds
+            (switch_rules S h l (subst (λ (o : Out Scenario). Switches o m code r) is_sheet b) known.written);
+      }
+
+pub switch_unlent : (m : Monitor) (code : ℕ) (text scratch : List ℕ) (e : Refusal) → Lends code (length scratch) (Err e)
+    → Switched held_in monitor_of zeros m code text scratch scratch (answer_of m (Err e))
+switch_unlent m code text scratch e u =
+    ⊎_elim (λ q. switch_unknown m code text scratch _ q.0 (refuses_as m e Channel q.1)) (λ q. switch_short m code text scratch _ q.0 q.1 (refuses_as m e Bench q.2)) u

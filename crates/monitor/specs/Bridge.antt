@@ -1,5 +1,10 @@
 -- A monitor's state as the model's, its answers, and what the parts of the calls say. Assumes nothing.
-use Rattle.std.specs.Prelude.{◌≡◌, true, false, ℕ}
+use Rattle.std.specs.Prelude as code
+use Rattle.std.specs.Prelude.{◌≡◌, true, false, ℕ, ◌<◌, ◌≤◌, ◌^◌, ◌⊎◌, Some, None, Ok, Err, Result}
+use Rattle.model.specs.Limits.{channels, scratch_least}
+use Rattle.outcome.specs.declared.Reason.TheVariants.{Channel, Bench}
+use Rattle.outcome.specs.declared.Refusal.{Refusal}
+use Rattle.outcome.specs.Refusals.{number_in}
 use Rattle.std.proofs.Math.Option.{Option}
 use Rattle.model.specs.Refusal.{Out, ok, refusal, switch_refusal}
 use Rattle.model.specs.Order.{Scenario}
@@ -33,6 +38,19 @@ forbidden_as m = record { word = forbidden_word; one = 0; two = 0; next = m }
 
 abbrev pub taken_as : Run → ℕ → model.MonitorAnswer Monitor
 taken_as run code = record { word = taken_word; one = 0; two = 0; next = record { run = run; code = code } }
+
+-- what a call comes to, as C gets it: the monitor to go on with; none, where the rule forbids a step; or the refusal
+abbrev pub answer_of : Monitor → Result (code.Option Monitor) Refusal → model.MonitorAnswer Monitor
+answer_of before (Ok (Some next)) = taken_as next.run next.code
+answer_of before (Ok None) = forbidden_as before
+answer_of before (Err r) = refused_as (number_in r.reason) r.line before
+
+-- a code that is a channel's and a scratch that is long enough, or refusal 1 or 2
+abbrev pub Lends : ℕ → ℕ → Result (Unit {0}) Refusal → Type 0
+Lends code n (Ok u) = (code < channels) × (scratch_least ≤ n)
+Lends code n (Err r) =
+    ((channels ≤ code) × (r ≡ record { reason = Channel; line = 0 }))
+    ⊎ ((code < channels) × (n < scratch_least) × (r ≡ record { reason = Bench; line = 0 }))
 
 -- all zeros with the code, or the sheet's refusal
 abbrev pub Begins : Out Scenario → ℕ → model.MonitorAnswer Monitor → Type 0

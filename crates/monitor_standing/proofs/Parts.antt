@@ -1,4 +1,5 @@
 -- What the parts of the call are to show, from what their own parts handed on. Assumes nothing.
+use Rattle.std.specs.Prelude.{Ok, Err}
 use mathlib.Core.Path.{◌≡◌, refl, sym, ◌∙◌, ap, subst⁻¹, fun_ext}
 use mathlib.Core.Bool.{Bool, true, false, cond}
 use mathlib.Core.List.{List}
@@ -8,7 +9,6 @@ use lib.ListN.{replicate}
 use Rattle.model.specs.Limits.{boards}
 use Rattle.model.specs.Refusal.{Out, ok}
 use Rattle.model.specs.Order.{Scenario}
-use Rattle.model.specs.Channel as model
 use Rattle.model.specs.Channel.{channel_of}
 use Rattle.model.specs.Run.{finished, stuck}
 use Rattle.model.specs.Answer.{sheet_of}
@@ -17,8 +17,7 @@ use Rattle.model.specs.Waits.{no_wait, wait_of, each_board}
 use Rattle.model.specs.Monitor.{Held}
 use Rattle.model.specs.Standing.{finished_word, stuck_word, open_word, refused_word, stands_at, standing_answer, standing_wait}
 use Rattle.relation.specs.Scenario.{scenario_in}
-use Rattle.expansion.specs.declared.Expanded.{Expanded}
-use Rattle.expansion.specs.declared.Expanded.TheVariants as expanded
+use Rattle.outcome.specs.declared.Refusal.{Refusal}
 use Rattle.scenario.specs.Contract.{SheetIn}
 use Rattle.scenario.proofs.Laws.{sheet_refused, sheet_is}
 use Rattle.channel_table.specs.declared.Channel.{Channel}
@@ -29,8 +28,8 @@ use Rattle.standing.specs.declared.Stand.TheVariants as stand
 use Rattle.standing.specs.Bridge.{stand_in}
 use Rattle.monitor.specs.declared.Monitor.{Monitor}
 use Rattle.monitor.specs.Bridge.{held_in}
-use Rattle.monitor_standing.specs.declared.MonitorStandingAnswer.{MonitorStandingAnswer}
-use Rattle.monitor_standing.specs.Bridge.{unwaited_as, Tells}
+use Rattle.monitor_standing.specs.declared.Stood.{Stood}
+use Rattle.monitor_standing.specs.Bridge.{word_of, answer_of, Tells}
 
 -- the word of a verdict on a run's state
 abbrev word_for : Replay → ℕ
@@ -50,17 +49,16 @@ stands_word S h = go (finished S h.state) (stuck S (channel_of h.code) h.state)
     go false false = refl
 
 -- What the way to the scenario hands on.
-module _ (text boards words : List ℕ) (v : Expanded) (p : SheetIn text boards words v) where
-  pub sheet_refuses : (number line : ℕ) (m : Monitor) (r : MonitorStandingAnswer) → v ≡ expanded.Refused number line → r ≡ unwaited_as refused_word number line
-      → Tells (sheet_of text) (held_in m) r
+module _ (text boards words : List ℕ) where
+  pub sheet_refuses : (e : Refusal) (m : Monitor) → SheetIn text boards words (Err e) → Tells (sheet_of text) (held_in m) (answer_of (Err e))
   unfolding standing_answer standing_wait each_board
-  sheet_refuses number line m r i e =
-      subst⁻¹ (λ (o : Out Scenario). Tells o (held_in m) r) (sheet_refused text boards words v p number line i)
-      (subst⁻¹ (Tells _ (held_in m)) e (record { numbers = refl; waits = refl }))
+  sheet_refuses e m p =
+      subst⁻¹ (λ (o : Out Scenario). Tells o (held_in m) (answer_of (Err e))) (sheet_refused text boards words (Err e) p e refl) (record { numbers = refl; waits = refl })
 
-  pub sheet_stands : (count : ℕ) → v ≡ expanded.Messages count → (m : Monitor) (r : MonitorStandingAnswer) → Tells (ok (scenario_in count boards words)) (held_in m) r
-      → Tells (sheet_of text) (held_in m) r
-  sheet_stands count i m r h = subst⁻¹ (λ (o : Out Scenario). Tells o (held_in m) r) (sheet_is text boards words v p count i) h
+  pub sheet_stands : (count : ℕ) (m : Monitor) (s : Stood) → SheetIn text boards words (Ok count) → Tells (ok (scenario_in count boards words)) (held_in m) (answer_of (Ok s))
+      → Tells (sheet_of text) (held_in m) (answer_of (Ok s))
+  sheet_stands count m s p h =
+      subst⁻¹ (λ (o : Out Scenario). Tells o (held_in m) (answer_of (Ok s))) (sheet_is text boards words (Ok count) p count refl) h
 
 no_waits : replicate boards no_wait ≡ each_board boards (λ b. no_wait)
 unfolding each_board
@@ -69,29 +67,29 @@ no_waits = refl
 -- Where the run stands.
 module _ (S : Scenario) (m : Monitor) (c : Channel) (k : channel_in c ≡ channel_of m.code) (d : Stand)
     (says : stand_in d ≡ standing S (channel_in c) (state_of m.run)) where
-  word_is : (e : Stand) → d ≡ e → stands_at S (held_in m) ≡ word_for (stand_in e)
-  word_is e i = stands_word S (held_in m) ∙ ap word_for (ap (λ q. standing S q (state_of m.run)) (sym k) ∙ sym says ∙ ap stand_in i)
+  word_is : stands_at S (held_in m) ≡ word_of d
+  word_is = stands_word S (held_in m) ∙ ap word_for (ap (λ q. standing S q (state_of m.run)) (sym k) ∙ sym says) ∙ same d
+    where
+      same : (e : Stand) → word_for (stand_in e) ≡ word_of e
+      same stand.Finished = refl
+      same stand.Stuck = refl
+      same stand.Open = refl
 
-  -- a word on which no board waits
-  unwaits : (word : ℕ) → stands_at S (held_in m) ≡ word → eqb word stuck_word ≡ false → Tells (ok S) (held_in m) (unwaited_as word 0 0)
+  waiting : (row : List ℕ) (f : ℕ → ℕ) → (λ b. cond (eqb (stands_at S (held_in m)) stuck_word) (wait_of S (state_of m.run) b) no_wait) ≡ f
+      → row ≡ each_board boards f → Tells (ok S) (held_in m) (answer_of (Ok (record { stand = d; waits = row })))
   unfolding standing_answer standing_wait
-  unwaits word w n =
-      let none : ◌≡◌ {A = ℕ → ℕ} (λ b. cond (eqb (stands_at S (held_in m)) stuck_word) (wait_of S (state_of m.run) b) no_wait) (λ b. no_wait) = fun_ext (λ b. rw (w, n)) in
-      record {
-        numbers = ap (λ (x : ℕ). record { word = x; one = 0; two = 0 }) (sym w);
-        waits = no_waits ∙ ap (each_board boards) (sym none);
-      }
-
-  pub stands_finished : (r : MonitorStandingAnswer) → d ≡ stand.Finished → r ≡ unwaited_as finished_word 0 0 → Tells (ok S) (held_in m) r
-  stands_finished r i e = subst⁻¹ (Tells (ok S) (held_in m)) e (unwaits finished_word (word_is stand.Finished i) refl)
-
-  pub stands_open : (r : MonitorStandingAnswer) → d ≡ stand.Open → r ≡ unwaited_as open_word 0 0 → Tells (ok S) (held_in m) r
-  stands_open r i e = subst⁻¹ (Tells (ok S) (held_in m)) e (unwaits open_word (word_is stand.Open i) refl)
+  waiting row f all e =
+      record { numbers = ap (λ (x : ℕ). record { word = x; one = 0; two = 0 }) (sym word_is); waits = e ∙ ap (each_board boards) (sym all) }
 
   pub stands_stuck : (row : List ℕ) → d ≡ stand.Stuck → row ≡ each_board boards (wait_of S (state_of m.run))
-      → Tells (ok S) (held_in m) (record { word = stuck_word; one = 0; two = 0; waits = row })
-  unfolding standing_answer standing_wait
-  stands_stuck row i e =
-      let w = word_is stand.Stuck i in
-      let all : ◌≡◌ {A = ℕ → ℕ} (λ b. cond (eqb (stands_at S (held_in m)) stuck_word) (wait_of S (state_of m.run) b) no_wait) (wait_of S (state_of m.run)) = fun_ext (λ b. rw w) in
-      record { numbers = ap (λ (x : ℕ). record { word = x; one = 0; two = 0 }) (sym w); waits = e ∙ ap (each_board boards) (sym all) }
+      → Tells (ok S) (held_in m) (answer_of (Ok (record { stand = d; waits = row })))
+  stands_stuck row i e = waiting row (wait_of S (state_of m.run)) (fun_ext (λ b. rw (word_is ∙ ap word_of i))) e
+
+  pub stands_elsewhere : (row : List ℕ) → (d ≡ stand.Stuck → ⊥) → row ≡ replicate boards no_wait
+      → Tells (ok S) (held_in m) (answer_of (Ok (record { stand = d; waits = row })))
+  stands_elsewhere row n e = waiting row (λ b. no_wait) (fun_ext (λ b. rw (word_is, none d n))) (e ∙ no_waits)
+    where
+      none : (e : Stand) → (e ≡ stand.Stuck → ⊥) → eqb (word_of e) stuck_word ≡ false
+      none stand.Finished f = refl
+      none stand.Stuck f = absurd (f refl)
+      none stand.Open f = refl

@@ -1,4 +1,3 @@
 pub mod Steps
 pub mod Seeking
 pub mod Closing
-pub mod BlockRows

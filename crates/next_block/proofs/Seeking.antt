@@ -12,7 +12,6 @@ use mir.Syntax.{w64}
 use mir.Val.{Fits}
 use borrow.Author.Tests.{lt-ltb, eqb-true, eqb-false}
 use Rattle.model.specs.Limits.{rows_most, levels, calls_most}
-use Rattle.model.specs.Refusal.{depth_refusal, calls_refusal, choices_refusal}
 use Rattle.model.specs.Rows.{Row}
 use Rattle.model.specs.Place.{line_of}
 use Rattle.model.specs.Expansion.{start_of}
@@ -26,6 +25,9 @@ use Rattle.levels.specs.Letters.{letter_at}
 use Rattle.levels.proofs.Letters.{row_there, row_letter, letter_inside}
 use Rattle.levels.specs.Options.{is_call, is_ninth, sheet_called, choices_behind}
 use Rattle.next_block.specs.Levels.{BehindBlocks, idle, rest, rank, Behind, Sheets, Between, Reaches}
+use Rattle.std.specs.Prelude.{Result, Ok, Err}
+use Rattle.outcome.specs.declared.Refusal.{Refusal}
+use Rattle.outcome.specs.declared.Reason.TheVariants as reason
 use Rattle.next_block.specs.declared.Reached.{Reached}
 use Rattle.next_block.specs.declared.Reached.TheVariants as reached
 use Rattle.next_block.proofs.Steps.{rest_end, rest_back, rest_block, rest_deep, rest_calls, rest_ninth, rest_called}
@@ -33,10 +35,10 @@ use Rattle.levels.proofs.Choosing.{either}
 
 -- where the walk came to, known by another name
 pub reaches_as : {options : ℕ} {kind one two : List ℕ} {count : ℕ} {from : List ℕ} {level i calls choices : ℕ} {r r' : Reached} {from' : List ℕ} → r ≡ r'
-    → Reaches options kind one two count from level i calls choices r from'
-    → Reaches options kind one two count from level i calls choices r' from'
+    → Reaches options kind one two count from level i calls choices (Ok r) from'
+    → Reaches options kind one two count from level i calls choices (Ok r') from'
 reaches_as {options = options} {kind = kind} {one = one} {two = two} {count = count} {from = from} {level = level} {i = i} {calls = calls} {choices = choices} {from' = from'} e h =
-    subst (λ (r : Reached). Reaches options kind one two count from level i calls choices r from') e h
+    subst (λ (r : Reached). Reaches options kind one two count from level i calls choices (Ok r) from') e h
 
 -- a row that calls is no S row, and the rows behind it stand in a new block
 call_no_sheet : (letter : ℕ) → is_call letter ≡ true → letter ≡ 83 → ⊥
@@ -54,7 +56,7 @@ call_stand k a b rs e h = go (eqb k 65) refl
         (subst (λ (r : Row). AllStand 0 (r ∷ rs)) (row_call k a b c) h).1
 
 module _ (options : ℕ) (kind one two : List ℕ) (count : ℕ) (from₀ : List ℕ) (level₀ row calls₀ choices₀ : ℕ) where
-  abbrev Left : Reached → List ℕ → Type 0
+  abbrev Left : Result Reached Refusal → List ℕ → Type 0
   Left r from = Reaches options kind one two count from₀ level₀ row calls₀ choices₀ r from
 
   -- from here the whole comes to what it came to from the first row
@@ -68,13 +70,13 @@ module _ (options : ℕ) (kind one two : List ℕ) (count : ℕ) (from₀ : List
 
   module _ (from : List ℕ) (level i calls choices : ℕ) (j : Seeking from level i calls choices) where
     -- a block is reached
-    pub seeking_block : (r : Bool) → r ≡ in_block kind count i → r ≡ true → Left (reached.Block level i calls choices) from
+    pub seeking_block : (r : Bool) → r ≡ in_block kind count i → r ≡ true → Left (Ok (reached.Block level i calls choices)) from
     seeking_block r e t =
         record { exact = j.exact; stands = record { between = j.between; row = sym e ∙ t; nearer = j.nearer } }
 
     module _ (letter : ℕ) (read : letter ≡ letter_at kind count i) where
       -- sheet 0 has ended
-      pub seeking_end : letter ≡ 83 → level ≡ 0 → Left (reached.End calls choices) from
+      pub seeking_end : letter ≡ 83 → level ≡ 0 → Left (Ok (reached.End calls choices)) from
       seeking_end e z =
           record { exact = λ met t. j.exact met t ∙ rest_end options kind one two count i letter read from level calls choices met t e z; stands = j.between.few }
 
@@ -181,25 +183,26 @@ module _ (options : ℕ) (kind one two : List ℕ) (count : ℕ) (from₀ : List
               subst (λ (n : ℕ). n < length start) (sym f)
               (subst (λ (k : ℕ). sheet_called k (get_or one i 0) (get_or two i 0) options choices < length start) letter_is (lent.known i choices call_there is_call_holds))
 
-          pub seeking_deep : level ≡ levels → Left (reached.Stopped depth_refusal (line_of i)) from
-          seeking_deep z =
-              record { exact = λ met t. j.exact met t ∙ rest_deep options kind one two count i letter read from level calls choices met t e z; stands = tt }
+          pub seeking_deep : (r : Refusal) → r ≡ record { reason = reason.Depth; line = line_of i } → level ≡ levels → Left (Err r) from
+          seeking_deep r f z =
+              rw f (record { exact = λ met t. j.exact met t ∙ rest_deep options kind one two count i letter read from level calls choices met t e z; stands = tt })
 
           module _ (n : level ≡ levels → ⊥) where
             pub deeper : level < levels
             deeper = omega (arith, j.between.deep)
 
-            pub seeking_calls : calls_most ≤ calls → Left (reached.Stopped calls_refusal (line_of i)) from
-            seeking_calls m =
-                record { exact = λ met t. j.exact met t ∙ rest_calls options kind one two count i letter read from level calls choices met t e deeper m; stands = tt }
+            pub seeking_calls : (r : Refusal) → r ≡ record { reason = reason.Calls; line = line_of i } → calls_most ≤ calls → Left (Err r) from
+            seeking_calls r f m =
+                rw f (record { exact = λ met t. j.exact met t ∙ rest_calls options kind one two count i letter read from level calls choices met t e deeper m; stands = tt })
 
             module _ (m : calls < calls_most) (o : Bool) (ninth : o ≡ is_ninth letter choices) where
-              pub seeking_ninth : o ≡ true → Left (reached.Stopped choices_refusal (line_of i)) from
-              seeking_ninth f =
-                  record {
+              pub seeking_ninth : (r : Refusal) → r ≡ record { reason = reason.Choices; line = line_of i } → o ≡ true → Left (Err r) from
+              seeking_ninth r g f =
+                  rw g
+                  (record {
                     exact = λ met t. j.exact met t ∙ rest_ninth options kind one two count i letter read from level calls choices met t e deeper m (sym ninth ∙ f);
                     stands = tt;
-                  }
+                  })
 
               module _ (room : o ≡ false) (sheet : ℕ) (called : sheet ≡ sheet_called letter (get_or one i 0) (get_or two i 0) options choices)
                   (more : ℕ) (met-more : more ≡ choices_behind letter choices) (first : ℕ) (starts : first ≡ get_or start sheet 0) where

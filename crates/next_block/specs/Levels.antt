@@ -1,15 +1,17 @@
 -- The walk between two blocks, the open one being empty: what is left to walk from there on, and what each place asks.
 -- Assumes nothing.
-use Rattle.std.specs.Prelude.{ℕ, zero, suc, ◌+◌, ◌-◌, ◌*◌, ◌<◌, ◌≤◌, ◌≡◌, true, List, length, get_or}
+use Rattle.std.specs.Prelude.{ℕ, zero, suc, ◌+◌, ◌-◌, ◌*◌, ◌<◌, ◌≤◌, ◌≡◌, true, List, length, get_or, Result, Ok, Err}
 use Prim.Native.Char.{code}
 use Rattle.model.specs.Limits.{rows_most, levels, calls_most}
-use Rattle.model.specs.Refusal.{Out, ok, refusal, and_then}
+use Rattle.model.specs.Refusal.{Out, ok, and_then}
 use Rattle.model.specs.Place.{line_of}
 use Rattle.model.specs.Expansion.{Progress, start_of, block_opened, walk_rows, call_at}
 use Rattle.sheet.specs.Bridge.{rows_of}
 use Rattle.blocks.specs.Store.{Store, store_ops}
 use Rattle.levels.specs.Options.{options_of, is_call, sheet_called}
 use Rattle.walk.specs.Block.{rows_from, in_block, RowsFew, AllStand}
+use Rattle.outcome.specs.declared.Refusal.{Refusal}
+use Rattle.outcome.specs.Refusals.{refused_in}
 use Rattle.next_block.specs.declared.Reached.{Reached}
 use Rattle.next_block.specs.declared.Reached.TheVariants as reached
 
@@ -71,17 +73,17 @@ module _ (options : ℕ) (kind one two : List ℕ) (count : ℕ) where
     pub row : in_block kind count i ≡ true
     pub nearer : rank count level i calls ≤ most
 
-  abbrev pub reached_rest : Reached → List ℕ → ℕ → Store → Out (Progress Store)
-  reached_rest (reached.Block level i calls choices) from met t = rest from level i (idle calls choices met t)
-  reached_rest (reached.End calls choices) from met t = ok (idle calls choices met t)
-  reached_rest (reached.Stopped number line) from met t = refusal number line
+  abbrev pub reached_rest : Result Reached Refusal → List ℕ → ℕ → Store → Out (Progress Store)
+  reached_rest (Ok (reached.Block level i calls choices)) from met t = rest from level i (idle calls choices met t)
+  reached_rest (Ok (reached.End calls choices)) from met t = ok (idle calls choices met t)
+  reached_rest (Err r) from met t = refused_in r
 
-  abbrev pub ReachedStands : Reached → List ℕ → ℕ → Type 0
-  ReachedStands (reached.Block level i calls choices) from most = AtBlock from level i calls most
-  ReachedStands (reached.End calls choices) from most = calls ≤ calls_most
-  ReachedStands (reached.Stopped number line) from most = Unit {0}
+  abbrev pub ReachedStands : Result Reached Refusal → List ℕ → ℕ → Type 0
+  ReachedStands (Ok (reached.Block level i calls choices)) from most = AtBlock from level i calls most
+  ReachedStands (Ok (reached.End calls choices)) from most = calls ≤ calls_most
+  ReachedStands (Err r) from most = Unit {0}
 
   -- the walk comes to the same from there on, whatever it has met and collected
-  pub record Reaches (from : List ℕ) (level i calls choices : ℕ) (r : Reached) (from' : List ℕ) : Type 0 where
+  pub record Reaches (from : List ℕ) (level i calls choices : ℕ) (r : Result Reached Refusal) (from' : List ℕ) : Type 0 where
     pub exact : (met : ℕ) (t : Store) → rest from level i (idle calls choices met t) ≡ reached_rest r from' met t
     pub stands : ReachedStands r from' (rank count level i calls)

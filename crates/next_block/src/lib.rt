@@ -6,25 +6,32 @@ ghost use Rattle.levels.specs.Options.{is_call};
 ghost use Rattle.next_block.specs.Levels.{BehindBlocks, Sheets, Between, Reaches};
 
 use model::FIRST_LINE;
+use outcome::{Reason, Refusal};
+use sheet::Rows;
 use walk::Walk;
 
 // Where the walk comes to between two blocks: the level and row of the next block, or the end of sheet 0, each with the calls made and
-// the A rows met; or a refusal's number and line.
+// the A rows met.
 #[derive(Clone, Copy)]
 pub enum Reached {
-    Block(usize, usize, usize, usize),
-    End(usize, usize),
-    Stopped(u8, usize),
+    Block {
+        level: usize,
+        row: usize,
+        calls: usize,
+        choices: usize,
+    },
+    End {
+        calls: usize,
+        choices: usize,
+    },
 }
 
 // A row that calls: C, or A.
+#[tactic(auto, unfolding(levels::specs::Options::is_call))]
 fn is_call(letter: u8) -> bool
     ensures { result ≡ is_call letter }
 {
-    if letter == b'C' {
-        return true;
-    }
-    letter == b'A'
+    letter == b'C' || letter == b'A'
 }
 
 // The first row from `row` on that is no B row: an empty block costs its row alone.
@@ -33,70 +40,67 @@ fn behind_blocks(kind: &[u8], rows: usize, row: usize) -> usize
     requires row_le_rows { row ≤ rows }
     ensures { BehindBlocks kind.now rows row result }
 {
-    let mut at = row;
-    while at < rows {
+    for at in row..rows {
         if kind[at] != b'B' {
             return at;
         }
-        at += 1;
     }
-    at
+    rows
 }
 
 // From a row on, the open block being empty, to the next row of a block, through calls and ends of sheets, or to refusal 8, 9 or 13.
 // The options are those of a list of eight, as a number.
 pub fn next_block(
-    kind: &[u8],
-    one: &[u16],
-    two: &[u16],
-    rows: usize,
-    start: &[u16],
+    rows: &Rows,
     options: usize,
     from: &mut [usize],
-    depth: usize,
-    row: usize,
-    made: usize,
-    met: usize,
-) -> Reached
-    requires sheets { Sheets options kind.now one.now two.now rows start.now }
-    requires between { Between options kind.now one.now two.now rows from.old depth row made }
-    ensures { Reaches options kind.now one.now two.now rows from.old depth row made met result from.new }
+    mut level: usize,
+    mut at: usize,
+    mut calls: usize,
+    mut choices: usize,
+) -> Result<Reached, Refusal>
+    requires sheets { Sheets options rows.now.kind.now rows.now.one.now rows.now.two.now rows.now.count rows.now.start.now }
+    requires between { Between options rows.now.kind.now rows.now.one.now rows.now.two.now rows.now.count from.old level at calls }
+    ensures { Reaches options rows.now.kind.now rows.now.one.now rows.now.two.now rows.now.count from.old level at calls choices result from.new }
 {
-    let mut level = depth;
-    let mut at = row;
-    let mut calls = made;
-    let mut choices = met;
+    // Not a `for`: calls and the ends of sheets lead from row to row.
     loop {
-        if walk::in_block(kind, rows, at) {
-            return Reached::Block(level, at, calls, choices);
+        if walk::in_block(rows.kind, rows.count, at) {
+            return Ok(Reached::Block {
+                level,
+                row: at,
+                calls,
+                choices,
+            });
         }
-        let letter = levels::letter_at(kind, rows, at);
+        let letter = levels::letter_at(rows.kind, rows.count, at);
         if is_call(letter) {
+            let line = at + FIRST_LINE;
             if level == model::LEVELS {
-                return Reached::Stopped(model::DEPTH, at + FIRST_LINE);
+                return Err(Reason::Depth.at(line));
             }
             if Walk::CALLS_MOST <= calls {
-                return Reached::Stopped(model::CALLS, at + FIRST_LINE);
+                return Err(Reason::Calls.at(line));
             }
             if calls::is_ninth(letter, choices) {
-                return Reached::Stopped(model::CHOICES, at + FIRST_LINE);
+                return Err(Reason::Choices.at(line));
             }
-            let sheet = calls::called_sheet(letter, one, two, at, options, choices);
+            let sheet = calls::called_sheet(letter, rows.one, rows.two, at, options, choices);
             choices = calls::choices_behind(letter, choices);
             calls += 1;
             from[level] = at;
             level += 1;
-            at = levels::start_of(start, sheet);
+            at = levels::start_of(rows.start, sheet);
             continue;
         }
         if letter == b'S' {
             if level == 0 {
-                return Reached::End(calls, choices);
+                return Ok(Reached::End { calls, choices });
             }
             level -= 1;
             at = from[level] + 1;
             continue;
         }
-        at = behind_blocks(kind, rows, at + 1);
+        at = behind_blocks(rows.kind, rows.count, at + 1);
     }
 }

@@ -17,12 +17,12 @@ pub fn next_in(row: &[u64], m: usize) -> usize
     let at = send / WORD_BITS;
     let rest = row[at] >> (send % WORD_BITS);
     if rest != 0 {
-        return m + u64::trailing_zeros(rest) as usize / 2;
+        return m + rest.trailing_zeros() as usize / 2;
     }
     for i in at + 1..WIDTH {
         let word = row[i];
         if word != 0 {
-            return (WORD_BITS * i + u64::trailing_zeros(word) as usize) / 2;
+            return (WORD_BITS * i + word.trailing_zeros() as usize) / 2;
         }
     }
     model::MESSAGES_MOST

@@ -57,10 +57,8 @@ pub fn next(mut run: Run, boards: &[u8], step: Step) -> Run
     ensures { NextRun boards.now run (step_in step) result }
 {
     let target = target_of(boards, step);
-    let mut buffer = run.buffers[target];
     done_behind(&mut run.done, step);
     way_behind(&mut run.way, step);
-    held_behind(&mut buffer.held, step);
-    run.buffers[target] = buffer;
+    held_behind(&mut run.buffers[target].held, step);
     run
 }

@@ -1,13 +1,12 @@
 -- The search for the next step: a message of a class, the lowest of a class, and the classes in their order. Assumes nothing.
 use mathlib.Core.Path.{◌≡◌, refl, sym, ◌∙◌, ap, subst, subst⁻¹}
-use mathlib.Core.Bool.{Bool, true, false, not, ◌&&◌}
+use mathlib.Core.Bool.{Bool, true, false, ◌&&◌}
 use mathlib.Core.List.{List, [], ◌∷◌}
 use mathlib.Core.Option.{Option, none, some}
 use Prim.Native.Nat.{ℕ, zero, suc, ◌+◌, ◌<◌, ◌≤◌}
 use native.Mathlib.Omega.{arith}
 use native.Mathlib.Decide.{ℕ_discrete, dec_lt}
-use lib.ListN.{drop}
-use borrow.Author.Tests.{not-true, not-false}
+use lib.ListN.{drop, get_or}
 use Rattle.model.specs.Limits.{messages_most}
 use Rattle.model.specs.Bounded.{lowest}
 use Rattle.model.specs.Order.{Scenario}
@@ -19,14 +18,13 @@ use Rattle.model.proofs.Bounded.{and_right, lowest_hit, lowest_miss, lowest_some
 use Rattle.relation.specs.Scenario.{scenario_in}
 use Rattle.channel_table.specs.declared.Channel.{Channel}
 use Rattle.channel_table.specs.Table.{channel_in}
+use Rattle.std.specs.Prelude as prelude
 use Rattle.step.specs.declared.Step as code
-use Rattle.step.specs.declared.StepOrNone.{StepOrNone}
-use Rattle.step.specs.declared.StepOrNone.TheVariants as maybe
 use Rattle.step.specs.Steps.{step_in, message_in, step_or_none}
 use Rattle.run.specs.State.{state_of}
 use Rattle.buffers.specs.Held.{HeldAnywhere}
 use Rattle.step_classes.specs.declared.Class.{Class}
-use Rattle.step_classes.specs.declared.Class.TheVariants.{AnySend}
+use Rattle.step_classes.specs.declared.Class.TheVariants.{AnyConsume, DeliveryOf, NeededDelivery, NeededSend, AnyDelivery, AnySend}
 use Rattle.step_classes.specs.Classes.{class_in, step_for}
 use Rattle.candidates.specs.Candidates.{Exactly, is_candidate}
 use Rattle.next_message.specs.Next.{next_in}
@@ -34,18 +32,8 @@ use Rattle.next_message.proofs.InRow.{next_absent}
 use Rattle.step_classes.proofs.EachClass.{step_is, message_is}
 use Rattle.channel.specs.Steps.{SaysIn}
 use Rattle.model.proofs.Rules.{allowed_inside}
-use Rattle.next_step.specs.Search.{class_at, OfRuns, fits, Fits, Lowest, ChosenIn}
+use Rattle.next_step.specs.Search.{OfRuns, fits, Fits, Lowest, ChosenIn}
 use Rattle.next_step.proofs.Skipped.{no_candidate}
-
--- the class behind the first five is the last
-pub last_class : (k : ℕ) → (k ≡ 0 → ⊥) → (k ≡ 1 → ⊥) → (k ≡ 2 → ⊥) → (k ≡ 3 → ⊥) → (k ≡ 4 → ⊥) → AnySend ≡ class_at k
-last_class zero a b c d e = absurd (a refl)
-last_class (suc zero) a b c d e = absurd (b refl)
-last_class (suc (suc zero)) a b c d e = absurd (c refl)
-last_class (suc (suc (suc zero))) a b c d e = absurd (d refl)
-last_class (suc (suc (suc (suc zero)))) a b c d e = absurd (e refl)
-last_class (suc (suc (suc (suc (suc zero))))) a b c d e = refl
-last_class (suc (suc (suc (suc (suc (suc k)))))) a b c d e = refl
 
 -- the step of a class on a message of the scenario
 pub message_below : (q : Class) (m : ℕ) (step : code.Step) (count : ℕ) → step ≡ step_for q m → m < count → message_in step < count
@@ -53,17 +41,17 @@ message_below q m step count i l = rw (i, message_is q m) l
 
 -- What each return of `fits_class` is to show.
 module _ (count : ℕ) (boards words : List ℕ) (c : Channel) (done way rows : List ℕ) (e : ℕ) (q : Class) (m : ℕ) where
-  pub other_class : (t : Bool) → not t ≡ true → t ≡ (class_in (scenario_in count boards words) e q).takes m
-      → Fits count boards words c done way rows e q m false
+  pub other_class : (t : Bool) → t ≡ false → t ≡ (class_in (scenario_in count boards words) e q).takes m
+      → Fits count boards words c done way rows e q m t
   other_class t f h = λ run d w s.
-      ap (λ b. b && allowed (scenario_in count boards words) (channel_in c) (state_of run) ((class_in (scenario_in count boards words) e q).step m)) (sym (not-true t f) ∙ h)
+      f ∙ ap (λ b. b && allowed (scenario_in count boards words) (channel_in c) (state_of run) ((class_in (scenario_in count boards words) e q).step m)) (sym f ∙ h)
 
   pub in_class : (t u : Bool) (step : code.Step) → SaysIn count boards words c done way rows step u → step ≡ step_for q m
-      → not t ≡ false → t ≡ (class_in (scenario_in count boards words) e q).takes m → Fits count boards words c done way rows e q m u
+      → t ≡ true → t ≡ (class_in (scenario_in count boards words) e q).takes m → Fits count boards words c done way rows e q m u
   in_class t u step says i f h = λ run d w s.
       says run d w s
       ∙ ap (allowed (scenario_in count boards words) (channel_in c) (state_of run)) (ap step_in i ∙ step_is (scenario_in count boards words) e q m)
-      ∙ ap (λ k. k && allowed (scenario_in count boards words) (channel_in c) (state_of run) ((class_in (scenario_in count boards words) e q).step m)) (sym (not-false t f) ∙ h)
+      ∙ ap (λ k. k && allowed (scenario_in count boards words) (channel_in c) (state_of run) ((class_in (scenario_in count boards words) e q).step m)) (sym f ∙ h)
 
 -- What is chosen from a list of classes, by its first class.
 module _ (S : Scenario) (c : model.Channel) where
@@ -134,7 +122,7 @@ module _ (count : ℕ) (boards words : List ℕ) (c : Channel) (done way rows : 
   pub search_begins : (r : ℕ) (row held : List ℕ) → r ≡ next_in row 0 → Exactly (is_candidate words done way held e q) row → HeldAnywhere rows held → count ≤ messages_most → Passed r
   search_begins r row held n all anywhere few = skips 0 r row held (record { passed = λ j h i. absurd (omega arith) }) n all anywhere few
 
-  pub finds_nothing : (m : ℕ) → Passed m → count ≤ m → Lowest count boards words c done way rows e q maybe.Nothing
+  pub finds_nothing : (m : ℕ) → Passed m → count ≤ m → Lowest count boards words c done way rows e q prelude.None
   finds_nothing m p l run d w r =
       sym (choose_miss S (channel_in c) (class_in S e q) [] (state_of run)
       (none_below count (omega arith) (record { passed = λ j h i. p.passed j (omega arith) i }) run d w r)
@@ -152,14 +140,18 @@ module _ (count : ℕ) (boards words : List ℕ) (c : Channel) (done way rows : 
     pub goes_past : (r : ℕ) (row held : List ℕ) → u ≡ false → r ≡ next_in row (m + 1) → Exactly (is_candidate words done way held e q) row → HeldAnywhere rows held → count ≤ messages_most → Passed r
     goes_past r row held f n all anywhere few = skips (m + 1) r row held (misses f) n all anywhere few
 
-    pub finds : (step : code.Step) → step ≡ step_for q m → u ≡ true → Lowest count boards words c done way rows e q (maybe.Step step)
+    pub finds : (step : code.Step) → step ≡ step_for q m → u ≡ true → Lowest count boards words c done way rows e q (prelude.Some step)
     finds step i v run d w r =
         ap some (ap step_in i ∙ step_is S e q m)
         ∙ sym (choose_hit S (channel_in c) (class_in S e q) [] (state_of run) m
         (lowest_hit count m (fits count boards words c run e q) (none_below m (omega arith) p run d w r) (sym (s run d w r) ∙ v) l))
 
-    pub finds_none_left : u ≡ false → m + 1 ≡ count → Lowest count boards words c done way rows e q maybe.Nothing
+    pub finds_none_left : u ≡ false → m + 1 ≡ count → Lowest count boards words c done way rows e q prelude.None
     finds_none_left f z = finds_nothing (m + 1) (misses f) (omega arith)
+
+-- the classes, in the order in which they are tried
+abbrev pub class_at : ℕ → Class
+class_at k = get_or (AnyConsume ∷ DeliveryOf ∷ NeededDelivery ∷ NeededSend ∷ AnyDelivery ∷ AnySend ∷ []) k AnyConsume
 
 -- The classes tried so far have no allowed step: what is left to choose from is chosen from as before.
 module _ (count : ℕ) (boards words : List ℕ) (c : Channel) (done way rows : List ℕ) (e : ℕ) where
@@ -185,26 +177,25 @@ module _ (count : ℕ) (boards words : List ℕ) (c : Channel) (done way rows : 
   at_class (suc (suc (suc (suc (suc (suc k)))))) l = absurd (omega arith)
 
   -- what is chosen, by what the k-th class alone has
-  by_class : (k : ℕ) (q : Class) (f : StepOrNone) → Tried k → k < 6 → q ≡ class_at k → Lowest count boards words c done way rows e q f
+  by_class : (k : ℕ) (f : prelude.Option code.Step) → Tried k → k < 6 → Lowest count boards words c done way rows e (class_at k) f
       → OfRuns done way rows (λ run.
       choose (scenario_in count boards words) (channel_in c) (classes_for (scenario_in count boards words) e) (state_of run)
       ≡ elim (step_or_none f) [
         | some t ↦ some t
         | none ↦ choose (scenario_in count boards words) (channel_in c) (drop (k + 1) (classes_for (scenario_in count boards words) e)) (state_of run)
       ])
-  by_class k q f T l i h run d w p =
+  by_class k f T l h run d w p =
       T.same run d w p ∙ ap (λ ks. choose (scenario_in count boards words) (channel_in c) ks (state_of run)) (at_class k l)
-      ∙ first_class (scenario_in count boards words) (channel_in c) (class_in (scenario_in count boards words) e (class_at k)) (drop (k + 1) (classes_for (scenario_in count boards words) e)) (state_of run) _ refl (step_or_none f) (rw i at (h run d w p))
+      ∙ first_class (scenario_in count boards words) (channel_in c) (class_in (scenario_in count boards words) e (class_at k)) (drop (k + 1) (classes_for (scenario_in count boards words) e)) (state_of run) _ refl (step_or_none f) (h run d w p)
 
-  pub tried_more : (k : ℕ) (q : Class) (f : StepOrNone) → Tried k → f ≡ maybe.Nothing → Lowest count boards words c done way rows e q f
-      → q ≡ class_at k → k < 6 → Tried (k + 1)
-  tried_more k q f T n h i l = record { within = omega arith; same = λ run d w p. rw n at (by_class k q f T l i h run d w p) }
+  pub tried_more : (k : ℕ) → Tried k → Lowest count boards words c done way rows e (class_at k) prelude.None → k < 6 → Tried (k + 1)
+  tried_more k T h l = record { within = omega arith; same = λ run d w p. by_class k prelude.None T l h run d w p }
 
-  pub chooses : (k : ℕ) (q : Class) (f : StepOrNone) (step : code.Step) → Tried k → f ≡ maybe.Step step → Lowest count boards words c done way rows e q f
-      → q ≡ class_at k → k < 6 → ChosenIn count boards words c done way rows e f
-  chooses k q f step T n h i l run d w p = rw n (sym (rw n at (by_class k q f T l i h run d w p)))
+  pub chooses : (k : ℕ) (step : code.Step) → Tried k → Lowest count boards words c done way rows e (class_at k) (prelude.Some step) → k < 6
+      → ChosenIn count boards words c done way rows e (prelude.Some step)
+  chooses k step T h l run d w p = sym (by_class k (prelude.Some step) T l h run d w p)
 
-  pub chooses_nothing : (k : ℕ) → Tried k → 6 ≤ k → ChosenIn count boards words c done way rows e maybe.Nothing
+  pub chooses_nothing : (k : ℕ) → Tried k → 6 ≤ k → ChosenIn count boards words c done way rows e prelude.None
   chooses_nothing k T l run d w p =
       let i : k ≡ 6 = omega (arith, T.within) in
       sym (T.same run d w p ∙ ap (λ j. choose (scenario_in count boards words) (channel_in c) (drop j (classes_for (scenario_in count boards words) e)) (state_of run)) i ∙ choose_none (scenario_in count boards words) (channel_in c) (state_of run))

@@ -10,19 +10,12 @@ ghost use Rattle.order_count.specs.Orders.{orders_to};
 
 use relation::{WIDTH, WORD_BITS};
 
-// A count of bits, as a number of rows.
-fn wide(bits: u32) -> usize
-    ensures { result ≡ bits }
-{
-    bits as usize
-}
-
 // How many events a word has.
 fn count_word(word: u64) -> usize
     ensures value { result ≡ how_many word_bits (has word) }
     ensures upper_bound { result ≤ word_bits }
 {
-    wide(u64::count_ones(word))
+    word.count_ones() as usize
 }
 
 // How many events it has among its first few.
@@ -31,7 +24,7 @@ fn count_first(word: u64, few: usize) -> usize
     ensures value { result ≡ how_many few (has word) }
     ensures upper_bound { result ≤ few }
 {
-    wide(u64::count_ones(word & ((1 << few) - 1)))
+    (word & ((1 << few) - 1)).count_ones() as usize
 }
 
 // How many events stand directly before e's send: the row of its receive holds them. No bit behind the last event counts.

@@ -8,14 +8,18 @@ use borrow.Author.Tests.{lt-ltb, le-ltb, le-leb, lt-leb}
 use lib.Dec.{ltb}
 use lib.ListN.{length, drop}
 use Rattle.model.specs.Limits.{channels, scratch_least, trace_least}
-use Rattle.model.specs.Refusal.{Out, ok, refusal, channel_refusal, bench_refusal}
+use Rattle.model.specs.Refusal.{Out, ok, refusal, bench_refusal}
 use Rattle.model.specs.Order.{Scenario}
-use Rattle.model.specs.Answer.{refused_word, answer_for, numbers_of, scratch_behind, trace_after}
+use Rattle.model.specs.Answer.{answer_for, numbers_of, scratch_behind, trace_after}
 use Rattle.model.specs.Senders.{permitted_of, PermittedCheck}
 use Rattle.model.proofs.Permitted.{permitted_check}
 use Rattle.relation.specs.Rows.{cleared}
 use Rattle.relation.proofs.Cleared.{cleared_behind, cleared_all}
-use Rattle.verdict.specs.declared.Answer.{Answer}
+use Rattle.std.specs.Prelude.{Result, Err}
+use Rattle.outcome.specs.declared.Reason.TheVariants.{Channel, Bench}
+use Rattle.outcome.specs.declared.Refusal.{Refusal}
+use Rattle.outcome.specs.Refusals.{number_in, refused_in}
+use Rattle.verdict.specs.declared.Verdict.{Verdict}
 use Rattle.verdict.specs.Parts.{numbers_for, Decides}
 use Rattle.permitted.specs.Parts.{sheet_with}
 use Rattle.permitted.proofs.Well.{WellNamed, with_well}
@@ -35,29 +39,35 @@ module _ (text : List ℕ) (code : ℕ) (scratch trace table : List ℕ) where
   abbrev outcome : Out Scenario
   outcome = permitted_of text code (length scratch) (length trace) table
 
-  refuses : (number : ℕ) → number ≤ bench_refusal → outcome ≡ refusal number 0
-      → PermittedCheck text code scratch scratch trace trace table (record { word = refused_word; one = number; two = 0; three = 0 })
+  refuses : (r : Refusal) → number_in r.reason ≤ bench_refusal → outcome ≡ refused_in r
+      → PermittedCheck text code scratch scratch trace trace table (numbers_for (Err r))
   unfolding scratch_behind answer_for trace_after
-  refuses number l e = permitted_check text code scratch scratch trace trace table _ (rw e) (rw (e, le-leb number bench_refusal l)) (rw e)
+  refuses r l e = permitted_check text code scratch scratch trace trace table _ (rw e) (rw (e, le-leb (number_in r.reason) bench_refusal l)) (rw e)
+
+  abbrev no_channel : Refusal
+  no_channel = record { reason = Channel; line = 0 }
+
+  abbrev short : Refusal
+  short = record { reason = Bench; line = 0 }
 
   pub refuses_channel : channels ≤ code
-      → PermittedCheck text code scratch scratch trace trace table (record { word = refused_word; one = channel_refusal; two = 0; three = 0 })
+      → PermittedCheck text code scratch scratch trace trace table (numbers_for (Err no_channel))
   unfolding permitted_of
-  refuses_channel h = refuses channel_refusal (omega arith) (rw (le-ltb code channels h))
+  refuses_channel h = refuses no_channel (omega arith) (rw (le-ltb code channels h))
 
   pub refuses_scratch : code < channels → length scratch < scratch_least
-      → PermittedCheck text code scratch scratch trace trace table (record { word = refused_word; one = bench_refusal; two = 0; three = 0 })
+      → PermittedCheck text code scratch scratch trace trace table (numbers_for (Err short))
   unfolding permitted_of
-  refuses_scratch h l = refuses bench_refusal (omega arith) (rw (lt-ltb code channels h, lt-ltb (length scratch) scratch_least l))
+  refuses_scratch h l = refuses short (omega arith) (rw (lt-ltb code channels h, lt-ltb (length scratch) scratch_least l))
 
   pub refuses_trace : code < channels → length trace < trace_least
-      → PermittedCheck text code scratch scratch trace trace table (record { word = refused_word; one = bench_refusal; two = 0; three = 0 })
+      → PermittedCheck text code scratch scratch trace trace table (numbers_for (Err short))
   unfolding permitted_of
   refuses_trace h l =
-      refuses bench_refusal (omega arith)
+      refuses short (omega arith)
       (rw (lt-ltb code channels h, lt-ltb (length trace) trace_least l, or-true (ltb (length scratch) scratch_least)))
 
-  pub answers : (scratch_exit trace_exit used : List ℕ) (n : ℕ) (r : Answer) (w : ℕ) → code < channels → scratch_least ≤ length scratch → trace_least ≤ length trace
+  pub answers : (scratch_exit trace_exit used : List ℕ) (n : ℕ) (r : Result Verdict Refusal) (w : ℕ) → code < channels → scratch_least ≤ length scratch → trace_least ≤ length trace
       → length used ≡ n → n ≤ scratch_least → scratch_exit ≡ cleared w (used ++ drop n scratch) → w ≡ scratch_least → Decides (sheet_with text table) code trace trace_exit r
       → PermittedCheck text code scratch scratch_exit trace trace_exit table (numbers_for r)
   unfolding permitted_of sheet_with

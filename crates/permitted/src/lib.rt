@@ -14,8 +14,9 @@ ghost use Rattle.permitted.specs.Parts.{sheet_with};
 
 use coverage::Rule;
 use model::RULES_MOST;
+use outcome::{Reason, Refusal};
 use senders::Judgement;
-use verdict::Answer;
+use verdict::Verdict;
 
 // A text with the rules of a table: one that is not sound is refused, without a line.
 fn judge_rules(
@@ -25,56 +26,51 @@ fn judge_rules(
     code: usize,
     words: &mut [u64],
     trace: &mut [u8],
-) -> Answer
+) -> Result<Verdict, Refusal>
     requires words_len { length words.old ≡ 2 * messages_most * width }
     requires code_lt_channels { (code < channels) × (trace_least ≤ length trace.old) }
     requires count_le_rules_most { count ≤ rules_most }
     ensures { Decides (and_then (sound_rules (rules_as (take count rules))) (sheet_by text.now)) code trace.old trace.new result }
 {
-    let judgement = senders::judge(rules, count);
-    match judgement {
+    match senders::judge(rules, count) {
         Judgement::Sound => permitted_sheet::judge_sheet(text, rules, count, code, words, trace),
-        Judgement::Gap(_) => Answer::Refused(model::SENDER_TABLE, 0),
-        Judgement::Clash(_, _, _) => Answer::Refused(model::SENDER_TABLE, 0),
-        Judgement::Refused(_, _) => Answer::Refused(model::SENDER_TABLE, 0),
+        Judgement::Gap(_) => Err(Reason::SenderTable.at(0)),
+        Judgement::Clash(_, _, _) => Err(Reason::SenderTable.at(0)),
     }
 }
 
 // A text with a table: the text's length is judged ahead of the table, and the table ahead of the rest of the text.
-fn judge(text: &[u8], table: &[u8], code: usize, words: &mut [u64], trace: &mut [u8]) -> Answer
+fn judge(
+    text: &[u8],
+    table: &[u8],
+    code: usize,
+    words: &mut [u64],
+    trace: &mut [u8],
+) -> Result<Verdict, Refusal>
     requires words_len { length words.old ≡ 2 * messages_most * width }
     requires code_lt_channels { (code < channels) × (trace_least ≤ length trace.old) }
     ensures { Decides (sheet_with text.now table.now) code trace.old trace.new result }
 {
-    if text.len() == 0 {
-        return Answer::Refused(model::LENGTH, 0);
+    if text.is_empty() || model::TEXT_MOST < text.len() {
+        return Err(Reason::Length.at(0));
     }
-    if model::TEXT_MOST < text.len() {
-        return Answer::Refused(model::LENGTH, 0);
-    }
-    let read = sender_table::read_table(table);
-    let verdict = read.verdict;
-    let rules = read.rules;
-    match verdict {
-        sender_table::Verdict::Malformed(line) => Answer::Refused(model::SENDER_TABLE, line),
-        sender_table::Verdict::Rules(count) => judge_rules(text, rules, count, code, words, trace),
-    }
+    let read = sender_table::read_table(table)?;
+    judge_rules(text, read.rules, read.count, code, words, trace)
 }
 
 // The call: refusals 1 and 2 touch nothing; behind every other answer the scratch is cleared.
-pub fn check(text: &[u8], code: u32, scratch: &mut [u64], trace: &mut [u8], table: &[u8]) -> Answer
+pub fn check(
+    text: &[u8],
+    code: u32,
+    scratch: &mut [u64],
+    trace: &mut [u8],
+    table: &[u8],
+) -> Result<Verdict, Refusal>
     ensures { PermittedCheck text.now code scratch.old scratch.new trace.old trace.new table.now (numbers_for result) }
 {
-    let channel = code as usize;
-    if model::CHANNELS <= channel {
-        return Answer::Refused(model::CHANNEL, 0);
-    }
-    if scratch.len() < model::SCRATCH_LEAST {
-        return Answer::Refused(model::BENCH, 0);
-    }
-    if trace.len() < model::TRACE_LEAST {
-        return Answer::Refused(model::BENCH, 0);
-    }
+    let channel = lent::channel(code)?;
+    lent::at_least(model::SCRATCH_LEAST, scratch.len())?;
+    lent::at_least(model::TRACE_LEAST, trace.len())?;
     let end = model::SCRATCH_LEAST;
     let answer = judge(text, table, channel, &mut scratch[..end], trace);
     relation::clear(scratch, model::SCRATCH_LEAST);

@@ -9,10 +9,9 @@ ghost use Rattle.verdict.specs.Parts.{Decides};
 ghost use Rattle.permitted_sheet.specs.Sheet.{sheet_by};
 
 use coverage::Rule;
-use expansion::Expanded;
 use model::RULES_MOST;
-use receivers::Forbidden;
-use verdict::Answer;
+use outcome::{Reason, Refusal};
+use verdict::Verdict;
 
 // A text with the rules of a sound table: the first message that is forbidden is refused, with its line, else the sheet is decided.
 pub fn judge_sheet(
@@ -22,25 +21,18 @@ pub fn judge_sheet(
     code: usize,
     words: &mut [u64],
     trace: &mut [u8],
-) -> Answer
+) -> Result<Verdict, Refusal>
     requires words_len { length words.old ≡ 2 * messages_most * width }
     requires code_lt_channels { (code < channels) × (trace_least ≤ length trace.old) }
     requires count_le_rules_most { count ≤ rules_most }
     ensures { Decides (sheet_by text.now (rules_as (take count rules))) code trace.old trace.new result }
 {
     let mut boards = [0u8; model::EVENTS_MOST];
-    let outcome = scenario::scenario_of(text, &mut boards, words);
-    match outcome {
-        Expanded::Refused(number, line) => Answer::Refused(number, line),
-        Expanded::Messages(messages) => {
-            let permitted = receivers::permitted_by(rules, count);
-            let forbidden = receivers::first_forbidden(permitted, &boards, messages);
-            match forbidden {
-                Forbidden::Nothing => verdict::decide(words, &boards, messages, code, trace),
-                Forbidden::Message(m) => {
-                    Answer::Refused(model::FORBIDDEN, message_lines::line_of(text, m, words))
-                }
-            }
-        }
+    let messages = scenario::scenario_of(text, &mut boards, words)?;
+    let permitted = receivers::permitted_by(rules, count);
+    if let Some(m) = receivers::first_forbidden(permitted, &boards, messages) {
+        let line = message_lines::line_of(text, m, words);
+        return Err(Reason::Forbidden.at(line));
     }
+    Ok(verdict::decide(words, &boards, messages, code, trace))
 }

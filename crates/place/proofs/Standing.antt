@@ -10,17 +10,18 @@ use borrow.Author.Tests.{lt-ltb, le-ltb, eq-eqb, ne_eqb, ltb-true}
 use lib.Dec.{eqb, ltb}
 use lib.ListN.{length, get_or, take, set, length-set, get_or-eq_default}
 use lib.Seq.{length-take-le, get_or-take, take-suc-set}
+use Rattle.std.specs.Prelude as code
+use Rattle.std.specs.Prelude.{Some, None}
+use Rattle.std.specs.Bool.{then_some}
 use Rattle.model.proofs.Bounded.{and_right}
 use Rattle.model.proofs.Standing.{cond_some}
 use Rattle.model.proofs.Walked.{order_parts}
 use Rattle.model.specs.Limits.{sheets, boards, messages_most}
 use Rattle.model.specs.Rows.{Row, sheet, message, order, block, call, choice}
 use Rattle.model.specs.Place.{with_message, message_fits, order_fits, is_sheet}
-use Rattle.place.specs.Stand.{Stand, is_open, may_open, moved_to, stood_at, stand_of, placed_for, placed_as, FewMessages, BlockAs, PlaceAs}
+use Rattle.place.specs.Stand.{Stand, is_open, may_open, moved_to, stood_at, stand_of, placed_as, FewMessages, BlockAs, PlaceAs}
 use Rattle.place.specs.Letters.{row_from}
 use Rattle.place.proofs.Letters.{row_sheet, row_message, row_order, row_call, row_choice, row_block}
-use Rattle.place.specs.declared.Placed.{Placed}
-use Rattle.place.specs.declared.Placed.TheVariants.{Messages, Nowhere}
 
 -- the table of starts
 module _ (starts : List ℕ) (n : ℕ) (long : length starts ≡ sheets) where
@@ -39,13 +40,6 @@ module _ (starts : List ℕ) (n : ℕ) (long : length starts ≡ sheets) where
   pub may_open_holds : n < sheets → get_or starts n 0 ≡ 0 → true ≡ may_open starts n
   unfolding may_open is_open
   may_open_holds h k = rw (lt-ltb n sheets h, k)
-
--- the two sheets of an A row
-pub sheets_beyond : (m n : ℕ) → sheets ≤ m → false ≡ (ltb m sheets && ltb n sheets)
-sheets_beyond m n h = rw (le-ltb m sheets h)
-
-pub sheets_second : (m n : ℕ) → m < sheets → ltb n sheets ≡ (ltb m sheets && ltb n sheets)
-sheets_second m n h = rw (lt-ltb m sheets h)
 
 -- the boards of the open block's events
 module _ (bs : List ℕ) (m : ℕ) (few : m ≤ messages_most) (long : length bs ≡ 2 * messages_most) where
@@ -147,69 +141,69 @@ take_two bs m a b h l =
 
 -- a row that is no S row, by its letter
 module _ (k a b m : ℕ) (bs : List ℕ) (few : m ≤ messages_most) (long : length bs ≡ 2 * messages_most) where
-  block_by : (r : Row) (bs' : List ℕ) (p : Placed) → row_from k a b ≡ r → ((starts : List ℕ) (i : ℕ) → placed_as p starts bs' ≡ moved_to i (stand_of starts bs m) r)
+  block_by : (r : Row) (bs' : List ℕ) (p : code.Option ℕ) → row_from k a b ≡ r → ((starts : List ℕ) (i : ℕ) → placed_as p starts bs' ≡ moved_to i (stand_of starts bs m) r)
       → FewMessages p → length bs' ≡ 2 * messages_most → BlockAs m (row_from k a b) bs bs' p
   block_by r bs' p e h f l = record { stand = λ starts i. h starts i ∙ ap (moved_to i (stand_of starts bs m)) (sym e); few = f; all_boards = l }
 
-  pub block_message : (p : Placed) (fits : Bool) (bs' : List ℕ) → k ≡ code "M" → fits ≡ message_fits (take (2 * m) bs) a b
-      → bs' ≡ cond fits (set (set bs (2 * m) a) (2 * m + 1) b) bs → p ≡ placed_for fits (m + 1) → BlockAs m (row_from k a b) bs bs' p
+  pub block_message : (p : code.Option ℕ) (fits : Bool) (bs' : List ℕ) → k ≡ code "M" → fits ≡ message_fits (take (2 * m) bs) a b
+      → bs' ≡ cond fits (set (set bs (2 * m) a) (2 * m + 1) b) bs → p ≡ then_some fits (m + 1) → BlockAs m (row_from k a b) bs bs' p
   unfolding moved_to
   block_message p fits bs' e f g h = rw (g, h) (go fits f)
     where
       go : (t : Bool) → t ≡ message_fits (take (2 * m) bs) a b
-          → BlockAs m (row_from k a b) bs (cond t (set (set bs (2 * m) a) (2 * m + 1) b) bs) (placed_for t (m + 1))
+          → BlockAs m (row_from k a b) bs (cond t (set (set bs (2 * m) a) (2 * m + 1) b) bs) (then_some t (m + 1))
       go true c =
           let l : m < messages_most = room bs m a b few long (sym c) in
-          block_by (message a b) (set (set bs (2 * m) a) (2 * m + 1) b) (Messages (m + 1)) (row_message k a b e)
+          block_by (message a b) (set (set bs (2 * m) a) (2 * m + 1) b) (Some (m + 1)) (row_message k a b e)
           (λ starts i. rw (← c, take_two bs m a b l long)) (omega arith)
           (length-set (set bs (2 * m) a) (2 * m + 1) b ∙ length-set bs (2 * m) a ∙ long)
-      go false c = block_by (message a b) bs Nowhere (row_message k a b e) (λ starts i. rw (← c)) tt long
+      go false c = block_by (message a b) bs None (row_message k a b e) (λ starts i. rw (← c)) tt long
 
-  pub block_order : (p : Placed) (fits : Bool) → k ≡ code "P" → fits ≡ order_fits (take (2 * m) bs) a b → p ≡ placed_for fits m → BlockAs m (row_from k a b) bs bs p
+  pub block_order : (p : code.Option ℕ) (fits : Bool) → k ≡ code "P" → fits ≡ order_fits (take (2 * m) bs) a b → p ≡ then_some fits m → BlockAs m (row_from k a b) bs bs p
   unfolding moved_to
   block_order p fits e f h = rw h (go fits f)
     where
-      go : (t : Bool) → t ≡ order_fits (take (2 * m) bs) a b → BlockAs m (row_from k a b) bs bs (placed_for t m)
-      go true c = block_by (order a b) bs (Messages m) (row_order k a b e) (λ starts i. rw (← c)) few long
-      go false c = block_by (order a b) bs Nowhere (row_order k a b e) (λ starts i. rw (← c)) tt long
+      go : (t : Bool) → t ≡ order_fits (take (2 * m) bs) a b → BlockAs m (row_from k a b) bs bs (then_some t m)
+      go true c = block_by (order a b) bs (Some m) (row_order k a b e) (λ starts i. rw (← c)) few long
+      go false c = block_by (order a b) bs None (row_order k a b e) (λ starts i. rw (← c)) tt long
 
-  pub block_call : (p : Placed) → k ≡ code "C" → p ≡ placed_for (ltb a sheets) 0 → BlockAs m (row_from k a b) bs bs p
+  pub block_call : (p : code.Option ℕ) → k ≡ code "C" → p ≡ then_some (ltb a sheets) 0 → BlockAs m (row_from k a b) bs bs p
   unfolding moved_to
   block_call p e q = rw q (go (ltb a sheets) refl)
     where
-      go : (t : Bool) → ltb a sheets ≡ t → BlockAs m (row_from k a b) bs bs (placed_for t 0)
-      go true c = block_by (call a) bs (Messages 0) (row_call k a b e) (λ starts i. rw c) (omega arith) long
-      go false c = block_by (call a) bs Nowhere (row_call k a b e) (λ starts i. rw c) tt long
+      go : (t : Bool) → ltb a sheets ≡ t → BlockAs m (row_from k a b) bs bs (then_some t 0)
+      go true c = block_by (call a) bs (Some 0) (row_call k a b e) (λ starts i. rw c) (omega arith) long
+      go false c = block_by (call a) bs None (row_call k a b e) (λ starts i. rw c) tt long
 
-  pub block_choice : (p : Placed) (fits : Bool) → k ≡ code "A" → fits ≡ (ltb a sheets && ltb b sheets) → p ≡ placed_for fits 0 → BlockAs m (row_from k a b) bs bs p
+  pub block_choice : (p : code.Option ℕ) (fits : Bool) → k ≡ code "A" → fits ≡ (ltb a sheets && ltb b sheets) → p ≡ then_some fits 0 → BlockAs m (row_from k a b) bs bs p
   unfolding moved_to
   block_choice p fits e f q = rw q (go fits f)
     where
-      go : (t : Bool) → t ≡ (ltb a sheets && ltb b sheets) → BlockAs m (row_from k a b) bs bs (placed_for t 0)
-      go true c = block_by (choice a b) bs (Messages 0) (row_choice k a b e) (λ starts i. rw (← c)) (omega arith) long
-      go false c = block_by (choice a b) bs Nowhere (row_choice k a b e) (λ starts i. rw (← c)) tt long
+      go : (t : Bool) → t ≡ (ltb a sheets && ltb b sheets) → BlockAs m (row_from k a b) bs bs (then_some t 0)
+      go true c = block_by (choice a b) bs (Some 0) (row_choice k a b e) (λ starts i. rw (← c)) (omega arith) long
+      go false c = block_by (choice a b) bs None (row_choice k a b e) (λ starts i. rw (← c)) tt long
 
-  pub block_next : (k ≡ code "S" → ⊥) → (k ≡ code "M" → ⊥) → (k ≡ code "P" → ⊥) → (k ≡ code "C" → ⊥) → (k ≡ code "A" → ⊥) → BlockAs m (row_from k a b) bs bs (Messages 0)
+  pub block_next : (k ≡ code "S" → ⊥) → (k ≡ code "M" → ⊥) → (k ≡ code "P" → ⊥) → (k ≡ code "C" → ⊥) → (k ≡ code "A" → ⊥) → BlockAs m (row_from k a b) bs bs (Some 0)
   unfolding moved_to
-  block_next e f g h n = block_by block bs (Messages 0) (row_block k a b e f g h n) (λ starts i. refl) (omega arith) long
+  block_next e f g h n = block_by block bs (Some 0) (row_block k a b e f g h n) (λ starts i. refl) (omega arith) long
 
 -- any row: an S row, one ahead of any S row, and one behind it
 module _ (row k a b m : ℕ) (starts bs : List ℕ) (long : length starts ≡ sheets) where
-  pub place_sheet : (p : Placed) (fits : Bool) (starts' : List ℕ) → length bs ≡ 2 * messages_most → k ≡ code "S" → fits ≡ may_open starts a
-      → starts' ≡ cond fits (set starts a (row + 1)) starts → p ≡ placed_for fits 0
+  pub place_sheet : (p : code.Option ℕ) (fits : Bool) (starts' : List ℕ) → length bs ≡ 2 * messages_most → k ≡ code "S" → fits ≡ may_open starts a
+      → starts' ≡ cond fits (set starts a (row + 1)) starts → p ≡ then_some fits 0
       → PlaceAs row (stand_of starts bs m) (row_from k a b) starts' bs p
   unfolding stood_at moved_to is_sheet
   place_sheet p fits starts' l e f g h = rw (g, h, row_sheet k a b e) (go fits f)
     where
-      go : (t : Bool) → t ≡ may_open starts a → PlaceAs row (stand_of starts bs m) (sheet a) (cond t (set starts a (row + 1)) starts) bs (placed_for t 0)
+      go : (t : Bool) → t ≡ may_open starts a → PlaceAs row (stand_of starts bs m) (sheet a) (cond t (set starts a (row + 1)) starts) bs (then_some t 0)
       go true c = record { stand = rw (← c); few = omega arith; all_starts = length-set starts a (row + 1) ∙ long; all_boards = l }
       go false c = record { stand = rw (← c); few = tt; all_starts = long; all_boards = l }
 
-  pub place_outside : length bs ≡ 2 * messages_most → row ≡ 0 → (k ≡ code "S" → ⊥) → PlaceAs row (stand_of starts bs m) (row_from k a b) starts bs Nowhere
+  pub place_outside : length bs ≡ 2 * messages_most → row ≡ 0 → (k ≡ code "S" → ⊥) → PlaceAs row (stand_of starts bs m) (row_from k a b) starts bs None
   unfolding stood_at
   place_outside l e f = record { stand = rw (not_sheet k a b f, e); few = tt; all_starts = long; all_boards = l }
 
-  pub place_behind : (p : Placed) (bs' : List ℕ) → (row ≡ 0 → ⊥) → BlockAs m (row_from k a b) bs bs' p → PlaceAs row (stand_of starts bs m) (row_from k a b) starts bs' p
+  pub place_behind : (p : code.Option ℕ) (bs' : List ℕ) → (row ≡ 0 → ⊥) → BlockAs m (row_from k a b) bs bs' p → PlaceAs row (stand_of starts bs m) (row_from k a b) starts bs' p
   unfolding stood_at
   place_behind p bs' e h =
       let later : ltb 0 row ≡ true = lt-ltb 0 row (omega arith) in

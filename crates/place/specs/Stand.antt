@@ -1,13 +1,12 @@
 -- The model's place as the code keeps it: the sheets opened are those with a start in the table.
 -- Assumes nothing.
-use Rattle.std.specs.Prelude.{ℕ, ◌+◌, ◌*◌, ◌≤◌, ◌≡◌, Bool, not, cond, ◌&&◌, ◌||◌, List, [], eqb, ltb, length, get_or, take, set}
+use Rattle.std.specs.Prelude as code
+use Rattle.std.specs.Prelude.{ℕ, ◌+◌, ◌*◌, ◌≤◌, ◌≡◌, Bool, not, cond, ◌&&◌, ◌||◌, List, [], eqb, ltb, length, get_or, take, set, Some, None}
 use Prim.Native.Char.{code}
 use Rattle.std.proofs.Math.Option.{Option, none, some}
 use Rattle.model.specs.Limits.{sheets, messages_most}
 use Rattle.model.specs.Rows.{Row, sheet, message, order, block, call, choice}
 use Rattle.model.specs.Place.{with_message, message_fits, order_fits, is_sheet}
-use Rattle.place.specs.declared.Placed.{Placed}
-use Rattle.place.specs.declared.Placed.TheVariants.{Messages, Nowhere}
 
 -- Where the reader stands: the table of starts, and the board of each event of the open block.
 pub record Stand : Type 0 where
@@ -40,29 +39,27 @@ stood_at i s r = cond (is_sheet r || ltb 0 i) (moved_to i s r) none
 abbrev pub stand_of : List ℕ → List ℕ → ℕ → Stand
 stand_of starts boards messages = record { starts = starts; events = take (2 * messages) boards }
 
-abbrev pub placed_for : Bool → ℕ → Placed
-placed_for fits messages = cond fits (Messages messages) Nowhere
+-- where the reader stands behind a row, by the messages of the open block; nothing where a rule is broken
+abbrev pub placed_as : code.Option ℕ → List ℕ → List ℕ → Option Stand
+placed_as (Some m) starts boards = some (stand_of starts boards m)
+placed_as None starts boards = none
 
-abbrev pub placed_as : Placed → List ℕ → List ℕ → Option Stand
-placed_as (Messages m) starts boards = some (stand_of starts boards m)
-placed_as Nowhere starts boards = none
-
-abbrev pub FewMessages : Placed → Type 0
-FewMessages (Messages m) = m ≤ messages_most
-FewMessages Nowhere = Unit {0}
+abbrev pub FewMessages : code.Option ℕ → Type 0
+FewMessages (Some m) = m ≤ messages_most
+FewMessages None = Unit {0}
 
 -- a kind that is not an S row's
 abbrev pub OtherThanS : ℕ → Type 0
 OtherThanS kind = kind ≡ code "S" → ⊥
 
 -- a row that is no S row, in a block of m messages: whatever the table of starts holds, it stays as it is
-pub record BlockAs (m : ℕ) (r : Row) (boards boards' : List ℕ) (p : Placed) : Type 0 where
+pub record BlockAs (m : ℕ) (r : Row) (boards boards' : List ℕ) (p : code.Option ℕ) : Type 0 where
   pub stand : (starts : List ℕ) (i : ℕ) → placed_as p starts boards' ≡ moved_to i (stand_of starts boards m) r
   pub few : FewMessages p
   pub all_boards : length boards' ≡ 2 * messages_most
 
 -- any row, as row `row`
-pub record PlaceAs (row : ℕ) (s : Stand) (r : Row) (starts boards : List ℕ) (p : Placed) : Type 0 where
+pub record PlaceAs (row : ℕ) (s : Stand) (r : Row) (starts boards : List ℕ) (p : code.Option ℕ) : Type 0 where
   pub stand : placed_as p starts boards ≡ stood_at row s r
   pub few : FewMessages p
   pub all_starts : length starts ≡ sheets

@@ -5,19 +5,12 @@ ghost use Rattle.std.specs.Prelude.{◌≡◌, cond, ◌&&◌, ◌+◌, ◌*◌,
 ghost use Rattle.model.specs.Limits.{sheets, rows_most, messages_most};
 ghost use Rattle.model.specs.Place.{message_fits, order_fits};
 ghost use Rattle.place.specs.Letters.{row_from};
-ghost use Rattle.place.specs.Stand.{may_open, stand_of, placed_for, OtherThanS, BlockAs, PlaceAs};
+ghost use Rattle.place.specs.Stand.{may_open, stand_of, OtherThanS, BlockAs, PlaceAs};
 
 use model::{EVENTS_MOST, MESSAGES_MOST, SHEETS};
 
 // Boards are 0 to 15, in the type of a field.
 const BOARDS: u16 = model::BOARDS as u16;
-
-// The messages of the open block behind the row; nothing where a rule is broken.
-#[derive(Clone, Copy)]
-pub enum Placed {
-    Messages(usize),
-    Nowhere,
-}
 
 // `S n`, as row `row`: sheets 0 to 31, each at most once.
 fn open_sheet(row: usize, n: u16, start: &mut [u16; SHEETS]) -> bool
@@ -26,10 +19,7 @@ fn open_sheet(row: usize, n: u16, start: &mut [u16; SHEETS]) -> bool
     ensures start_after { start.new ≡ cond result (set start.old n (row + 1)) start.old }
 {
     let k = n as usize;
-    if SHEETS <= k {
-        return false;
-    }
-    if start[k] != 0 {
+    if SHEETS <= k || start[k] != 0 {
         return false;
     }
     start[k] = (row + 1) as u16;
@@ -42,13 +32,7 @@ fn add_message(messages: usize, boards: &mut [u8; EVENTS_MOST], a: u16, b: u16) 
     ensures value { result ≡ message_fits (take (2 * messages) boards.old) a b }
     ensures boards_after { boards.new ≡ cond result (set (set boards.old (2 * messages) a) (2 * messages + 1) b) boards.old }
 {
-    if BOARDS <= a {
-        return false;
-    }
-    if BOARDS <= b {
-        return false;
-    }
-    if MESSAGES_MOST <= messages {
+    if BOARDS <= a || BOARDS <= b || MESSAGES_MOST <= messages {
         return false;
     }
     let send = 2 * messages;
@@ -66,63 +50,42 @@ fn may_order(messages: usize, boards: &[u8; EVENTS_MOST], x: u16, y: u16) -> boo
     let i = x as usize;
     let j = y as usize;
     let events = 2 * messages;
-    if events <= i {
-        return false;
-    }
-    if events <= j {
-        return false;
-    }
-    if i == j {
+    if events <= i || events <= j || i == j {
         return false;
     }
     boards[i] == boards[j]
-}
-
-// So many messages, if the row fits.
-fn placed_if(fits: bool, messages: usize) -> Placed
-    ensures { result ≡ placed_for fits messages }
-{
-    if fits {
-        Placed::Messages(messages)
-    } else {
-        Placed::Nowhere
-    }
 }
 
 // The two sheets of an A row: 0 to 31, as a call's.
 fn are_sheets(m: u16, n: u16) -> bool
     ensures { result ≡ (ltb m sheets && ltb n sheets) }
 {
-    let first = m as usize;
-    let second = n as usize;
-    if SHEETS <= first {
-        return false;
-    }
-    second < SHEETS
+    (m as usize) < SHEETS && (n as usize) < SHEETS
 }
 
 // A row that is no S row, in a block of so many messages: a message joins the block, an order is within it, any other opens the next.
-fn in_block(kind: u8, one: u16, two: u16, messages: usize, boards: &mut [u8; EVENTS_MOST]) -> Placed
+// The messages of the open block behind the row; nothing where a rule is broken.
+fn in_block(
+    kind: u8,
+    one: u16,
+    two: u16,
+    messages: usize,
+    boards: &mut [u8; EVENTS_MOST],
+) -> Option<usize>
     requires { OtherThanS kind × (messages ≤ messages_most) × (length boards.old ≡ 2 * messages_most) }
     ensures { BlockAs messages (row_from kind one two) boards.old boards.new result }
 {
-    if kind == b'M' {
-        return placed_if(add_message(messages, boards, one, two), messages + 1);
+    match kind {
+        b'M' => add_message(messages, boards, one, two).then_some(messages + 1),
+        b'P' => may_order(messages, boards, one, two).then_some(messages),
+        b'C' => ((one as usize) < SHEETS).then_some(0),
+        b'A' => are_sheets(one, two).then_some(0),
+        _ => Some(0),
     }
-    if kind == b'P' {
-        return placed_if(may_order(messages, boards, one, two), messages);
-    }
-    if kind == b'C' {
-        let n = one as usize;
-        return placed_if(n < SHEETS, 0);
-    }
-    if kind == b'A' {
-        return placed_if(are_sheets(one, two), 0);
-    }
-    Placed::Messages(0)
 }
 
-// A row of the given kind and numbers, as row `row`: every row but an S row stands behind one.
+// A row of the given kind and numbers, as row `row`: every row but an S row stands behind one. The messages of the open block behind it;
+// nothing where a rule is broken.
 pub fn place(
     row: usize,
     kind: u8,
@@ -131,15 +94,15 @@ pub fn place(
     messages: usize,
     start: &mut [u16; SHEETS],
     boards: &mut [u8; EVENTS_MOST],
-) -> Placed
+) -> Option<usize>
     requires { (row < rows_most) × (messages ≤ messages_most) × (length start.old ≡ sheets) × (length boards.old ≡ 2 * messages_most) }
     ensures { PlaceAs row (stand_of start.old boards.old messages) (row_from kind one two) start.new boards.new result }
 {
     if kind == b'S' {
-        return placed_if(open_sheet(row, one, start), 0);
+        return open_sheet(row, one, start).then_some(0);
     }
     if row == 0 {
-        return Placed::Nowhere;
+        return None;
     }
     in_block(kind, one, two, messages, boards)
 }

@@ -1,11 +1,11 @@
 -- Calls of sheets that have no start in the table, by the columns. Assumes nothing.
-use Rattle.std.specs.Prelude.{ℕ, zero, suc, Bool, not, cond, ◌&&◌, ◌||◌, List, eqb, get_or}
+use Rattle.std.specs.Prelude.{ℕ, zero, suc, Bool, not, cond, ◌&&◌, ◌||◌, List, eqb, get_or, Result, Ok, Err}
 use Prim.Native.Char.{code}
 use Rattle.std.proofs.Math.Option.{Option, none, some}
 use Rattle.model.specs.Place.{line_of}
 use Rattle.place.specs.Stand.{is_open}
-use Rattle.presence.specs.declared.Presence.{Presence}
-use Rattle.presence.specs.declared.Presence.TheVariants.{Complete, Absent}
+use Rattle.outcome.specs.declared.Reason.TheVariants.{Absent}
+use Rattle.outcome.specs.declared.Refusal.{Refusal}
 
 -- a row of the given kind and numbers calls a sheet that has no start; an A row names two calls
 unfoldable pub calls_absent : ℕ → ℕ → ℕ → List ℕ → Bool
@@ -18,10 +18,11 @@ absent_in kind one two starts i zero = none
 absent_in kind one two starts i (suc n) =
     cond (calls_absent (get_or kind i 0) (get_or one i 0) (get_or two i 0) starts) (some (line_of i)) (absent_in kind one two starts (suc i) n)
 
-unfoldable pub absent_at : Option ℕ → Presence
-absent_at none = Complete
-absent_at (some line) = Absent line
+unfoldable pub absent_at : Option ℕ → Result (Unit {0}) Refusal
+absent_at none = Ok tt
+absent_at (some line) = Err (record { reason = Absent; line = line })
 
 -- sheet 0 has a start, and so has every sheet that so many rows call
-unfoldable pub presence_in : List ℕ → List ℕ → List ℕ → List ℕ → ℕ → Presence
-presence_in kind one two starts count = cond (is_open starts 0) (absent_at (absent_in kind one two starts 0 count)) (Absent 0)
+unfoldable pub presence_in : List ℕ → List ℕ → List ℕ → List ℕ → ℕ → Result (Unit {0}) Refusal
+presence_in kind one two starts count =
+    cond (is_open starts 0) (absent_at (absent_in kind one two starts 0 count)) (Err (record { reason = Absent; line = 0 }))

@@ -7,13 +7,7 @@ ghost use Rattle.place.specs.Stand.{is_open};
 ghost use Rattle.presence.specs.AbsentCalls.{calls_absent, presence_in};
 
 use model::{ROWS_MOST, SHEETS};
-
-// Every sheet is there; or the line to report.
-#[derive(Clone, Copy)]
-pub enum Presence {
-    Complete,
-    Absent(usize),
-}
+use outcome::{Reason, Refusal};
 
 // Row i calls a sheet that is not there; an A row names two calls.
 fn calls_absent(
@@ -26,40 +20,33 @@ fn calls_absent(
     requires { (i < rows_most) × (length start.now ≡ sheets) }
     ensures { result ≡ calls_absent (get_or kind.now i 0) (get_or one.now i 0) (get_or two.now i 0) start.now }
 {
-    if kind[i] == b'C' {
-        return !is_open(start, one[i]);
+    match kind[i] {
+        b'C' => !is_open(start, one[i]),
+        b'A' => !is_open(start, one[i]) || !is_open(start, two[i]),
+        _ => false,
     }
-    if kind[i] == b'A' {
-        if !is_open(start, one[i]) {
-            return true;
-        }
-        return !is_open(start, two[i]);
-    }
-    false
 }
 
-// Sheet 0 is there, and so is every sheet that so many rows call.
+// Sheet 0 is there, and so is every sheet that so many rows call; or the refusal, with the line to report.
 pub fn complete(
     count: usize,
     kind: &[u8; ROWS_MOST],
     one: &[u16; ROWS_MOST],
     two: &[u16; ROWS_MOST],
     start: &[u16; SHEETS],
-) -> Presence
+) -> Result<(), Refusal>
     requires { (count ≤ rows_most) × (length start.now ≡ sheets) }
     ensures { result ≡ presence_in kind.now one.now two.now start.now count }
 {
     if !is_open(start, 0) {
-        return Presence::Absent(0);
+        return Err(Reason::Absent.at(0));
     }
-    let mut i = 0;
-    while i < count {
+    for i in 0..count {
         if calls_absent(kind, one, two, start, i) {
-            return Presence::Absent(i + model::FIRST_LINE);
+            return Err(Reason::Absent.at(i + model::FIRST_LINE));
         }
-        i += 1;
     }
-    Presence::Complete
+    Ok(())
 }
 
 // Sheet n is there.
@@ -68,5 +55,5 @@ fn is_open(start: &[u16; SHEETS], n: u16) -> bool
     ensures { result ≡ is_open start.now n }
 {
     let k = n as usize;
-    if k < SHEETS { start[k] != 0 } else { false }
+    k < SHEETS && start[k] != 0
 }

@@ -20,7 +20,7 @@ pub fn print<W: Write>(out: &mut W, text: &[u8]) -> io::Result<()>
 pub fn print_decimal<W: Write>(out: &mut W, number: u32) -> io::Result<()>
     ensures { OnOk result (Appends (W.contents out.old) (W.contents out.new) (decimal number)) }
 {
-    print_wide(out, number as u64)
+    print_wide(out, u64::from(number))
 }
 
 pub fn print_wide<W: Write>(out: &mut W, number: u64) -> io::Result<()>
@@ -32,10 +32,8 @@ pub fn print_wide<W: Write>(out: &mut W, number: u64) -> io::Result<()>
 // What an error prints, without the system's number for it, which `std` prints behind the system's reason.
 fn reason_in(printed: &[u8]) -> &str {
     let text = str::from_utf8(printed).unwrap_or("");
-    match text.split_once(" (os error ") {
-        Some((reason, _)) => reason,
-        None => text,
-    }
+    text.split_once(" (os error ")
+        .map_or(text, |(reason, _)| reason)
 }
 
 fn print_reason<E: Write>(errors: &mut E, error: Error) -> io::Result<()> {

@@ -8,8 +8,8 @@ use Rattle.model.specs.Dispatcher.{places_of}
 use Rattle.relation.specs.Rows.{has}
 use Rattle.queue.specs.declared.Job.{Job}
 use Rattle.queue.specs.declared.Queue.{Queue}
-use Rattle.queue.specs.declared.Head.{Head}
-use Rattle.queue.specs.declared.Head.TheVariants as head
+use Rattle.std.specs.Prelude as code
+use Rattle.std.specs.Prelude.{Some, None}
 
 abbrev pub job_in : Job → model.Job
 job_in j = record { number = j.number; place = j.place; code = j.code; count = j.count; turns = j.turns }
@@ -54,9 +54,9 @@ abbrev pub head_of : List model.Job → Option model.Job
 head_of [] = none
 head_of (j ∷ js) = some j
 
-abbrev pub head_in : Head → Option model.Job
-head_in (head.Job j) = some (job_in j)
-head_in head.Nothing = none
+abbrev pub head_in : code.Option Job → Option model.Job
+head_in (Some j) = some (job_in j)
+head_in None = none
 
 -- the place of the head, where there is one; one of the eight in any case
 pub record FirstPlace (js : List model.Job) (p : ℕ) : Type 0 where

@@ -34,13 +34,6 @@ pub struct Taken {
     pub places: u64,
 }
 
-// The job that a turn takes, if one is held.
-#[derive(Clone, Copy)]
-pub enum Head {
-    Job(Job),
-    Nothing,
-}
-
 impl Job {
     // A job of n messages is answered on its own turn number 2n + 1.
     pub fn is_last(self) -> bool
@@ -68,16 +61,15 @@ impl Queue {
         }
     }
 
-    // The head of the queue.
-    pub fn head(self, count: usize) -> Head
+    // The job that a turn takes, if one is held: the head of the queue.
+    pub fn head(self, count: usize) -> Option<Job>
         requires { Counted self count }
         ensures { head_in result ≡ head_of (queue_in self) }
     {
         if count == 0 {
-            return Head::Nothing;
+            return None;
         }
-        let job = self.jobs[0];
-        Head::Job(job)
+        Some(self.jobs[0])
     }
 
     // The place of the head, where a job is held: one of the eight in any case.

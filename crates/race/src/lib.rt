@@ -5,11 +5,11 @@ ghost use Rattle.std.specs.Prelude.{◌≡◌, cond, ◌+◌, ◌*◌, ◌<◌, 
 ghost use Rattle.model.specs.Limits.{channels, messages_most};
 ghost use Rattle.model.specs.Race.{race_rule_of};
 ghost use Rattle.relation.specs.Width.{width, word_bits};
-ghost use Rattle.board.specs.Masks.{Standing};
 ghost use Rattle.race.specs.Bridge.{rule_in};
 ghost use Rattle.race.specs.Word.{OutsideWord, OnBoard, Within, BitsOn, RaceWord};
 
 use at_or_before::reached_word;
+use board::Scenario;
 use relation::{SENDS, WIDTH, WORD_BITS};
 
 // What must not be at or before e's send: the event itself, or its origin; on the lazy channels there are no races.
@@ -29,12 +29,6 @@ const TABLE: [Rule; model::CHANNELS] = [
     Rule::ByOrigin, // code 4, synchronous, eager
     Rule::ByOrigin, // code 5, token ring, eager
 ];
-
-fn wide(bits: u32) -> usize
-    ensures { result ≡ bits }
-{
-    bits as usize
-}
 
 pub fn rule_of(code: usize) -> Rule
     requires { code < channels }
@@ -72,9 +66,7 @@ fn on_board(boards: &[u8], board: usize, from: usize, to: usize) -> u64
     ensures { OnBoard boards.now board from to result }
 {
     let mut on: u64 = 0;
-    let mut x = to;
-    while from < x {
-        x -= 1;
+    for x in (from..to).rev() {
         let one = same(board::board_of(boards, x), board);
         on = (on << 1) | one;
     }
@@ -107,8 +99,8 @@ fn bits_on(word: u64, w: usize, boards: &[u8], events: usize, board: usize) -> u
     if left == 0 {
         return 0;
     }
-    let lowest = wide(u64::trailing_zeros(left));
-    let above = wide(u64::leading_zeros(left));
+    let lowest = left.trailing_zeros() as usize;
+    let above = left.leading_zeros() as usize;
     let from = WORD_BITS * w + lowest;
     let to = WORD_BITS * w + WORD_BITS - above;
     let on = on_board(boards, board, from, to);
@@ -141,24 +133,15 @@ pub fn race_word_unmasked(
 }
 
 // The races of message e in word w: a bit is set exactly for each event there that races with e.
-pub fn race_word(
-    words: &[u64],
-    masks: &[u64],
-    boards: &[u8],
-    count: usize,
-    rule: Rule,
-    e: usize,
-    w: usize,
-) -> u64
-    requires standing { Standing count boards.now words.now masks.now }
-    requires e_lt_count { (e < count) × (w < width) }
-    ensures { RaceWord count boards.now words.now (rule_in rule) e w result }
+pub fn race_word(scenario: &Scenario, rule: Rule, e: usize, w: usize) -> u64
+    requires { (e < scenario.now.count) × (w < width) }
+    ensures { RaceWord scenario.now.count scenario.now.boards.now scenario.now.words.now (rule_in rule) e w result }
 {
     let send = 2 * e;
     let receive = send + 1;
-    let board = board::board_of(boards, receive);
+    let board = board::board_of(scenario.boards, receive);
     let before = receive * WIDTH + w;
     let on = board * WIDTH + w;
-    let outside = outside_word(words, rule, e, w);
-    words[before] & masks[on] & outside
+    let outside = outside_word(scenario.words, rule, e, w);
+    scenario.words[before] & scenario.masks[on] & outside
 }

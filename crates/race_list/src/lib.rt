@@ -1,16 +1,17 @@
 // All races of a scenario, by e and then x: counted, and as many of them as an output holds written there, two numbers each.
 #![tactic(auto)]
 
-ghost use Rattle.std.specs.Prelude.{◌≡◌, ◌+◌, ◌*◌, ◌<◌, ◌≤◌, min, length, set};
+ghost use Rattle.std.specs.Prelude.{◌≡◌, ◌+◌, ◌*◌, ◌<◌, ◌≤◌, length, set};
 ghost use Rattle.std.specs.Int.Count.{ones, count_trailing_zeros};
 ghost use Rattle.model.specs.Holdings.{races_of, races_below};
 ghost use Rattle.relation.specs.Width.{word_bits};
 ghost use Rattle.relation.specs.Scenario.{scenario_in};
-ghost use Rattle.board.specs.Masks.{Standing};
+ghost use Rattle.board.specs.Scenarios.{scenario_of};
 ghost use Rattle.at_or_before.specs.Lent.{Lent};
 ghost use Rattle.race.specs.Bridge.{rule_in};
 ghost use Rattle.race_list.specs.Listing.{row_bits, races_most, bits_listed, Adds, Tells};
 
+use board::Scenario;
 use race::{Rule, race_word};
 use relation::WORD_BITS;
 
@@ -24,17 +25,11 @@ pub struct Told {
     pub listed: usize,
 }
 
-fn wide(bits: u32) -> usize
-    ensures { result ≡ bits }
-{
-    bits as usize
-}
-
 fn count_bits(word: u64) -> usize
     ensures value { result ≡ ones word }
     ensures upper_bound { result ≤ word_bits }
 {
-    wide(u64::count_ones(word))
+    word.count_ones() as usize
 }
 
 // The event of a word's lowest bit.
@@ -42,7 +37,7 @@ fn lowest_event(word: u64, first: usize) -> u16
     requires { first ≤ row_bits }
     ensures { result ≡ first + count_trailing_zeros word_bits word }
 {
-    let bit = wide(u64::trailing_zeros(word));
+    let bit = word.trailing_zeros() as usize;
     (first + bit) as u16
 }
 
@@ -65,6 +60,7 @@ fn list_word(word: u64, e: u16, first: usize, output: &mut [u16], found: usize) 
     let room = output.len() / NUMBERS;
     let mut rest = word;
     let mut at = found;
+    // Not a `for`: where the bits end first, the place behind the last race is handed on.
     while at < room {
         if rest == 0 {
             return at;
@@ -79,52 +75,34 @@ fn list_word(word: u64, e: u16, first: usize, output: &mut [u16], found: usize) 
 
 // The races of one message, in the words that the events reach.
 fn list_message(
-    words: &[u64],
-    masks: &[u64],
-    boards: &[u8],
-    count: usize,
+    scenario: &Scenario,
     rule: Rule,
     e: usize,
     output: &mut [u16],
     found: usize,
 ) -> usize
-    requires standing { Standing count boards.now words.now masks.now }
-    requires e_lt_count { (e < count) × (found ≤ row_bits * e) }
-    ensures { Adds (races_of (scenario_in count boards.now words.now) (rule_in rule) e (2 * count)) output.old found output.new result }
+    requires { (e < scenario.now.count) × (found ≤ row_bits * e) }
+    ensures { Adds (races_of (scenario_of scenario.now) (rule_in rule) e (2 * scenario.now.count)) output.old found output.new result }
 {
     let number = e as u16;
-    let used = (2 * count + WORD_BITS - 1) / WORD_BITS;
+    let used = (2 * scenario.count + WORD_BITS - 1) / WORD_BITS;
     let mut at = found;
     for w in 0..used {
-        let word = race_word(words, masks, boards, count, rule, e, w);
+        let word = race_word(scenario, rule, e, w);
         at = list_word(word, number, WORD_BITS * w, output, at);
     }
     at
 }
 
 // The races of all messages; how many they are.
-fn list_messages(
-    words: &[u64],
-    masks: &[u64],
-    boards: &[u8],
-    count: usize,
-    rule: Rule,
-    output: &mut [u16],
-) -> usize
-    requires { Standing count boards.now words.now masks.now }
-    ensures { Adds (races_below (scenario_in count boards.now words.now) (rule_in rule) count) output.old 0 output.new result }
+fn list_messages(scenario: &Scenario, rule: Rule, output: &mut [u16]) -> usize
+    ensures { Adds (races_below (scenario_of scenario.now) (rule_in rule) scenario.now.count) output.old 0 output.new result }
 {
     let mut found = 0;
-    for e in 0..count {
-        found = list_message(words, masks, boards, count, rule, e, output, found);
+    for e in 0..scenario.count {
+        found = list_message(scenario, rule, e, output, found);
     }
     found
-}
-
-fn smaller(a: usize, b: usize) -> usize
-    ensures { result ≡ min a b }
-{
-    if a < b { a } else { b }
 }
 
 // All races of the rule. On a channel without races no masks are made.
@@ -143,7 +121,13 @@ pub fn list_races(
     }
     let mut masks = [0u64; board::MASK_WORDS];
     board::board_masks(boards, count, &mut masks);
-    let all = list_messages(words, &masks, boards, count, rule, output);
-    let listed = smaller(output.len() / NUMBERS, all);
+    let scenario = Scenario {
+        words,
+        masks: &masks,
+        boards,
+        count,
+    };
+    let all = list_messages(&scenario, rule, output);
+    let listed = (output.len() / NUMBERS).min(all);
     Told { all, listed }
 }

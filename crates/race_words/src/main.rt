@@ -4,11 +4,9 @@
 
 ghost use Rattle.std.specs.Prelude.{◌<◌};
 ghost use Rattle.model.specs.Limits.{channels};
-ghost use Rattle.board.specs.Masks.{Standing};
 ghost use Rattle.scenario.specs.Contract.{Fit};
 
-use expansion::Expanded;
-use input::Input;
+use board::Scenario;
 use std::io;
 use std::io::Write;
 
@@ -27,43 +25,23 @@ fn print_word<W: Write>(out: &mut W, word: u64) -> io::Result<()> {
 }
 
 // A line: the code, the message, and its words; whether the system took it.
-fn print_line<W: Write>(
-    out: &mut W,
-    words: &[u64],
-    masks: &[u64],
-    boards: &[u8],
-    count: usize,
-    code: usize,
-    e: usize,
-) -> io::Result<()>
-    requires standing { Standing count boards.now words.now masks.now }
-    requires code_lt_channels { (code < channels) × (e < count) }
+fn print_line<W: Write>(out: &mut W, scenario: &Scenario, code: usize, e: usize) -> io::Result<()>
+    requires { (code < channels) × (e < scenario.now.count) }
 {
     let rule = race::rule_of(code);
     print_names(out, code, e)?;
     for w in 0..relation::WIDTH {
-        print_word(
-            out,
-            race::race_word(words, masks, boards, count, rule, e, w),
-        )?;
+        print_word(out, race::race_word(scenario, rule, e, w))?;
     }
     printing::print(out, b"\n")
 }
 
 // The lines of a code.
-fn print_code<W: Write>(
-    out: &mut W,
-    words: &[u64],
-    masks: &[u64],
-    boards: &[u8],
-    count: usize,
-    code: usize,
-) -> io::Result<()>
-    requires standing { Standing count boards.now words.now masks.now }
-    requires code_lt_channels { code < channels }
+fn print_code<W: Write>(out: &mut W, scenario: &Scenario, code: usize) -> io::Result<()>
+    requires { code < channels }
 {
-    for e in 0..count {
-        print_line(out, words, masks, boards, count, code, e)?;
+    for e in 0..scenario.count {
+        print_line(out, scenario, code, e)?;
     }
     Ok(())
 }
@@ -73,8 +51,14 @@ fn print_all<W: Write>(out: &mut W, words: &[u64], boards: &[u8], count: usize) 
 {
     let mut masks = [0u64; board::MASK_WORDS];
     board::board_masks(boards, count, &mut masks);
+    let scenario = Scenario {
+        words,
+        masks: &masks,
+        boards,
+        count,
+    };
     for code in 0..model::CHANNELS {
-        print_code(out, words, &masks, boards, count, code)?;
+        print_code(out, &scenario, code)?;
     }
     Ok(())
 }
@@ -83,16 +67,15 @@ fn print_all<W: Write>(out: &mut W, words: &[u64], boards: &[u8], count: usize) 
 fn print_words<W: Write>(out: &mut W, text: &[u8]) -> io::Result<()> {
     let mut boards = [0u8; model::EVENTS_MOST];
     let mut words = [0u64; model::SCRATCH_LEAST];
-    let outcome = scenario::scenario_of(text, &mut boards, &mut words);
-    match outcome {
-        Expanded::Refused(_, _) => printing::print(out, b"refused\n"),
-        Expanded::Messages(count) => print_all(out, &words, &boards, count),
+    match scenario::scenario_of(text, &mut boards, &mut words) {
+        Ok(count) => print_all(out, &words, &boards, count),
+        Err(_) => printing::print(out, b"refused\n"),
     }
 }
 
 fn main(rt: HostRuntime) {
     let mut text = [0u8; MOST];
-    if let Input::Read(n) = input::read_standard(&rt, &mut rt.stderr(), &mut text) {
+    if let Some(n) = input::read_standard(&rt, &mut rt.stderr(), &mut text) {
         let printed = print_words(&mut rt.stdout(), &text[..n]);
         printing::conclude(&mut rt.stderr(), printed);
     }

@@ -8,6 +8,8 @@ use native.Mathlib.Omega.{arith}
 use lib.Dec.{eqb}
 use lib.ListN.{get_or}
 use borrow.Author.Tests.{lt-ltb, le-ltb}
+use Rattle.std.specs.Prelude as code
+use Rattle.outcome.specs.Options.{found_in}
 use Rattle.model.specs.Bounded.{lowest}
 use Rattle.model.specs.Order.{Event, send_of, receive_of, number, event, message_of, board_of, board, Scenario}
 use Rattle.model.specs.Run.{is_ahead}
@@ -17,9 +19,6 @@ use Rattle.model.proofs.Events.{number_event, below_event}
 use Rattle.relation.specs.Width.{width, word_bits}
 use Rattle.relation.specs.Rows.{holds}
 use Rattle.relation.specs.Scenario.{scenario_in}
-use Rattle.relation.specs.declared.Found.{Found}
-use Rattle.relation.specs.declared.Found.TheVariants as found
-use Rattle.relation.specs.Own.{found_in}
 use Rattle.board.specs.Masks.{Standing}
 use Rattle.run.specs.declared.Run.{Run}
 use Rattle.run.specs.State.{in_row, state_of}
@@ -79,7 +78,7 @@ module _ (count : ℕ) (on words masks : List ℕ) (standing : Standing count on
   unfolding readiness
   says_done done x t e h run d = rw (d, number_event x, ← e, h)
 
-  module _ (done : List ℕ) (x b : ℕ) (t : Bool) (r : Found) (s : found_in r ≡ lowest (word_bits * width) (left_of width words x masks b done)) (e : t ≡ holds width done 0 x)
+  module _ (done : List ℕ) (x b : ℕ) (t : Bool) (r : code.Option ℕ) (s : found_in r ≡ lowest (word_bits * width) (left_of width words x masks b done)) (e : t ≡ holds width done 0 x)
       (f : t ≡ false) (i : b ≡ get_or on x 0) (hx : x < 2 * count) where
     left_is : (run : Run) → run.done ≡ done → lowest (2 * count) (holds_up S (state_of run) (event x)) ≡ found_in r
     left_is run d = sym (s ∙ rw i (left_says done x hx run d))
@@ -87,10 +86,10 @@ module _ (count : ℕ) (on words masks : List ℕ) (standing : Standing count on
     undone_is : (run : Run) → run.done ≡ done → in_row run.done (number (event x)) ≡ false
     undone_is run d = rw (d, number_event x, ← e) f
 
-    pub says_waits : (k : ℕ) → r ≡ found.Event k → SaysReadiness count on words done x (Waits k)
+    pub says_waits : (k : ℕ) → r ≡ code.Some k → SaysReadiness count on words done x (Waits k)
     unfolding readiness
     says_waits k j run d = rw (undone_is run d, left_is run d ∙ ap found_in j)
 
-    pub says_ready : r ≡ found.Nothing → SaysReadiness count on words done x Ready
+    pub says_ready : r ≡ code.None → SaysReadiness count on words done x Ready
     unfolding readiness
     says_ready j run d = rw (undone_is run d, left_is run d ∙ ap found_in j)

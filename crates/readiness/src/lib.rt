@@ -2,12 +2,11 @@
 #![tactic(auto)]
 
 ghost use Rattle.std.specs.Prelude.{◌*◌, ◌<◌};
-ghost use Rattle.board.specs.Masks.{Standing};
 ghost use Rattle.readiness.specs.Says.{SaysReadiness};
 
-use board::board_of;
+use board::{Scenario, board_of};
 use first_left::first_left;
-use relation::{Found, WIDTH};
+use relation::WIDTH;
 
 // An event is ready; or done already; or it waits for the lowest event before it on its board that is not yet done.
 #[derive(Clone, Copy)]
@@ -18,25 +17,16 @@ pub enum Readiness {
 }
 
 // The readiness of event x. Done comes first.
-pub fn readiness_of(
-    words: &[u64],
-    masks: &[u64],
-    boards: &[u8],
-    count: usize,
-    done: &[u64; WIDTH],
-    x: usize,
-) -> Readiness
-    requires standing { Standing count boards.now words.now masks.now }
-    requires x_bound { x < 2 * count }
-    ensures { SaysReadiness count boards.now words.now done.now x result }
+pub fn readiness_of(scenario: &Scenario, done: &[u64; WIDTH], x: usize) -> Readiness
+    requires x_bound { x < 2 * scenario.now.count }
+    ensures { SaysReadiness scenario.now.count scenario.now.boards.now scenario.now.words.now done.now x result }
 {
     if relation::test(done, 0, x) {
         return Readiness::Done;
     }
-    let board = board_of(boards, x);
-    let found = first_left(words, x, masks, board, done);
-    match found {
-        Found::Event(k) => Readiness::Waits(k),
-        Found::Nothing => Readiness::Ready,
+    let board = board_of(scenario.boards, x);
+    match first_left(scenario.words, x, scenario.masks, board, done) {
+        Some(k) => Readiness::Waits(k),
+        None => Readiness::Ready,
     }
 }

@@ -1,10 +1,7 @@
 -- The receivers permitted to a sender, as a set: bit b is board b. Assumes nothing.
 use Rattle.std.specs.Prelude.{ℕ, ◌+◌, ◌*◌, ◌<◌, ◌≡◌, Bool, not, cond, ◌&&◌, List, eqb, get_or}
-use Rattle.std.proofs.Math.Option.{Option, none, some}
 use Rattle.model.specs.Limits.{boards}
 use Rattle.model.specs.Senders.{Rule, pair_of, in_set, permits}
-use Rattle.receivers.specs.declared.Forbidden.{Forbidden}
-use Rattle.receivers.specs.declared.Forbidden.TheVariants.{Message, Nothing}
 
 -- one rule more: of a pair that it has its verdict decides, and any other stays as it was
 pub record Decided (receivers from to verdict sender r : ℕ) : Type 0 where
@@ -17,10 +14,6 @@ pub record PermittedTo (rules : List Rule) (sender set : ℕ) : Type 0 where
 -- and so for each sender
 pub record PermittedBy (rules : List Rule) (sets : List ℕ) : Type 0 where
   pub each : (a : ℕ) → a < boards → PermittedTo rules a (get_or sets a 0)
-
-abbrev pub forbidden_in : Forbidden → Option ℕ
-forbidden_in (Message m) = some m
-forbidden_in Nothing = none
 
 -- message m goes to a receiver that its sender is not permitted
 unfoldable pub is_forbidden_in : List ℕ → List ℕ → ℕ → Bool

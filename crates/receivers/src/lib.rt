@@ -4,19 +4,13 @@
 ghost use Rattle.std.specs.Prelude.{◌≡◌, ◌*◌, ◌≤◌, length, take};
 ghost use Rattle.model.specs.Limits.{rules_most, messages_most};
 ghost use Rattle.model.specs.Bounded.{lowest};
+ghost use Rattle.outcome.specs.Options.{found_in};
 ghost use Rattle.board.specs.Boards.{BoardsBelow};
 ghost use Rattle.coverage.specs.Rules.{rules_as};
-ghost use Rattle.receivers.specs.Permitted.{Decided, PermittedTo, PermittedBy, forbidden_in, is_forbidden_in};
+ghost use Rattle.receivers.specs.Permitted.{Decided, PermittedTo, PermittedBy, is_forbidden_in};
 
 use coverage::Rule;
 use model::{BOARDS, RULES_MOST};
-
-// The first message that is forbidden, if there is one.
-#[derive(Clone, Copy)]
-pub enum Forbidden {
-    Message(usize),
-    Nothing,
-}
 
 // A sender's permitted receivers with one rule more, ahead of those that gave them: of its own pairs the rule decides.
 fn decided(receivers: u16, from: u16, to: u16, verdict: u8, sender: usize) -> u16
@@ -38,9 +32,7 @@ fn receivers_of(rules: [Rule; RULES_MOST], count: usize, sender: usize) -> u16
     ensures { PermittedTo (rules_as (take count rules)) sender result }
 {
     let mut receivers = 0u16;
-    let mut i = count;
-    while 0 < i {
-        i -= 1;
+    for i in (0..count).rev() {
         let rule = rules[i];
         receivers = decided(receivers, rule.from, rule.to, rule.verdict, sender);
     }
@@ -59,19 +51,19 @@ pub fn permitted_by(rules: [Rule; RULES_MOST], count: usize) -> [u16; BOARDS]
     permitted
 }
 
-// The first of so many messages, in walk order, whose receiver is not permitted to its sender.
-pub fn first_forbidden(permitted: [u16; BOARDS], boards: &[u8], count: usize) -> Forbidden
+// The first of so many messages, in walk order, whose receiver is not permitted to its sender, if there is one.
+pub fn first_forbidden(permitted: [u16; BOARDS], boards: &[u8], count: usize) -> Option<usize>
     requires count_le_messages_most { (count ≤ messages_most) × (2 * count ≤ length boards.now) }
     requires boards_below { BoardsBelow count boards.now }
-    ensures { forbidden_in result ≡ lowest count (is_forbidden_in permitted boards.now) }
+    ensures { found_in result ≡ lowest count (is_forbidden_in permitted boards.now) }
 {
     for m in 0..count {
         let send = 2 * m;
         let sender = board::board_of(boards, send);
         let receiver = board::board_of(boards, send + 1);
         if !board_set::in_set(permitted[sender], receiver) {
-            return Forbidden::Message(m);
+            return Some(m);
         }
     }
-    Forbidden::Nothing
+    None
 }

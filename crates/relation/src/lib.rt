@@ -53,10 +53,3 @@ pub fn clear(words: &mut [u64], count: usize)
         words[i] = 0;
     }
 }
-
-// What a search for an event found: the lowest one, if there is one.
-#[derive(Clone, Copy)]
-pub enum Found {
-    Event(usize),
-    Nothing,
-}

@@ -1,4 +1,3 @@
 mod Reading
-mod ByAnswer
 mod Whole
 mod Bounds

@@ -11,25 +11,23 @@ use Rattle.model.specs.Answer.{trace_after}
 use Rattle.model.specs.Rounds.{rounds_answer}
 use Rattle.model.proofs.WithoutChoices.{read_plain}
 use Rattle.sheet.specs.Bridge.{rows_of, ReadAs}
-use Rattle.sheet.specs.declared.Verdict.{Verdict}
-use Rattle.sheet.specs.declared.Verdict.TheVariants as verdict
+use Rattle.std.specs.Prelude.{Result, Ok, Err}
+use Rattle.outcome.specs.declared.Refusal.{Refusal}
 use Rattle.sheet.proofs.Bridge.{refused_is, rows_are, starts_are, count_most, kind_long_holds, one_long_holds, two_long_holds}
 use Rattle.expansion.specs.Lent.{RowsRead}
 use Rattle.second_walk.specs.declared.Rounds.{Rounds}
-use Rattle.second_walk.specs.declared.Rounds.TheVariants.{Refused}
 use Rattle.second_walk.specs.Walks.{rows_repeatable}
 use Rattle.second_walk.specs.Judged.{Judges}
 use Rattle.rounds.specs.Numbers.{text_repeatable}
 
-module _ (text kind one two start : List ℕ) (v : Verdict) (p : ReadAs false text kind one two start v) where
-  pub text_refused : (code number line : ℕ) (trace : List ℕ) → v ≡ verdict.Refused number line
-      → Judges (rounds_answer (text_repeatable text) code) trace trace (Refused number line)
+module _ (text kind one two start : List ℕ) (v : Result ℕ Refusal) (p : ReadAs false text kind one two start v) where
+  pub text_refused : (code : ℕ) (e : Refusal) (trace : List ℕ) → v ≡ Err e → Judges (rounds_answer (text_repeatable text) code) trace trace (Err e)
   unfolding text_repeatable and_then rounds_answer trace_after
-  text_refused code number line trace i =
-      subst⁻¹ (λ (o : Out (List Row)). Judges (rounds_answer (and_then o rows_repeatable) code) trace trace (Refused number line))
-      (refused_is false text kind one two start v p number line i) (record { answer = refl; how_often = refl; trace_left = refl })
+  text_refused code e trace i =
+      subst⁻¹ (λ (o : Out (List Row)). Judges (rounds_answer (and_then o rows_repeatable) code) trace trace (Err e))
+      (refused_is false text kind one two start v p e i) (record { answer = refl; how_often = refl; trace_left = refl })
 
-  module _ (count : ℕ) (i : v ≡ verdict.Rows count) where
+  module _ (count : ℕ) (i : v ≡ Ok count) where
     pub text_rows : RowsRead kind one two count start
     text_rows =
         let few = count_most false text kind one two start v p count i in
@@ -44,7 +42,7 @@ module _ (text kind one two start : List ℕ) (v : Verdict) (p : ReadAs false te
     pub text_plain : Plain (rows_of kind one two count)
     text_plain = read_plain text (rows_of kind one two count) (rows_are false text kind one two start v p count i)
 
-    pub text_judged : (code : ℕ) (trace trace_exit : List ℕ) (r : Rounds) → Judges (rounds_answer (rows_repeatable (rows_of kind one two count)) code) trace trace_exit r
+    pub text_judged : (code : ℕ) (trace trace_exit : List ℕ) (r : Result Rounds Refusal) → Judges (rounds_answer (rows_repeatable (rows_of kind one two count)) code) trace trace_exit r
         → Judges (rounds_answer (text_repeatable text) code) trace trace_exit r
     unfolding text_repeatable and_then
     text_judged code trace trace_exit r j =

@@ -1,10 +1,11 @@
 -- The numbers that C gets of a repeated sheet. Assumes nothing.
-use Rattle.std.specs.Prelude.{ℕ, ◌^◌, ◌<◌, ◌≡◌, List}
+use Rattle.std.specs.Prelude.{ℕ, ◌^◌, ◌<◌, ◌≡◌, List, Result}
 use Rattle.model.specs.Refusal.{Out, and_then}
 use Rattle.model.specs.Place.{read_of}
 use Rattle.model.specs.Order.{Exchange}
 use Rattle.model.specs.Answer.{Numbers}
 use Rattle.second_walk.specs.declared.Rounds.{Rounds}
+use Rattle.outcome.specs.declared.Refusal.{Refusal}
 use Rattle.second_walk.specs.Walks.{rows_repeatable}
 use Rattle.second_walk.specs.Judged.{numbers_for, rounds_for}
 use Rattle.rounds.specs.declared.RoundsCheckAnswer.{RoundsCheckAnswer}
@@ -25,6 +26,6 @@ pub record Small (r : Numbers) (number : ℕ) : Type 0 where
   pub rounds : number < 2 ^ 32
 
 -- the numbers told are those of an answer
-pub record Told (answer : Rounds) (r : RoundsCheckAnswer) : Type 0 where
+pub record Told (answer : Result Rounds Refusal) (r : RoundsCheckAnswer) : Type 0 where
   pub numbers : numbers_in r ≡ numbers_for answer
   pub rounds : r.rounds ≡ rounds_for answer

@@ -1,6 +1,8 @@
 -- The model's judgement of a row as the code makes it, and what the code hands back of it. Assumes nothing.
-use Rattle.std.specs.Prelude.{ℕ, ◌*◌, ◌/◌, ◌≤◌, ◌<◌, ◌≡◌, Bool, cond, List, ltb, length, drop}
+use Rattle.std.specs.Prelude.{ℕ, ◌*◌, ◌/◌, ◌≤◌, ◌<◌, ◌≡◌, Bool, cond, List, ltb, length, drop, Result, Ok, Err}
 use Rattle.std.proofs.Math.Option.{none, some}
+use Rattle.outcome.specs.declared.Reason.{Reason}
+use Rattle.outcome.specs.Refusals.{number_in}
 use Rattle.model.specs.Limits.{sheets, rows_most, messages_most}
 use Rattle.model.specs.Refusal.{Out, ok, refusal, row_refusal, place_refusal, circle_refusal}
 use Rattle.model.specs.Text.{Line, Columns}
@@ -13,7 +15,6 @@ use Rattle.place.specs.Stand.{Stand, stood_at, stand_of}
 use Rattle.relation.specs.Width.{width}
 use Rattle.block_order.specs.Noted.{noted, circles}
 use Rattle.row.specs.declared.Step.{Step}
-use Rattle.row.specs.declared.Step.TheVariants as step
 
 -- What the reader holds: where it stands, and the words of the open block's order.
 pub record Reader : Type 0 where
@@ -39,9 +40,9 @@ judged_by choices c i s l =
     ]
 
 -- one row read, or refused
-abbrev pub step_as : Step → ℕ → List ℕ → List ℕ → List ℕ → Out (Row × Reader)
-step_as (step.Row kind one two next messages) row starts boards words = ok (row_from kind one two, reader_of starts boards messages words)
-step_as (step.Refused number) row starts boards words = refusal number (line_of row)
+abbrev pub step_as : Result Step Reason → ℕ → List ℕ → List ℕ → List ℕ → Out (Row × Reader)
+step_as (Ok s) row starts boards words = ok (row_from s.kind s.one s.two, reader_of starts boards s.messages words)
+step_as (Err reason) row starts boards words = refusal (number_in reason) (line_of row)
 
 -- where a row was read, the next one begins behind it, and the table, the boards and the words have kept their lengths
 pub record Stepped (text : List ℕ) (at row next messages : ℕ) (starts boards words : List ℕ) : Type 0 where
@@ -52,11 +53,11 @@ pub record Stepped (text : List ℕ) (at row next messages : ℕ) (starts boards
   pub all_boards : length boards ≡ 2 * messages_most
   pub all_words : length words ≡ 2 * messages_most * width
 
-abbrev pub StepOn : List ℕ → ℕ → ℕ → List ℕ → List ℕ → List ℕ → Step → Type 0
-StepOn text at row starts boards words (step.Row kind one two next messages) = Stepped text at row next messages starts boards words
-StepOn text at row starts boards words (step.Refused number) = Unit {0}
+abbrev pub StepOn : List ℕ → ℕ → ℕ → List ℕ → List ℕ → List ℕ → Result Step Reason → Type 0
+StepOn text at row starts boards words (Ok s) = Stepped text at row s.next s.messages starts boards words
+StepOn text at row starts boards words (Err reason) = Unit {0}
 
 -- the row with a number, at a position, judged from what the reader holds
-pub record StepAs (choices : Bool) (c : Columns) (text : List ℕ) (at row : ℕ) (s : Reader) (starts boards words : List ℕ) (r : Step) : Type 0 where
+pub record StepAs (choices : Bool) (c : Columns) (text : List ℕ) (at row : ℕ) (s : Reader) (starts boards words : List ℕ) (r : Result Step Reason) : Type 0 where
   pub step : step_as r row starts boards words ≡ judged_by choices c row s (first_line (drop at text))
   pub on : StepOn text at row starts boards words r

@@ -11,24 +11,27 @@ ghost use Rattle.place.specs.Letters.{row_from};
 ghost use Rattle.row.specs.Form.{RowAs};
 ghost use Rattle.row.specs.Judged.{reader_of, StepAs};
 
-use fields::Numeral;
 use heading::Columns;
-use line::Split;
 use model::{EVENTS_MOST, SHEETS};
-use place::Placed;
+use outcome::Reason;
 
 // A row's kind and numbers, and where the next one begins.
 #[derive(Clone, Copy)]
-enum Reading {
-    Row(u8, u16, u16, usize),
-    Malformed,
+struct Reading {
+    pub kind: u8,
+    pub one: u16,
+    pub two: u16,
+    pub next: usize,
 }
 
-// A row's kind and numbers, where the next one begins, and the messages of the open block behind it; or the refusal's number.
+// A row's kind and numbers, where the next one begins, and the messages of the open block behind it.
 #[derive(Clone, Copy)]
-pub enum Step {
-    Row(u8, u16, u16, usize, usize),
-    Refused(u8),
+pub struct Step {
+    pub kind: u8,
+    pub one: u16,
+    pub two: u16,
+    pub next: usize,
+    pub messages: usize,
 }
 
 // The row with the number `row`, from 0, which begins at `at`, in a block of so many messages, whose order the words hold. An A row is
@@ -43,70 +46,62 @@ pub fn take_row(
     start: &mut [u16; SHEETS],
     boards: &mut [u8; EVENTS_MOST],
     words: &mut [u64],
-) -> Step
+) -> Result<Step, Reason>
     requires { (at ≤ length text.now) × Below columns × (messages ≤ messages_most) × (length start.old ≡ sheets) × (length boards.old ≡ 2 * messages_most) × (length words.old ≡ 2 * messages_most * width) }
     ensures { StepAs choices (columns_from columns) text.now at row (reader_of start.old boards.old messages words.old) start.new boards.new words.new result }
 {
     if model::ROWS_MOST <= row {
-        return Step::Refused(model::ROW);
+        return Err(Reason::Row);
     }
-    let Reading::Row(kind, one, two, next) = row_at(text, at, choices, columns) else {
-        return Step::Refused(model::ROW);
-    };
-    let Placed::Messages(after) = place::place(row, kind, one, two, messages, start, boards) else {
-        return Step::Refused(model::PLACE);
-    };
-    if block_order::note(kind, one, two, messages, words) {
-        return Step::Refused(model::CIRCLE);
+    let Reading {
+        kind,
+        one,
+        two,
+        next,
+    } = row_at(text, at, choices, columns).ok_or(Reason::Row)?;
+    let after = place::place(row, kind, one, two, messages, start, boards).ok_or(Reason::Place)?;
+    let circle = block_order::note(kind, one, two, messages, words);
+    if circle {
+        return Err(Reason::Circle);
     }
-    Step::Row(kind, one, two, next, after)
+    Ok(Step {
+        kind,
+        one,
+        two,
+        next,
+        messages: after,
+    })
 }
 
 // The row at `at`.
-fn row_at(text: &[u8], at: usize, choices: bool, columns: Columns) -> Reading
+fn row_at(text: &[u8], at: usize, choices: bool, columns: Columns) -> Option<Reading>
     requires { (at ≤ length text.now) × Below columns }
     ensures { RowAs choices (columns_from columns) text.now at result }
 {
-    let Split::Three(cuts) = line::cut(text, at) else {
-        return Reading::Malformed;
-    };
+    let cuts = line::cut(text, at)?;
     let kind = fields::letter_in(text, cuts, columns.kind);
-    let Numeral::Is(one) = fields::number_in(text, cuts, columns.one) else {
-        return Reading::Malformed;
-    };
-    let Numeral::Is(two) = fields::number_in(text, cuts, columns.two) else {
-        return Reading::Malformed;
-    };
+    let one = fields::number_in(text, cuts, columns.one)?;
+    let two = fields::number_in(text, cuts, columns.two)?;
     if !is_formed(choices, kind, one, two) {
-        return Reading::Malformed;
+        return None;
     }
-    Reading::Row(kind, one, two, cuts.end + 1)
+    Some(Reading {
+        kind,
+        one,
+        two,
+        next: cuts.end + 1,
+    })
 }
 
 // The letter is one of the five, or an A that is let through, and an unused field is 0.
 fn is_formed(choices: bool, kind: u8, one: u16, two: u16) -> bool
     ensures { cond result (some (row_from kind one two)) none ≡ formed choices kind one two }
 {
-    if kind == b'M' {
-        return true;
+    match kind {
+        b'M' | b'P' => true,
+        b'A' => choices,
+        b'S' | b'C' => two == 0,
+        b'B' => one == 0 && two == 0,
+        _ => false,
     }
-    if kind == b'P' {
-        return true;
-    }
-    if kind == b'A' {
-        return choices;
-    }
-    if two != 0 {
-        return false;
-    }
-    if kind == b'S' {
-        return true;
-    }
-    if kind == b'C' {
-        return true;
-    }
-    if kind == b'B' {
-        return one == 0;
-    }
-    false
 }

@@ -12,10 +12,8 @@ use model::RULES_MOST;
 fn search_in(rules: &[Rule], mut s: Search) -> Search
     ensures { result ≡ searched 0 rules.now s }
 {
-    let mut i = 0;
-    while i < rules.len() {
+    for i in 0..rules.len() {
         s = met(s, i, rules[i]);
-        i += 1;
     }
     s
 }

@@ -20,11 +20,7 @@ pub fn board_free(masks: &[u64], eager: bool, held: &[u64], y: usize) -> bool
     requires width_in_bounds_2 { y * width + width ≤ length held.now }
     ensures { result ≡ free_in eager masks.now held.now y }
 {
-    if eager {
-        none_of(masks, SENDS, held, y)
-    } else {
-        true
-    }
+    !eager || none_of(masks, SENDS, held, y)
 }
 
 // The further condition to send m.
@@ -36,10 +32,7 @@ pub fn send_rule(words: &[u64], masks: &[u64], rule: ToSend, way: &[u64; WIDTH],
 {
     match rule {
         ToSend::Always => true,
-        ToSend::NoEarlierUnderWay => {
-            let receive = 2 * m + 1;
-            apart(words, receive, masks, SENDS, way)
-        }
+        ToSend::NoEarlierUnderWay => apart(words, 2 * m + 1, masks, SENDS, way),
         ToSend::ChannelEmpty => none_of(masks, SENDS, way, 0),
     }
 }

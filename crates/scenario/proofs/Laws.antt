@@ -13,21 +13,22 @@ use Rattle.model.proofs.Lines.{Well, sheet_well}
 use Rattle.relation.specs.Rows.{cleared}
 use Rattle.relation.proofs.Cleared.{cleared_behind}
 use Rattle.relation.specs.Scenario.{scenario_in}
-use Rattle.expansion.specs.declared.Expanded.{Expanded}
-use Rattle.expansion.specs.declared.Expanded.TheVariants.{Messages, Refused}
+use Rattle.std.specs.Prelude.{Result, Ok, Err}
+use Rattle.outcome.specs.declared.Refusal.{Refusal}
+use Rattle.outcome.specs.Refusals.{refused_in}
 use Rattle.expansion.specs.Outcome.{outcome_of}
 use Rattle.scenario.specs.Contract.{Fit, FitOn, SheetIn}
 
-module _ (text boards words : List ℕ) (r : Expanded) (p : SheetIn text boards words r) where
-  pub sheet_refused : (number line : ℕ) → r ≡ Refused number line → sheet_of text ≡ refusal number line
-  sheet_refused number line i = sym p.outcome ∙ ap (λ (w : Expanded). outcome_of w boards words) i
+module _ (text boards words : List ℕ) (r : Result ℕ Refusal) (p : SheetIn text boards words r) where
+  pub sheet_refused : (e : Refusal) → r ≡ Err e → sheet_of text ≡ refused_in e
+  sheet_refused e i = sym p.outcome ∙ ap (λ (w : Result ℕ Refusal). outcome_of w boards words) i
 
-  module _ (count : ℕ) (i : r ≡ Messages count) where
+  module _ (count : ℕ) (i : r ≡ Ok count) where
     pub sheet_is : sheet_of text ≡ ok (scenario_in count boards words)
-    sheet_is = sym p.outcome ∙ ap (λ (w : Expanded). outcome_of w boards words) i
+    sheet_is = sym p.outcome ∙ ap (λ (w : Result ℕ Refusal). outcome_of w boards words) i
 
     pub sheet_fits : Fit count boards words
-    sheet_fits = subst (λ (w : Expanded). FitOn w boards words) i p.fit
+    sheet_fits = subst (λ (w : Result ℕ Refusal). FitOn w boards words) i p.fit
 
     -- as a caller needs it that lends the boards as a slice
     pub boards_long_holds : 2 * messages_most ≡ length boards

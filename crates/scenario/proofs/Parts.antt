@@ -7,7 +7,7 @@ use native.Mathlib.Omega.{arith}
 use lib.ListN.{length}
 use Rattle.model.specs.Limits as limits
 use Rattle.model.specs.Limits.{messages_most}
-use Rattle.model.specs.Refusal.{Out, refusal, and_then}
+use Rattle.model.specs.Refusal.{Out, and_then}
 use Rattle.model.specs.Rows.{Row}
 use Rattle.model.specs.Order.{Event, event, board}
 use Rattle.model.specs.Answer.{expanded_of, sheet_of}
@@ -17,12 +17,11 @@ use Rattle.model.proofs.Accepted.{sheet_count, sheet_boards}
 use Rattle.relation.specs.Width.{width}
 use Rattle.relation.specs.Scenario.{scenario_in}
 use Rattle.relation.proofs.Scenario.{board_at}
-use Rattle.sheet.specs.declared.Verdict.{Verdict}
-use Rattle.sheet.specs.declared.Verdict.TheVariants as verdict
 use Rattle.sheet.specs.Bridge.{rows_of, ReadAs}
 use Rattle.sheet.proofs.Bridge.{refused_is, rows_are, starts_are, count_most, kind_long_holds, one_long_holds, two_long_holds}
-use Rattle.expansion.specs.declared.Expanded.{Expanded}
-use Rattle.expansion.specs.declared.Expanded.TheVariants.{Messages, Refused}
+use Rattle.std.specs.Prelude.{Result, Ok, Err}
+use Rattle.outcome.specs.declared.Refusal.{Refusal}
+use Rattle.outcome.specs.Refusals.{refused_in}
 use Rattle.expansion.specs.Outcome.{outcome_of}
 use Rattle.expansion.specs.Lent.{RowsRead}
 use Rattle.scenario.specs.Contract.{Fit, FitOn, SheetIn}
@@ -41,25 +40,24 @@ fit_from m boards words boards_long words_long few below =
 
 -- the scenario of a text fits the paper's limits
 module _ (text boards words : List ℕ) (boards_long : length boards ≡ 2 * messages_most) (words_long : length words ≡ 2 * messages_most * width) where
-  fits : (r : Expanded) → outcome_of r boards words ≡ sheet_of text → FitOn r boards words
-  fits (Refused number line) e = tt
-  fits (Messages m) e =
+  fits : (r : Result ℕ Refusal) → outcome_of r boards words ≡ sheet_of text → FitOn r boards words
+  fits (Err r) e = tt
+  fits (Ok m) e =
       fit_from m boards words boards_long words_long (sheet_count text (scenario_in m boards words) (sym e))
       (sheet_boards text (scenario_in m boards words) (sym e))
 
-module _ (text kind one two start : List ℕ) (v : Verdict) (p : ReadAs false text kind one two start v) where
-  pub reading_refuses : (number line : ℕ) (boards words : List ℕ) → v ≡ verdict.Refused number line
-      → SheetIn text boards words (Refused number line)
+module _ (text kind one two start : List ℕ) (v : Result ℕ Refusal) (p : ReadAs false text kind one two start v) where
+  pub reading_refuses : (e : Refusal) (boards words : List ℕ) → v ≡ Err e → SheetIn text boards words (Err e)
   unfolding sheet_of and_then
-  reading_refuses number line boards words i =
+  reading_refuses e boards words i =
       record {
         outcome =
-            subst⁻¹ (λ (o : Out (List Row)). refusal number line ≡ and_then o expanded_of)
-            (refused_is false text kind one two start v p number line i) refl;
+            subst⁻¹ (λ (o : Out (List Row)). refused_in e ≡ and_then o expanded_of)
+            (refused_is false text kind one two start v p e i) refl;
         fit = tt;
       }
 
-  module _ (count : ℕ) (i : v ≡ verdict.Rows count) where
+  module _ (count : ℕ) (i : v ≡ Ok count) where
     pub rows_read : RowsRead kind one two count start
     rows_read =
         let few = count_most false text kind one two start v p count i in
@@ -74,7 +72,7 @@ module _ (text kind one two start : List ℕ) (v : Verdict) (p : ReadAs false te
     pub rows_plain : Plain (rows_of kind one two count)
     rows_plain = read_plain text (rows_of kind one two count) (rows_are false text kind one two start v p count i)
 
-    pub rows_expanded : (boards words : List ℕ) (r : Expanded) → outcome_of r boards words ≡ expanded_of (rows_of kind one two count)
+    pub rows_expanded : (boards words : List ℕ) (r : Result ℕ Refusal) → outcome_of r boards words ≡ expanded_of (rows_of kind one two count)
         → length boards ≡ 2 * messages_most → length words ≡ 2 * messages_most * width → SheetIn text boards words r
     unfolding sheet_of and_then
     rows_expanded boards words r h b w =

@@ -6,15 +6,15 @@ ghost use Rattle.model.specs.Limits.{messages_most};
 ghost use Rattle.relation.specs.Width.{width};
 ghost use Rattle.scenario.specs.Contract.{SheetIn};
 
-use expansion::Expanded;
-use sheet::Verdict;
+use outcome::Refusal;
+use sheet::Rows;
 
 // The scenario of a text: so many messages, the board of each event and the causal order in words; or refusal 3 to 11.
 pub fn scenario_of(
     text: &[u8],
     boards: &mut [u8; model::EVENTS_MOST],
     words: &mut [u64],
-) -> Expanded
+) -> Result<usize, Refusal>
     requires { length words.old ≡ 2 * messages_most * width }
     ensures { SheetIn text.now boards.new words.new result }
 {
@@ -22,13 +22,15 @@ pub fn scenario_of(
     let mut one = [0u16; model::ROWS_MOST];
     let mut two = [0u16; model::ROWS_MOST];
     let mut start = [0u16; model::SHEETS];
-    let verdict = sheet::read(
+    let count = sheet::read(
         text, false, &mut kind, &mut one, &mut two, &mut start, words,
-    );
-    match verdict {
-        Verdict::Refused(number, line) => Expanded::Refused(number, line),
-        Verdict::Rows(count) => {
-            expansion::expand(&kind, &one, &two, count, &start, boards, words)
-        }
-    }
+    )?;
+    let rows = Rows {
+        kind: &kind,
+        one: &one,
+        two: &two,
+        count,
+        start: &start,
+    };
+    expansion::expand(&rows, boards, words)
 }

@@ -5,7 +5,7 @@ use mathlib.Core.Option.{Option, none, some}
 use Prim.Native.Nat.{ℕ, suc, ◌+◌, ◌*◌, ◌-◌, ◌<◌, ◌≤◌}
 use native.Mathlib.Omega.{arith}
 use lib.ListN.{length, get_or, drop, set, replicate, length-append, length-drop, length-set}
-use lib.Seq.{set_at, drop-drop, append_snoc}
+use lib.Seq.{get_or-set_same, set_at, drop-drop, append_snoc}
 use mir.Val.{Fits}
 use mir.Syntax.{w64}
 use Rattle.model.specs.Limits.{messages_most}
@@ -24,8 +24,7 @@ use Rattle.board.specs.Masks.{Standing}
 use Rattle.run.specs.declared.Buffer.{Buffer}
 use Rattle.run.specs.declared.Run.{Run}
 use Rattle.step.specs.declared.Step as code
-use Rattle.step.specs.declared.StepOrNone.{StepOrNone}
-use Rattle.step.specs.declared.StepOrNone.TheVariants as maybe
+use Rattle.std.specs.Prelude as prelude
 use Rattle.step.specs.Steps.{step_in, message_in, step_or_none}
 use Rattle.run.specs.State.{in_row, buffer_of, state_of, start_run, Starts, Reaches, TargetOf}
 use Rattle.run.proofs.States.{get_d_inside, starts, zero_buffers, reaches}
@@ -189,7 +188,7 @@ module _ (count : ℕ) (boards words masks : List ℕ) (c : channel.Channel) (e 
     next_fits l = omega (arith, G.whole, G.standing.few)
 
     -- the step chosen is on a message of the scenario
-    module _ (r : StepOrNone) (s : code.Step) (h : ChosenIn count boards words c run.done run.way rows e r) (i : r ≡ maybe.Step s) where
+    module _ (r : prelude.Option code.Step) (s : code.Step) (h : ChosenIn count boards words c run.done run.way rows e r) (i : r ≡ prelude.Some s) where
       taken : choose S (channel_in c) (classes_for S e) (state_of run) ≡ some (step_in s)
       taken = sym (h run refl refl G.laid) ∙ ap step_or_none i
 
@@ -202,17 +201,18 @@ module _ (count : ℕ) (boards words masks : List ℕ) (c : channel.Channel) (e 
       pub step_few : message_in s < messages_most
       step_few = step_reaches.few
 
-      pub goes_on : (later : List ℕ) (b : ℕ) (other : Buffer) (done way own rows-now held-now : List ℕ)
+      pub goes_on : (later : List ℕ) (b : ℕ) (other third : Buffer) (done way own rows-now held-now : List ℕ)
           → later ≡ set (set now (2 * k) (kind_of (step_in s))) (2 * k + 1) (message_in s)
           → TargetOf boards s b → DoneBehind run.done s done → WayBehind run.way s way → HeldBehind held s held-now
-          → HeldBehind (get_or run.buffers b other).held s own → LaysRow rows b own rows-now → k < end
+          → HeldBehind (get_or run.buffers b other).held s own → LaysRow rows b (get_or (set run.buffers b (record { held = own })) b third).held rows-now → k < end
           → Goes end later (record { done = done; way = way; buffers = set run.buffers b (record { held = own }) }) rows-now held-now (k + 1)
-      goes_on later b other done way own rows-now held-now w target p q g h' o l =
+      goes_on later b other third done way own rows-now held-now w target p q g h' o l =
           let last : Run = record { done = done; way = way; buffers = set run.buffers b (record { held = own }) } in
           let inside : b < length run.buffers = omega (arith, target.below, G.wide) in
           let own_behind : HeldBehind (buffer_of run b).held s own =
           subst (λ (u : Buffer). HeldBehind u.held s own) (get_d_inside run.buffers b other (record { held = [] }) inside) h' in
-          let laid : HeldIn last rows-now = set_laid run rows rows-now own b done way G.laid target.below o in
+          let laid : HeldIn last rows-now = set_laid run rows rows-now own b done way G.laid target.below
+          (subst (λ (u : Buffer). LaysRow rows b u.held rows-now) (get_or-set_same run.buffers b (record { held = own }) third inside) o) in
           let v : Follows boards run (step_in s) last = next_follows run s boards b other done way own p q h' target G.wide in
           let R = running_goes_on S (channel_in c) e trace (state_of run) k now (step_in s) G.running taken (omega (arith, G.whole)) in
           let kept : length later ≡ length now = ap length w ∙ simp length-set in
@@ -232,7 +232,7 @@ module _ (count : ℕ) (boards words masks : List ℕ) (c : channel.Channel) (e 
                 (subst⁻¹ (λ (t : State). Running S (channel_in c) e trace t (k + 1) (set (set now (2 * k) (kind_of (step_in s))) (2 * k + 1) (message_in s))) (v count words) R);
           }
 
-    pub goes_stops : (r : StepOrNone) → ChosenIn count boards words c run.done run.way rows e r → r ≡ maybe.Nothing → k < end
+    pub goes_stops : (r : prelude.Option code.Step) → ChosenIn count boards words c run.done run.way rows e r → r ≡ prelude.None → k < end
         → Scheduled S (channel_in c) e trace now k
     goes_stops r h n l =
         running_stops S (channel_in c) e trace (state_of run) k now G.running (sym (h run refl refl G.laid) ∙ ap step_or_none n) (omega (arith, G.whole))

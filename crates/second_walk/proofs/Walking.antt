@@ -5,7 +5,7 @@ use mathlib.Core.Path.{◌≡◌, sym, ◌∙◌, ap, subst}
 use mathlib.Core.List.{List, []}
 use lib.ListN.{length}
 use Rattle.model.specs.Limits.{boards, messages_most, rows_most, calls_most}
-use Rattle.model.specs.Refusal.{Out, ok, refusal, and_then}
+use Rattle.model.specs.Refusal.{Out, ok, and_then}
 use Rattle.model.specs.Rows.{Row}
 use Rattle.model.specs.Expansion.{Progress, expand}
 use Rattle.model.specs.Order.{Scenario, scenario_of, Met, nothing_met, met_ops, exchange_of}
@@ -27,28 +27,28 @@ use Rattle.walk.specs.declared.Walk.{Walk}
 use Rattle.levels.specs.Options.{options_of}
 use Rattle.expansion.specs.Lent.{RowsRead}
 use Rattle.expansion.specs.Outcome.{zeros}
-use Rattle.expansion.specs.Ends.{beginning, Rests, RestsAt, ended_of, Ends}
-use Rattle.expansion.specs.declared.Ended.{Ended}
-use Rattle.expansion.specs.declared.Ended.TheVariants as ended
+use Rattle.expansion.specs.Ends.{beginning, Rests, Ends}
+use Rattle.std.specs.Prelude as std
+use Rattle.std.specs.Prelude.{Result, Ok, Err, Some, None}
+use Rattle.outcome.specs.declared.Refusal.{Refusal}
+use Rattle.outcome.specs.Refusals.{refused_in, number_in}
+use Rattle.outcome.specs.Options.{found_in}
 use Rattle.expansion.proofs.Whole.{nothing_begins}
 use Rattle.expansion.proofs.Reading.{sheets_lent}
 use Rattle.scenario.specs.Contract.{Fit}
 use Rattle.at_or_before.specs.Lent.{Lent}
 use Rattle.race.specs.declared.Rule.{Rule}
 use Rattle.race.specs.Bridge.{rule_in}
-use Rattle.lowest_race.specs.declared.Lowest.{Lowest}
-use Rattle.lowest_race.specs.declared.Lowest.TheVariants as lowest
-use Rattle.lowest_race.specs.Named.{race_in}
 use Rattle.second_walk.specs.Walks.{rows_repeatable, OneLocks, OneFrees}
 use Rattle.second_walk.proofs.Plain.{walked_plain}
 
 -- a walk that rests has its scenario in boards and words
-module _ (r : Ended) (t : Store) (expected : Out (Progress Store)) (h : Ends r t expected) (w : Walk) (i : r ≡ ended.At w) where
+module _ (t : Store) (expected : Out (Progress Store)) (w : Walk) (h : Ends (Ok w) t expected) where
   pub ends_rests : Rests w t
-  ends_rests = subst (λ (q : Ended). RestsAt q t) i h.rests
+  ends_rests = h.rests
 
   ends_at : expected ≡ ok (state_of w t)
-  ends_at = sym h.exact ∙ ap (λ (q : Ended). ended_of q t) i
+  ends_at = sym h.exact
 
   pub ends_fit : Fit w.count t.events t.words
   ends_fit =
@@ -83,13 +83,8 @@ rests_on w v events words past past' r l few empty less =
       };
     }
 
-ends_refused : (r : Ended) (t : Store) (expected : Out (Progress Store)) → Ends r t expected → (number line : ℕ) → r ≡ ended.Refused number line
-    → expected ≡ refusal number line
-ends_refused r t expected h number line i = sym h.exact ∙ ap (λ (q : Ended). ended_of q t) i
-
 module _ (kind one two : List ℕ) (count : ℕ) (start : List ℕ) (lent : RowsRead kind one two count start) (plain : Plain (rows_of kind one two count))
-    (options : ℕ) (words : List ℕ) (l : length words ≡ 2 * messages_most * width) (r : Ended) (t : Store)
-    (h : Ends r t (walked_on (options_of options) (rows_of kind one two count) (beginning words))) where
+    (options : ℕ) (words : List ℕ) (l : length words ≡ 2 * messages_most * width) (t : Store) where
   abbrev file : List Row
   file = rows_of kind one two count
 
@@ -103,19 +98,19 @@ module _ (kind one two : List ℕ) (count : ℕ) (start : List ℕ) (lent : Rows
   few = omega (arith, rows_length kind one two 0 count, (sheets_lent kind one two count start lent 0).rows.few)
 
   -- the first walk is refused
-  pub first_refused : (number line : ℕ) → r ≡ ended.Refused number line → rows_repeatable file ≡ refusal number line
+  pub first_refused : (e : Refusal) → Ends (Err e) t (walked_on (options_of options) file (beginning words)) → rows_repeatable file ≡ refused_in e
   unfolding rows_repeatable and_then
-  first_refused number line i =
-      let e : expand met_ops [] file nothing_met ≡ refusal number line =
+  first_refused e h =
+      let none : expand met_ops [] file nothing_met ≡ refused_in e =
       sym (walk_plain file plain (options_of options))
-      ∙ once_refused (options_of options) file fits nothing (nothing_begins words l) number line (ends_refused r t _ h number line i) in
-      rw e
+      ∙ once_refused (options_of options) file fits nothing (nothing_begins words l) (number_in e.reason) e.line (sym h.exact) in
+      rw none
 
-  module _ (w : Walk) (i : r ≡ ended.At w) where
+  module _ (w : Walk) (h : Ends (Ok w) t (walked_on (options_of options) file (beginning words))) where
     beside : Alongside (expand met_ops [] file nothing_met) (state_of w t)
     beside =
         subst (λ (o : Out (Progress Met)). Alongside o (state_of w t)) (walk_plain file plain (options_of options))
-        (once_ended (options_of options) file fits nothing (nothing_begins words l) (state_of w t) (ends_at r t _ h w i))
+        (once_ended (options_of options) file fits nothing (nothing_begins words l) (state_of w t) (ends_at t _ w h))
 
     abbrev s : Progress Met
     s = record { walk = beside.walk; kept = beside.kept }
@@ -127,19 +122,19 @@ module _ (kind one two : List ℕ) (count : ℕ) (start : List ℕ) (lent : Rows
     unfolding walked_again
     again_is = walked_plain met_ops (options_of options) file plain few _
 
-    module _ (r' : Ended) (t' : Store) (h' : Ends r' t' (walked_on (options_of options) file (state_of w t))) where
-      pub second_refused : (number line : ℕ) → r' ≡ ended.Refused number line → rows_repeatable file ≡ refusal number line
+    module _ (t' : Store) where
+      pub second_refused : (e : Refusal) → Ends (Err e) t' (walked_on (options_of options) file (state_of w t)) → rows_repeatable file ≡ refused_in e
       unfolding rows_repeatable and_then
-      second_refused number line i' =
-          let e : walked_again file s ≡ refusal number line =
-          sym again_is ∙ again_refused (options_of options) file fits beside number line (ends_refused r' t' _ h' number line i') in
-          rw (beside.is_met, e)
+      second_refused e h' =
+          let none : walked_again file s ≡ refused_in e =
+          sym again_is ∙ again_refused (options_of options) file fits beside (number_in e.reason) e.line (sym h'.exact) in
+          rw (beside.is_met, none)
 
-      module _ (w' : Walk) (i' : r' ≡ ended.At w') where
+      module _ (w' : Walk) (h' : Ends (Ok w') t' (walked_on (options_of options) file (state_of w t))) where
         beside' : Alongside (walked_again file s) (state_of w' t')
         beside' =
             subst (λ (o : Out (Progress Met)). Alongside o (state_of w' t')) again_is
-            (again_ended (options_of options) file fits beside (state_of w' t') (ends_at r' t' _ h' w' i'))
+            (again_ended (options_of options) file fits beside (state_of w' t') (ends_at t' _ w' h'))
 
         is_one_holds : rows_repeatable file ≡ ok (exchange_of s)
         unfolding rows_repeatable and_then
@@ -151,22 +146,22 @@ module _ (kind one two : List ℕ) (count : ℕ) (start : List ℕ) (lent : Rows
             ∙ two_walks_holds s (record { walk = beside'.walk; kept = beside'.kept }) beside.sound
             (walk_later s file (record { walk = beside'.walk; kept = beside'.kept }) beside.is_met beside'.is_met)
 
-        module _ (code : ℕ) (rule : Rule) (v : Lowest) (same : rule_in rule ≡ race_rule_of code)
-            (found : race_in v ≡ lowest_race (scenario_in w.count t.events t.words) (rule_in rule)) where
-          race_is : (o : Lowest) → v ≡ o → lowest_race (scenario_of (exchange_of s)) (race_rule_of code) ≡ race_in o
+        module _ (code : ℕ) (rule : Rule) (v : std.Option (ℕ × ℕ)) (same : rule_in rule ≡ race_rule_of code)
+            (found : found_in v ≡ lowest_race (scenario_in w.count t.events t.words) (rule_in rule)) where
+          race_is : (o : std.Option (ℕ × ℕ)) → v ≡ o → lowest_race (scenario_of (exchange_of s)) (race_rule_of code) ≡ found_in o
           race_is o e =
               ap (λ (S : Scenario). lowest_race S (race_rule_of code)) (sym one_scenario)
-              ∙ ap (lowest_race (scenario_in w.count t.events t.words)) (sym same) ∙ sym found ∙ ap race_in e
+              ∙ ap (lowest_race (scenario_in w.count t.events t.words)) (sym same) ∙ sym found ∙ ap found_in e
 
-          pub one_locks : (e x : ℕ) → v ≡ lowest.Race e x → OneLocks (rows_repeatable file) code
-          one_locks e x n = record { one = exchange_of s; is_one = is_one_holds; message = e; event = x; race = race_is (lowest.Race e x) n }
+          pub one_locks : (race : ℕ × ℕ) → v ≡ Some race → OneLocks (rows_repeatable file) code
+          one_locks race n = record { one = exchange_of s; is_one = is_one_holds; message = race.0; event = race.1; race = race_is (Some race) n }
 
-          pub one_frees : v ≡ lowest.Nothing → OneFrees (rows_repeatable file) code t'.events t'.words w'.count
+          pub one_frees : v ≡ None → OneFrees (rows_repeatable file) code t'.events t'.words w'.count
           one_frees n =
               record {
                 one = exchange_of s;
                 is_one = is_one_holds;
-                no_race = race_is lowest.Nothing n;
+                no_race = race_is None n;
                 is_two = two_scenario;
-                fit = ends_fit r' t' _ h' w' i';
+                fit = ends_fit t' _ w' h';
               }

@@ -1,7 +1,7 @@
 -- What the rows walked twice come to. Assumes nothing.
-use Rattle.std.specs.Prelude.{ℕ, ◌≡◌, List, []}
+use Rattle.std.specs.Prelude.{ℕ, ◌≡◌, List, [], Result, Ok, Err}
 use Rattle.std.proofs.Math.Option.{none}
-use Rattle.model.specs.Refusal.{Out, ok, refusal, and_then}
+use Rattle.model.specs.Refusal.{Out, ok, and_then}
 use Rattle.model.specs.Rows.{Row}
 use Rattle.model.specs.Expansion.{expand}
 use Rattle.model.specs.Order.{Exchange, scenario_of, nothing_met, met_ops, exchange_of}
@@ -11,7 +11,9 @@ use Rattle.relation.specs.Scenario.{scenario_in}
 use Rattle.scenario.specs.Contract.{Fit}
 use Rattle.verdict.specs.Parts.{IsRace}
 use Rattle.second_walk.specs.declared.Twice.{Twice}
-use Rattle.second_walk.specs.declared.Twice.TheVariants.{OneLocked, OneFree, Refused}
+use Rattle.second_walk.specs.declared.Twice.TheVariants.{OneLocked, OneFree}
+use Rattle.outcome.specs.declared.Refusal.{Refusal}
+use Rattle.outcome.specs.Refusals.{refused_in}
 
 -- the exchange of one round, unless one of two walks is refused
 unfoldable pub rows_repeatable : List Row → Out Exchange
@@ -35,7 +37,7 @@ module _ (o : Out Exchange) (code : ℕ) where
     pub is_two : scenario_in count boards words ≡ scenario_of (rounds one 2)
     pub fit : Fit count boards words
 
-  abbrev pub Walks : List ℕ → List ℕ → Twice → Type 0
-  Walks boards words OneLocked = OneLocks
-  Walks boards words (OneFree count) = OneFrees boards words count
-  Walks boards words (Refused number line) = o ≡ refusal number line
+  abbrev pub Walks : List ℕ → List ℕ → Result Twice Refusal → Type 0
+  Walks boards words (Ok OneLocked) = OneLocks
+  Walks boards words (Ok (OneFree count)) = OneFrees boards words count
+  Walks boards words (Err r) = o ≡ refused_in r

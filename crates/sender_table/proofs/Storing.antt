@@ -2,7 +2,7 @@
 use Prim.Native.Nat.{ℕ, suc, ◌+◌, ◌-◌, ◌≤◌, ◌<◌}
 use native.Mathlib.Numerals.{add-one}
 use native.Mathlib.Omega.{arith}
-use mathlib.Core.Path.{◌≡◌, refl, sym, ◌∙◌, ap, subst}
+use mathlib.Core.Path.{◌≡◌, refl, sym, ◌∙◌, ap}
 use mathlib.Core.Bool.{cond}
 use mathlib.Core.List.{List, [], ◌∷◌, ◌++◌}
 use mathlib.Core.Option.{none, some}
@@ -10,6 +10,9 @@ use borrow.Author.Tests.{lt-ltb, le-ltb}
 use lib.Dec.{ltb}
 use lib.ListN.{length, take, drop, set, length-set, drop_of_length-le}
 use lib.Seq.{take-suc-set}
+use Rattle.std.specs.Prelude.{Some, None, Ok, Err}
+use Rattle.outcome.specs.declared.Reason.TheVariants.{SenderTable}
+use Rattle.outcome.specs.declared.Refusal.{Refusal}
 use Rattle.model.specs.Limits.{rules_most}
 use Rattle.model.specs.Refusal.{Out, ok, refusal, sender_table_refusal}
 use Rattle.model.specs.Text.{Line, lines_of}
@@ -20,12 +23,8 @@ use Rattle.line.specs.Scan.{first_line, behind_line}
 use Rattle.line.proofs.Lines.{lines_at}
 use Rattle.coverage.specs.Rules.{rule_as, rules_as}
 use Rattle.coverage.specs.declared.Rule.{Rule}
-use Rattle.sender_table.specs.Table.{reading_from, RuleAs, outcome_as, Few, RulesAs}
+use Rattle.sender_table.specs.Table.{RuleAs, RulesAs}
 use Rattle.sender_table.specs.declared.Reading.{Reading}
-use Rattle.sender_table.specs.declared.Reading.TheVariants as reading
-use Rattle.sender_table.specs.declared.Verdict.{Verdict}
-use Rattle.sender_table.specs.declared.Verdict.TheVariants as verdict
-use Rattle.sender_table.specs.declared.Table.{Table}
 
 -- rules ahead of what is still to be read
 pub ahead_all : List Rule → Out (List senders.Rule) → Out (List senders.Rule)
@@ -58,11 +57,12 @@ pub loop_begin : (text : List ℕ) (first : ℕ) (rules : List Rule) → first �
 unfolding ahead_all
 loop_begin text first rules h l = record { inside = h; few = omega arith; long = l; read = refl }
 
--- a table refused, with its line
-pub refused_as : (text : List ℕ) (first line : ℕ) (t : Table) → t.verdict ≡ verdict.Malformed line → rules_from 0 (lines_of (drop first text)) ≡ refusal sender_table_refusal line
-    → RulesAs text first t
-refused_as text first line t e f =
-    record { outcome = ap (λ (v : Verdict). outcome_as v t.rules) e ∙ sym f; few = subst (λ (v : Verdict). Few v) (sym e) tt }
+-- a table refused, at a line
+abbrev pub bad_line : ℕ → Refusal
+bad_line line = record { reason = SenderTable; line = line }
+
+refused_as : (text : List ℕ) (first line : ℕ) → rules_from 0 (lines_of (drop first text)) ≡ refusal sender_table_refusal line → RulesAs text first (Err (bad_line line))
+refused_as text first line f = record { outcome = sym f; few = tt }
 
 module _ (text : List ℕ) (first at count : ℕ) (rules : List Rule) (v : Looping text first at count rules) (h : at < length text) where
   abbrev next_line : Line
@@ -79,42 +79,37 @@ module _ (text : List ℕ) (first at count : ℕ) (rules : List Rule) (v : Loopi
   unfolding rules_from
   no_rule e = read_line ∙ ap (ahead_all (take count rules)) (rw (e, rules_from)) ∙ ahead_refused (take count rules) sender_table_refusal (line_of count)
 
-  pub loop_full : (t : Table) → t.verdict ≡ verdict.Malformed (count + 2) → rules_most ≤ count → RulesAs text first t
-  loop_full t e full = refused_as text first (count + 2) t e (no_rule (rw (le-ltb count rules_most full)))
+  pub loop_full : rules_most ≤ count → RulesAs text first (Err (bad_line (count + 2)))
+  loop_full full = refused_as text first (count + 2) (no_rule (rw (le-ltb count rules_most full)))
 
-  module _ (room : count < rules_most) (r : Reading) (p : RuleAs text at r) where
-    pub loop_malformed : (t : Table) → t.verdict ≡ verdict.Malformed (count + 2) → r ≡ reading.Malformed → RulesAs text first t
-    loop_malformed t e q =
-        refused_as text first (count + 2) t e
-        (no_rule (rw (lt-ltb count rules_most room) (sym p.rule ∙ ap reading_from q)))
+  module _ (room : count < rules_most) where
+    pub loop_malformed : RuleAs text at None → RulesAs text first (Err (bad_line (count + 2)))
+    loop_malformed p = refused_as text first (count + 2) (no_rule (rw (lt-ltb count rules_most room) (sym p.rule)))
 
-    module _ (rule : Rule) (next : ℕ) (q : r ≡ reading.Rule rule next) where
-      read_on : RuleAs text at (reading.Rule rule next)
-      read_on = subst (λ (x : Reading). RuleAs text at x) q p
-
-      pub loop_further : length text - next < length text - at
+    module _ (r : Reading) (read_on : RuleAs text at (Some r)) where
+      pub loop_further : length text - r.next < length text - at
       loop_further = omega (arith, read_on.next.further, read_on.next.inside)
 
-      a_rule : rules_from count (next_line ∷ others) ≡ ahead_of_rule (rule_as rule) (rules_from (suc count) (lines_of (drop next text)))
+      a_rule : rules_from count (next_line ∷ others) ≡ ahead_of_rule (rule_as r.rule) (rules_from (suc count) (lines_of (drop r.next text)))
       unfolding rules_from
       a_rule =
-          let e : cond (ltb count rules_most) (rule_of next_line) none ≡ some (rule_as rule) = rw (lt-ltb count rules_most room) (sym read_on.rule) in
-          rw (e, rules_from) (ap (λ (l : List ℕ). ahead_of_rule (rule_as rule) (rules_from (suc count) (lines_of l))) (sym read_on.next.behind))
+          let e : cond (ltb count rules_most) (rule_of next_line) none ≡ some (rule_as r.rule) = rw (lt-ltb count rules_most room) (sym read_on.rule) in
+          rw (e, rules_from) (ap (λ (l : List ℕ). ahead_of_rule (rule_as r.rule) (rules_from (suc count) (lines_of l))) (sym read_on.next.behind))
 
-      pub loop_more : Looping text first next (count + 1) (set rules count rule)
+      pub loop_more : Looping text first r.next (count + 1) (set rules count r.rule)
       loop_more =
           let l : count < length rules = omega (arith, v.long) in
           record {
             inside = read_on.next.inside;
             few = omega arith;
-            long = length-set rules count rule ∙ v.long;
+            long = length-set rules count r.rule ∙ v.long;
             read = rw (add-one count) (read_line ∙ ap (ahead_all (take count rules)) a_rule
-                ∙ sym (ahead_snoc (take count rules) rule (rules_from (suc count) (lines_of (drop next text))))
-                ∙ ap (λ (rs : List Rule). ahead_all rs (rules_from (suc count) (lines_of (drop next text)))) (sym (take-suc-set rules count rule l)));
+                ∙ sym (ahead_snoc (take count rules) r.rule (rules_from (suc count) (lines_of (drop r.next text))))
+                ∙ ap (λ (rs : List Rule). ahead_all rs (rules_from (suc count) (lines_of (drop r.next text)))) (sym (take-suc-set rules count r.rule l)));
           }
 
 pub loop_done : (text : List ℕ) (first at count : ℕ) (rules : List Rule) → Looping text first at count rules → length text ≤ at
-    → RulesAs text first (record { verdict = verdict.Rules count; rules = rules })
+    → RulesAs text first (Ok (record { rules = rules; count = count }))
 unfolding rules_from lines_of
 loop_done text first at count rules v h =
     let d : drop at text ≡ [] = drop_of_length-le text h in

@@ -8,25 +8,25 @@ use mathlib.Core.Option.{none, some}
 use borrow.Author.Tests.{leb-true, leb-false}
 use lib.Dec.{eqb, leb}
 use lib.ListN.{length, take}
-use Rattle.model.specs.Limits.{boards, rules_most, pairs}
+use Rattle.model.specs.Limits.{boards, pairs}
 use Rattle.model.specs.Bounded.{lowest}
-use Rattle.model.specs.Refusal.{ok, refusal, sender_table_refusal}
+use Rattle.model.specs.Refusal.{ok}
 use Rattle.model.specs.Senders.{pair_of, rules_with, is_faulty, gap, clash, fault_of, soundness_of, rules_of, judged_table, table_answer, table_numbers, TableJudged}
-use Rattle.model.proofs.Bounded.{lowest_none, lowest_hit, not_both}
+use Rattle.model.proofs.Bounded.{IsLowest, lowest_none, lowest_some, lowest_hit, not_both}
 use Rattle.model.proofs.Senders.{none_of, table_judged}
 use Rattle.coverage.specs.Rules.{rules_as}
 use Rattle.coverage.specs.Search.{begun, searched}
 use Rattle.coverage.specs.declared.Rule.{Rule}
 use Rattle.coverage.specs.declared.Search.{Search}
 use Rattle.coverage.proofs.Covered.{faulty_sets, FirstTwo, first_two}
-use Rattle.sender_table.specs.Table.{outcome_as, Few, TableAs}
+use Rattle.std.specs.Prelude.{Ok, Err}
+use Rattle.outcome.specs.declared.Refusal.{Refusal}
+use Rattle.outcome.specs.Refusals.{refused_in}
+use Rattle.sender_table.specs.Table.{TableAs}
 use Rattle.sender_table.specs.declared.Table.{Table}
-use Rattle.sender_table.specs.declared.Verdict.{Verdict}
-use Rattle.sender_table.specs.declared.Verdict.TheVariants as verdict
-use Rattle.senders.specs.Judgement.{judgement_as, numbers_for, is_fault, lowest_fault}
+use Rattle.senders.specs.Judgement.{judgement_as, numbers_for, is_fault}
 use Rattle.senders.specs.declared.Judgement.{Judgement}
-use Rattle.senders.specs.declared.Judgement.TheVariants.{Sound, Gap, Clash, Refused}
-use Rattle.senders.proofs.Receivers.{fault_first, fault_nowhere}
+use Rattle.senders.specs.declared.Judgement.TheVariants.{Sound, Gap, Clash}
 
 -- no pair of the senders passed is faulty
 pub record Judging (rs : List Rule) (sender : ℕ) : Type 0 where
@@ -37,16 +37,13 @@ pub judge_begin : (rs : List Rule) → Judging rs 0
 unfolding lowest
 judge_begin rs = record { below = omega arith; none = refl }
 
-module _ (rs : List Rule) (sender : ℕ) (s t : Search) (r : ℕ) (b : s ≡ begun sender 0) (m : t ≡ searched 0 rs s) (f : r ≡ lowest_fault t.once t.twice) where
+module _ (rs : List Rule) (sender : ℕ) (s t : Search) (b : s ≡ begun sender 0) (m : t ≡ searched 0 rs s) where
   met_is : t ≡ searched 0 rs (begun sender 0)
   met_is = m ∙ ap (searched 0 rs) b
 
   row_faulty : (k : ℕ) → k < boards → is_faulty (rules_as rs) (pair_of sender k) ≡ is_fault t.once t.twice k
   unfolding is_fault
   row_faulty k h = faulty_sets sender rs k 0 h ∙ rw (← met_is)
-
-  pub judge_faulty : r < boards → is_faulty (rules_as rs) (pair_of sender r) ≡ true
-  judge_faulty h = row_faulty r h ∙ (fault_first t.once t.twice r f h).0
 
   -- no pair of an earlier sender, or of this one with an earlier receiver
   faultless : Judging rs sender → (n : ℕ) → n ≤ boards → ((k : ℕ) → k < n → is_fault t.once t.twice k ≡ false)
@@ -61,25 +58,36 @@ module _ (rs : List Rule) (sender : ℕ) (s t : Search) (r : ℕ) (b : s ≡ beg
           (row_faulty (k - boards * sender) (omega arith) ∙ clear (k - boards * sender) (omega arith))
       go false e = lowest_none (boards * sender) (is_faulty (rules_as rs)) j.none k (leb-false (boards * sender) k e)
 
-  pub judge_more : Judging rs sender → sender < boards → boards ≤ r → Judging rs (sender + 1)
+  pub judge_more : Judging rs sender → sender < boards → none ≡ lowest boards (is_fault t.once t.twice) → Judging rs (sender + 1)
   judge_more j h n =
       let e : boards * (sender + 1) ≡ boards * sender + boards = omega arith in
       record {
         below = omega arith;
-        none = rw e (none_of (boards * sender + boards) (is_faulty (rules_as rs)) (faultless j boards (omega arith) (fault_nowhere t.once t.twice r f n)));
+        none = rw e (none_of (boards * sender + boards) (is_faulty (rules_as rs)) (faultless j boards (omega arith) (lowest_none boards (is_fault t.once t.twice) (sym n))));
       }
 
-  -- the pair named is the lowest
-  named : Judging rs sender → sender < boards → r < boards → lowest pairs (is_faulty (rules_as rs)) ≡ some (pair_of sender r)
-  named j h n =
-      lowest_hit pairs (pair_of sender r) (is_faulty (rules_as rs))
-      (none_of (pair_of sender r) (is_faulty (rules_as rs)) (faultless j r (omega arith) (fault_first t.once t.twice r f n).1))
-      (judge_faulty n) (omega arith)
+  module _ (r : ℕ) (f : some r ≡ lowest boards (is_fault t.once t.twice)) where
+    first : IsLowest boards (is_fault t.once t.twice) r
+    first = lowest_some boards (is_fault t.once t.twice) r (sym f)
 
-  pub judge_fault : (j : Judgement) → Judging rs sender → sender < boards → r < boards
-      → judgement_as j ≡ fault_of (pair_of sender r) (rules_with (pair_of sender r) 0 (rules_as rs)) → judgement_as j ≡ soundness_of (rules_as rs)
-  unfolding soundness_of
-  judge_fault j v h n e = e ∙ rw (named v h n, soundness_of)
+    pub receiver_inside : r < boards
+    receiver_inside = first.below
+
+    pub judge_faulty : is_faulty (rules_as rs) (pair_of sender r) ≡ true
+    judge_faulty = row_faulty r first.below ∙ first.passes
+
+    -- the pair named is the lowest
+    named : Judging rs sender → sender < boards → lowest pairs (is_faulty (rules_as rs)) ≡ some (pair_of sender r)
+    named j h =
+        let inside : r < boards = first.below in
+        lowest_hit pairs (pair_of sender r) (is_faulty (rules_as rs))
+        (none_of (pair_of sender r) (is_faulty (rules_as rs)) (faultless j r (omega arith) first.first))
+        judge_faulty (omega arith)
+
+    pub judge_fault : (j : Judgement) → Judging rs sender → sender < boards
+        → judgement_as j ≡ fault_of (pair_of sender r) (rules_with (pair_of sender r) 0 (rules_as rs)) → judgement_as j ≡ soundness_of (rules_as rs)
+    unfolding soundness_of
+    judge_fault j v h e = e ∙ rw (named v h, soundness_of)
 
 pub judge_end : (rs : List Rule) (sender : ℕ) → Judging rs sender → boards ≤ sender → judgement_as Sound ≡ soundness_of (rules_as rs)
 unfolding soundness_of
@@ -117,20 +125,14 @@ module _ (rs : List Rule) (sender receiver : ℕ) (inside : receiver < boards) (
       go (k ∷ j ∷ ks) n l = rw (n.0, n.1)
 
 -- the table as a whole
-module _ (table : List ℕ) (read : Table) (p : TableAs table read) where
-  pub judged_malformed : (line : ℕ) → read.verdict ≡ verdict.Malformed line → TableJudged table (numbers_for (Refused sender_table_refusal line))
+module _ (table : List ℕ) where
+  pub judged_refused : (r : Refusal) → TableAs table (Err r) → TableJudged table (numbers_for (Err r))
   unfolding table_answer judged_table
-  judged_malformed line e =
-      let o : rules_of table ≡ refusal sender_table_refusal line = sym p.outcome ∙ ap (λ (v : Verdict). outcome_as v read.rules) e in
-      table_judged table _ (rw (o, table_answer, judged_table))
+  judged_refused r p = let o : rules_of table ≡ refused_in r = sym p.outcome in table_judged table _ (rw (o, table_answer, judged_table))
 
-  module _ (count : ℕ) (e : read.verdict ≡ verdict.Rules count) where
-    pub judged_rules : (r : Judgement) → judgement_as r ≡ soundness_of (rules_as (take count read.rules)) → TableJudged table (numbers_for r)
-    unfolding table_answer judged_table
-    judged_rules r f =
-        let o : rules_of table ≡ ok (rules_as (take count read.rules)) = sym p.outcome ∙ ap (λ (v : Verdict). outcome_as v read.rules) e in
-        let a : table_answer table ≡ soundness_of (rules_as (take count read.rules)) = rw (o, table_answer, judged_table) in
-        table_judged table _ (ap table_numbers (f ∙ sym a))
-
-    pub judged_few : count ≤ rules_most
-    judged_few = let q : Few (verdict.Rules count) = subst (λ (v : Verdict). Few v) e p.few in q
+  pub judged_rules : (t : Table) (j : Judgement) → TableAs table (Ok t) → judgement_as j ≡ soundness_of (rules_as (take t.count t.rules)) → TableJudged table (numbers_for (Ok j))
+  unfolding table_answer judged_table
+  judged_rules t j p f =
+      let o : rules_of table ≡ ok (rules_as (take t.count t.rules)) = sym p.outcome in
+      let a : table_answer table ≡ soundness_of (rules_as (take t.count t.rules)) = rw (o, table_answer, judged_table) in
+      table_judged table _ (ap table_numbers (f ∙ sym a))

@@ -4,33 +4,29 @@
 ghost use Rattle.std.specs.Prelude.{◌≡◌, true, ◌≤◌, ◌<◌, take};
 ghost use Rattle.model.specs.Limits.{boards, rules_most};
 ghost use Rattle.model.specs.Senders.{pair_of, rules_with, is_faulty, fault_of, soundness_of, TableJudged};
+ghost use Rattle.model.specs.Bounded.{lowest};
+ghost use Rattle.outcome.specs.Options.{found_in};
 ghost use Rattle.coverage.specs.Rules.{rules_as};
-ghost use Rattle.senders.specs.Judgement.{judgement_as, numbers_for, is_fault, lowest_fault};
+ghost use Rattle.senders.specs.Judgement.{judgement_as, numbers_for, is_fault};
 
 use coverage::Rule;
 use model::{BOARDS, RULES_MOST};
-use sender_table::Verdict;
+use outcome::Refusal;
 
-// Sound; or the lowest faulty pair: a gap, in no rule, or a clash, with the lines of its first two rules; or refused, with number and line.
+// Sound; or the lowest faulty pair: a gap, in no rule, or a clash, with the lines of its first two rules.
 #[derive(Clone, Copy)]
 pub enum Judgement {
     Sound,
     Gap(usize),
     Clash(usize, usize, usize),
-    Refused(u8, usize),
 }
 
-// The judgement of any table.
-pub fn check_senders(table: &[u8]) -> Judgement
+// The judgement of any table, or its refusal.
+pub fn check_senders(table: &[u8]) -> Result<Judgement, Refusal>
     ensures { TableJudged table.now (numbers_for result) }
 {
-    let read = sender_table::read_table(table);
-    let verdict = read.verdict;
-    let rules = read.rules;
-    match verdict {
-        Verdict::Malformed(line) => Judgement::Refused(model::SENDER_TABLE, line),
-        Verdict::Rules(count) => judge(rules, count),
-    }
+    let read = sender_table::read_table(table)?;
+    Ok(judge(read.rules, read.count))
 }
 
 // The judgement of the first `count` rules: sender by sender, the lowest faulty pair.
@@ -38,46 +34,35 @@ pub fn judge(rules: [Rule; RULES_MOST], count: usize) -> Judgement
     requires { count ≤ rules_most }
     ensures { judgement_as result ≡ soundness_of (rules_as (take count rules)) }
 {
-    let mut sender = 0;
-    while sender < BOARDS {
+    for sender in 0..BOARDS {
         let met = rule_search::search_among(rules, count, coverage::begin(sender, 0));
-        let receiver = faulty_receiver(met.once, met.twice);
-        if receiver < BOARDS {
+        if let Some(receiver) = faulty_receiver(met.once, met.twice) {
             return fault(rules, count, sender, receiver);
         }
-        sender += 1;
     }
     Judgement::Sound
 }
 
-// The lowest receiver that is in no rule or in two or more; `BOARDS` where there is none.
-fn faulty_receiver(once: u16, twice: u16) -> usize
-    ensures { result ≡ lowest_fault once twice }
+// The lowest receiver that is in no rule or in two or more.
+fn faulty_receiver(once: u16, twice: u16) -> Option<usize>
+    ensures { found_in result ≡ lowest boards (is_fault once twice) }
 {
-    if once == model::SET_MOST as u16 {
-        if twice == 0 {
-            return BOARDS;
-        }
+    if once == model::SET_MOST as u16 && twice == 0 {
+        return None;
     }
-    let mut receiver = 0;
-    while receiver < BOARDS {
+    for receiver in 0..BOARDS {
         if is_fault(once, twice, receiver) {
-            return receiver;
+            return Some(receiver);
         }
-        receiver += 1;
     }
-    BOARDS
+    None
 }
 
 // The receiver is in no rule or in two or more.
 fn is_fault(once: u16, twice: u16, receiver: usize) -> bool
     ensures { result ≡ is_fault once twice receiver }
 {
-    if board_set::in_set(once, receiver) {
-        board_set::in_set(twice, receiver)
-    } else {
-        true
-    }
+    !board_set::in_set(once, receiver) || board_set::in_set(twice, receiver)
 }
 
 // A faulty pair, with the lines of its first two rules where it is in two or more.

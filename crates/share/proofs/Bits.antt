@@ -17,10 +17,6 @@ use Rattle.race.specs.Word.{RaceWord}
 use Rattle.race.proofs.Search.{races_at, Between, between_finds}
 use Rattle.share.specs.Search.{in_words}
 
--- a word has at most so many trailing zeros
-pub zeros_most : (word zeros : ℕ) → zeros ≡ count_trailing_zeros word_bits word → zeros ≤ word_bits
-zeros_most word zeros z = omega (arith, trailing_le word_bits word)
-
 module _ (count : ℕ) (boards words : List ℕ) (r : RaceRule) (e from : ℕ) where
   abbrev racing : ℕ → Bool
   racing = races_at count boards words r e from
@@ -28,18 +24,17 @@ module _ (count : ℕ) (boards words : List ℕ) (r : RaceRule) (e from : ℕ) w
   abbrev within : ℕ → ℕ → Bool
   within to x = in_words from to x && racing x
 
-  pub finds : (w word zeros to : ℕ) → Between count boards words r e from w → RaceWord count boards words r e w word → (word ≡ 0 → ⊥) → word < 2 ^ word_bits
-      → zeros ≡ count_trailing_zeros word_bits word → w < to → some (word_bits * w + zeros) ≡ lowest (2 * count) (within to)
-  finds w word zeros to s R z small i h =
+  pub finds : (w word to : ℕ) → Between count boards words r e from w → RaceWord count boards words r e w word → (word ≡ 0 → ⊥) → word < 2 ^ word_bits
+      → w < to → some (word_bits * w + count_trailing_zeros word_bits word) ≡ lowest (2 * count) (within to)
+  finds w word to s R z small h =
       let L = between_finds count boards words r e from w word s R z small in
       let x = word_bits * w + count_trailing_zeros word_bits word in
       let here : in_words from to x ≡ true = rw (le-leb (word_bits * from) x L.here.0, lt-ltb x (word_bits * to) (omega (arith, L.here.1))) in
-      rw i
-      (sym
+      sym
       (lowest_hit (2 * count) x (within to)
       (lowest_nowhere x (within to) (λ y k. go x L.first y k (dec_lt y (word_bits * from))))
       (and_both (in_words from to x) (racing x) here L.is_racing)
-      L.inside))
+      L.inside)
     where
       go : (x : ℕ) → ((y : ℕ) → word_bits * from ≤ y → y < x → racing y ≡ false) → (y : ℕ) → y < x → Dec (y < word_bits * from) → within to y ≡ false
       go x first y k (yes a) = rw (lt-leb (word_bits * from) y a)

@@ -18,19 +18,19 @@ use Rattle.relation.specs.Width.{width, word_bits}
 use Rattle.relation.specs.Scenario.{scenario_in}
 use Rattle.race.specs.declared.Rule.{Rule}
 use Rattle.race.specs.Bridge.{rule_in}
-use Rattle.relation.specs.declared.Found.{Found}
-use Rattle.relation.specs.declared.Found.TheVariants as found
-use Rattle.relation.specs.Own.{found_in}
+use Rattle.std.specs.Prelude as std
+use Rattle.std.specs.Prelude.{Some, None}
+use Rattle.outcome.specs.Options.{found_in}
 use Rattle.share.specs.declared.Race.{Race}
 use Rattle.share.specs.Search.{in_words, half, from_of, to_of, share_of, searched, race_in, can_be_held, looked_from, Looks}
 
 -- ---- the share of a turn, as it is looked at
 module _ (S : Scenario) (q : RaceRule) (t : ℕ) where
-  pub first_share : (f : Found) → t % 2 ≡ 0 → found_in f ≡ lowest (2 * S.count) (λ x. in_words 0 half x && is_race S q (t / 2) (event x)) → found_in f ≡ share_of S q t
+  pub first_share : (f : std.Option ℕ) → t % 2 ≡ 0 → found_in f ≡ lowest (2 * S.count) (λ x. in_words 0 half x && is_race S q (t / 2) (event x)) → found_in f ≡ share_of S q t
   unfolding share_of from_of to_of
   first_share f e h = h ∙ sym (rw (eq-eqb (t % 2) 0 e))
 
-  pub second_share : (f : Found) → (t % 2 ≡ 0 → ⊥) → found_in f ≡ lowest (2 * S.count) (λ x. in_words half width x && is_race S q (t / 2) (event x)) → found_in f ≡ share_of S q t
+  pub second_share : (f : std.Option ℕ) → (t % 2 ≡ 0 → ⊥) → found_in f ≡ lowest (2 * S.count) (λ x. in_words half width x && is_race S q (t / 2) (event x)) → found_in f ≡ share_of S q t
   unfolding share_of from_of to_of
   second_share f e h = h ∙ sym (rw (ne_eqb (t % 2) 0 e))
 
@@ -90,15 +90,16 @@ module _ (count : ℕ) (boards words : List ℕ) (code t : ℕ) (so_far : Race) 
     unfolding looked_from can_be_held
     event_found x s = rw (eq-eqb so_far.found 0 z, le-leb count messages_most few, lt-ltb code channels known, lt-ltb t (2 * count) l, s)
 
-    module _ (rule : Rule) (f : Found) (same : rule_in rule ≡ race_rule_of code) (s : found_in f ≡ share_of (scenario_in count boards words) (rule_in rule) t) where
-      share_is : (o : Option ℕ) → found_in f ≡ o → the_share ≡ o
-      share_is o h = ap (λ (k : RaceRule). share_of (scenario_in count boards words) k t) (sym same) ∙ sym s ∙ h
+    module _ (rule : Rule) (same : rule_in rule ≡ race_rule_of code) where
+      share_is : (o : Option ℕ) → o ≡ share_of (scenario_in count boards words) (rule_in rule) t → the_share ≡ o
+      share_is o s = ap (λ (k : RaceRule). share_of (scenario_in count boards words) k t) (sym same) ∙ sym s
 
-      pub looks_nothing : f ≡ found.Nothing → Looks count boards words code t so_far so_far
-      looks_nothing i = record { exact = sym (nothing (share_is none (ap found_in i))) }
+      pub looks_nothing : none ≡ share_of (scenario_in count boards words) (rule_in rule) t → Looks count boards words code t so_far so_far
+      looks_nothing s = record { exact = sym (nothing (share_is none s)) }
 
-      pub looks_finds : (x : ℕ) → f ≡ found.Event x → Looks count boards words code t so_far (record { found = 1; message = t / 2; event = x })
-      looks_finds x i = record { exact = sym (event_found x (share_is (some x) (ap found_in i))) }
+      pub looks_finds : (x : ℕ) → some x ≡ share_of (scenario_in count boards words) (rule_in rule) t
+          → Looks count boards words code t so_far (record { found = 1; message = t / 2; event = x })
+      looks_finds x s = record { exact = sym (event_found x (share_is (some x) s)) }
 
   -- so a turn of a job that holds a scenario takes its search one turn on
   pub looks_on : (r : Race) → Looks count boards words code t so_far r → count ≤ messages_most → code < channels → t < 2 * count
@@ -118,9 +119,9 @@ module _ (count : ℕ) (boards words : List ℕ) (code t : ℕ) (so_far : Race) 
           ap race_in (event_found z few known l x s) ∙ sym (searched_some _ _ t x (sym e ∙ yet) s)
 
 -- the event found is one of the scenario's
-pub found_below : (S : Scenario) (q : RaceRule) (t : ℕ) (f : Found) (x : ℕ) → found_in f ≡ share_of S q t → f ≡ found.Event x → x < 2 * S.count
+pub found_below : (S : Scenario) (q : RaceRule) (t x : ℕ) → some x ≡ share_of S q t → x < 2 * S.count
 unfolding share_of
-found_below S q t f x s i = (lowest_some (2 * S.count) _ x (sym s ∙ ap found_in i)).below
+found_below S q t x s = (lowest_some (2 * S.count) _ x (sym s)).below
 
 -- ---- all turns together
 module _ (S : Scenario) (q : RaceRule) where

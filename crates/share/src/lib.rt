@@ -6,14 +6,14 @@ ghost use Rattle.model.specs.Limits.{messages_most};
 ghost use Rattle.model.specs.Bounded.{lowest};
 ghost use Rattle.model.specs.Order.{event};
 ghost use Rattle.model.specs.Race.{is_race};
+ghost use Rattle.outcome.specs.Options.{found_in};
 ghost use Rattle.relation.specs.Width.{width, word_bits};
-ghost use Rattle.relation.specs.Own.{found_in};
 ghost use Rattle.relation.specs.Scenario.{scenario_in};
 ghost use Rattle.race.specs.Bridge.{rule_in};
 ghost use Rattle.share.specs.Search.{in_words, share_of, Looks};
 
 use race::Rule;
-use relation::{Found, WIDTH, WORD_BITS};
+use relation::{WIDTH, WORD_BITS};
 
 // The words of a row that the first of a message's two turns looks at.
 const HALF: usize = WIDTH / 2;
@@ -27,12 +27,6 @@ pub struct Race {
     pub event: u32,
 }
 
-fn wide(bits: u32) -> usize
-    ensures { result ≡ bits }
-{
-    bits as usize
-}
-
 // The lowest event that races with message e, among those of words from .. to - 1 of a row.
 fn lowest_between(
     words: &[u64],
@@ -42,7 +36,7 @@ fn lowest_between(
     e: usize,
     from: usize,
     to: usize,
-) -> Found
+) -> Option<usize>
     requires width_in_bounds { (word_bits * width ≤ length boards.now) × (2 * count * width ≤ length words.now) }
     requires e_lt_count { (e < count) × (count ≤ messages_most) × (to ≤ width) }
     ensures { found_in result ≡ lowest (2 * count) (λ x. in_words from to x && is_race (scenario_in count boards.now words.now) (rule_in rule) e (event x)) }
@@ -50,14 +44,14 @@ fn lowest_between(
     for w in from..to {
         let word = race::race_word_unmasked(words, boards, count, rule, e, w);
         if word != 0 {
-            return Found::Event(WORD_BITS * w + wide(u64::trailing_zeros(word)));
+            return Some(WORD_BITS * w + word.trailing_zeros() as usize);
         }
     }
-    Found::Nothing
+    None
 }
 
 // The share of turn t: the lowest event that races with message t / 2, in the half of its row that the turn looks at.
-fn share(words: &[u64], boards: &[u8], count: usize, rule: Rule, t: usize) -> Found
+fn share(words: &[u64], boards: &[u8], count: usize, rule: Rule, t: usize) -> Option<usize>
     requires width_in_bounds { (word_bits * width ≤ length boards.now) × (2 * count * width ≤ length words.now) }
     requires t_bound { (t < 2 * count) × (count ≤ messages_most) }
     ensures { found_in result ≡ share_of (scenario_in count boards.now words.now) (rule_in rule) t }
@@ -94,10 +88,9 @@ pub fn looked(
         return earlier;
     }
     let rule = race::rule_of(code);
-    let found = share(words, boards, count, rule, t);
-    match found {
-        Found::Nothing => earlier,
-        Found::Event(x) => Race {
+    match share(words, boards, count, rule, t) {
+        None => earlier,
+        Some(x) => Race {
             found: 1,
             message: (t / 2) as u32,
             event: x as u32,

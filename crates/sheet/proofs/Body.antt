@@ -9,6 +9,10 @@ use mathlib.Core.Option.{Option, none, some}
 use borrow.Author.Tests.{eqb-true}
 use lib.Dec.{eqb}
 use lib.ListN.{length, get_or, drop}
+use Rattle.std.specs.Prelude.{Result, Ok, Err}
+use Rattle.outcome.specs.declared.Reason.TheVariants.{Absent}
+use Rattle.outcome.specs.declared.Refusal.{Refusal}
+use Rattle.outcome.specs.Refusals.{refused_in}
 use Rattle.model.specs.Limits.{rows_most, messages_most}
 use Rattle.model.specs.Bounded.{among}
 use Rattle.model.specs.Refusal.{Out, ok, refusal, and_then, absent_refusal}
@@ -18,23 +22,15 @@ use Rattle.model.specs.Place.{outside, line_of, rows_from, opens, absent_call, c
 use Rattle.relation.specs.Width.{width}
 use Rattle.place.specs.Stand.{is_open}
 use Rattle.presence.specs.AbsentCalls.{calls_absent, absent_in, absent_at, presence_in}
-use Rattle.presence.specs.declared.Presence.{Presence}
-use Rattle.presence.specs.declared.Presence.TheVariants.{Complete, Absent}
 use Rattle.sheet.specs.Bridge.{row_from, rows_at, rows_of, outcome_of, starts_of, store_of, Sized, KeptOn}
-use Rattle.sheet.specs.Store.{verdict_on, BodyAs}
-use Rattle.sheet.specs.declared.Verdict.{Verdict}
-use Rattle.sheet.specs.declared.Verdict.TheVariants.{Rows, Refused}
+use Rattle.sheet.specs.Store.{BodyAs}
 use Rattle.sheet.proofs.Reading.{read_from, fresh}
 use Rattle.sheet.proofs.Simulation.{rows_refused_holds, rows_read, starts_same, open_same}
 
--- the verdict, by the sheets that are there
-pub verdict_absent : (f : Presence) (line count : ℕ) → f ≡ Absent line → Refused absent_refusal line ≡ verdict_on f count
-unfolding verdict_on
-verdict_absent f line count e = rw e
-
-pub verdict_complete : (f : Presence) (count : ℕ) → f ≡ Complete → Rows count ≡ verdict_on f count
-unfolding verdict_on
-verdict_complete f count e = rw e
+-- the verdict on so many rows, by the sheets that are there
+abbrev pub verdict_on : Result (Unit {0}) Refusal → ℕ → Result ℕ Refusal
+verdict_on (Ok u) count = Ok count
+verdict_on (Err r) count = Err r
 
 -- Calls by the columns, and by the rows: a sheet has a start exactly when it is present.
 module _ (starts present : List ℕ) (agree : (n : ℕ) → is_open starts n ≡ among n present) where
@@ -69,13 +65,13 @@ module _ (starts present : List ℕ) (agree : (n : ℕ) → is_open starts n ≡
 -- the verdict on the columns is that on their rows
 complete_in : (kind one two starts : List ℕ) (count : ℕ) → ((n : ℕ) → is_open starts n ≡ among n (opens (rows_of kind one two count)))
     → outcome_of (verdict_on (presence_in kind one two starts count) count) kind one two ≡ complete (rows_of kind one two count)
-unfolding presence_in absent_at complete verdict_on
+unfolding presence_in absent_at complete
 complete_in kind one two starts count agree =
     rw (absent_in_holds starts (opens (rows_of kind one two count)) agree kind one two count 0, agree 0)
     (go (among 0 (opens (rows_of kind one two count))) (absent_call (opens (rows_of kind one two count)) 0 (rows_of kind one two count)))
   where
     go : (t : Bool) (o : Option ℕ)
-        → outcome_of (verdict_on (cond t (absent_at o) (Absent 0)) count) kind one two
+        → outcome_of (verdict_on (cond t (absent_at o) (Err (record { reason = Absent; line = 0 }))) count) kind one two
         ≡ cond t (elim o [ none ↦ ok (rows_of kind one two count) | some line ↦ refusal absent_refusal line ]) (refusal absent_refusal 0)
     go true none = refl
     go true (some line) = refl
@@ -83,10 +79,10 @@ complete_in kind one two starts count agree =
 
 complete_kept : (kind one two start : List ℕ) (count : ℕ) → (count ≤ rows_most) × Sized (store_of kind one two start)
     → KeptOn (store_of kind one two start) (verdict_on (presence_in kind one two start count) count)
-unfolding presence_in absent_at verdict_on
+unfolding presence_in absent_at
 complete_kept kind one two start count h = go (is_open start 0) (absent_in kind one two start 0 count)
   where
-    go : (t : Bool) (o : Option ℕ) → KeptOn (store_of kind one two start) (verdict_on (cond t (absent_at o) (Absent 0)) count)
+    go : (t : Bool) (o : Option ℕ) → KeptOn (store_of kind one two start) (verdict_on (cond t (absent_at o) (Err (record { reason = Absent; line = 0 }))) count)
     go true none = h
     go true (some line) = tt
     go false o = tt
@@ -110,19 +106,19 @@ module _ (choices : Bool) (c : Columns) (text : List ℕ) (first : ℕ) (kind on
   abbrev lines : List Line
   lines = lines_of (drop first text)
 
-  pub body_refused : (number line : ℕ) → read_from choices c 0 (fresh words) lines ≡ refusal number line → BodyAs choices c text first (store_of kind one two start) (Refused number line)
+  pub body_refused : (r : Refusal) → read_from choices c 0 (fresh words) lines ≡ refused_in r → BodyAs choices c text first (store_of kind one two start) (Err r)
   unfolding and_then
-  body_refused number line e =
-      let o : and_then (rows_from choices c 0 outside lines) complete ≡ refusal number line = rw (rows_refused_holds choices c lines words long number line e) in
-      record { outcome = sym o; starts = λ rs h. no_rows _ number line rs o h; kept = tt }
+  body_refused r e =
+      let o : and_then (rows_from choices c 0 outside lines) complete ≡ refused_in r = rw (rows_refused_holds choices c lines words long _ r.line e) in
+      record { outcome = sym o; starts = λ rs h. no_rows _ _ r.line rs o h; kept = tt }
 
-  pub body_complete : (count : ℕ) (r : Verdict) → read_from choices c 0 (fresh words) lines ≡ ok (record { rows = rows_of kind one two count; starts = start })
+  pub body_complete : (count : ℕ) (r : Result ℕ Refusal) → read_from choices c 0 (fresh words) lines ≡ ok (record { rows = rows_of kind one two count; starts = start })
       → count ≤ rows_most → Sized (store_of kind one two start) → r ≡ verdict_on (presence_in kind one two start count) count → BodyAs choices c text first (store_of kind one two start) r
   unfolding and_then
   body_complete count r e few sized h =
       let o : and_then (rows_from choices c 0 outside lines) complete ≡ complete (rows_of kind one two count) = rw (rows_read choices c lines words long _ e) in
       record {
-        outcome = ap (λ (x : Verdict). outcome_of x kind one two) h ∙ complete_in kind one two start count (open_same choices c lines words long _ e) ∙ sym o;
+        outcome = ap (λ (x : Result ℕ Refusal). outcome_of x kind one two) h ∙ complete_in kind one two start count (open_same choices c lines words long _ e) ∙ sym o;
         starts = λ rs g. starts_same choices c lines words long _ e ∙ ap starts_of (complete_rows (rows_of kind one two count) rs (sym o ∙ g));
-        kept = subst (λ (x : Verdict). KeptOn (store_of kind one two start) x) (sym h) (complete_kept kind one two start count (few, sized));
+        kept = subst (λ (x : Result ℕ Refusal). KeptOn (store_of kind one two start) x) (sym h) (complete_kept kind one two start count (few, sized));
       }

@@ -6,15 +6,16 @@ use mathlib.Core.Path.{◌≡◌, refl, sym, ◌∙◌, ap, subst}
 use mathlib.Core.Bool.{Bool}
 use mathlib.Core.List.{List}
 use lib.ListN.{length, get_or, drop}
+use Rattle.std.specs.Prelude.{Result, Ok, Err}
+use Rattle.outcome.specs.declared.Refusal.{Refusal}
+use Rattle.outcome.specs.Refusals.{refused_in}
 use Rattle.model.specs.Limits.{sheets, rows_most}
-use Rattle.model.specs.Refusal.{ok, refusal}
+use Rattle.model.specs.Refusal.{ok}
 use Rattle.model.specs.Rows.{Row}
 use Rattle.model.specs.Place.{read_with}
 use Rattle.model.proofs.Closure.{cells_at}
 pub use Rattle.place.proofs.Letters.{row_sheet, row_message, row_order, row_call, row_choice, row_block}
 use Rattle.sheet.specs.Bridge.{rows_at, rows_of, start_in, starts_of, outcome_of, store_of, Sized, KeptOn, ReadAs}
-use Rattle.sheet.specs.declared.Verdict.{Verdict}
-use Rattle.sheet.specs.declared.Verdict.TheVariants.{Rows, Refused}
 
 pub rows_length : (kind one two : List ℕ) (i n : ℕ) → length (rows_at kind one two i n) ≡ n
 unfolding rows_at
@@ -35,20 +36,20 @@ pub start_at : (rs : List Row) (n : ℕ) → n < sheets → get_or (starts_of rs
 start_at rs n h = cells_at sheets (start_in rs) n 0 h
 
 -- a reading, by its verdict
-module _ (choices : Bool) (text kind one two start : List ℕ) (v : Verdict) (p : ReadAs choices text kind one two start v) where
-  pub refused_is : (number line : ℕ) → v ≡ Refused number line → read_with choices text ≡ refusal number line
-  refused_is number line e = sym p.outcome ∙ ap (λ (x : Verdict). outcome_of x kind one two) e
+module _ (choices : Bool) (text kind one two start : List ℕ) (v : Result ℕ Refusal) (p : ReadAs choices text kind one two start v) where
+  pub refused_is : (r : Refusal) → v ≡ Err r → read_with choices text ≡ refused_in r
+  refused_is r e = sym p.outcome ∙ ap (λ (x : Result ℕ Refusal). outcome_of x kind one two) e
 
-  module _ (count : ℕ) (e : v ≡ Rows count) where
+  module _ (count : ℕ) (e : v ≡ Ok count) where
     pub rows_are : read_with choices text ≡ ok (rows_of kind one two count)
-    rows_are = sym p.outcome ∙ ap (λ (x : Verdict). outcome_of x kind one two) e
+    rows_are = sym p.outcome ∙ ap (λ (x : Result ℕ Refusal). outcome_of x kind one two) e
 
     pub starts_are : start ≡ starts_of (rows_of kind one two count)
     starts_are = p.starts (rows_of kind one two count) rows_are
 
     kept_all : (count ≤ rows_most) × Sized (store_of kind one two start)
     kept_all =
-        let q : KeptOn (store_of kind one two start) (Rows count) = subst (λ (x : Verdict). KeptOn (store_of kind one two start) x) e p.kept in
+        let q : KeptOn (store_of kind one two start) (Ok count) = subst (λ (x : Result ℕ Refusal). KeptOn (store_of kind one two start) x) e p.kept in
         q
 
     pub count_most : count ≤ rows_most

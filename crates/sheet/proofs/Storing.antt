@@ -3,11 +3,15 @@ use Prim.Native.Nat.{ℕ, zero, suc, ◌+◌, ◌-◌, ◌*◌, ◌≤◌, ◌<�
 use native.Mathlib.Nat.{add-zero, zero-add}
 use native.Mathlib.Numerals.{add-one}
 use native.Mathlib.Omega.{arith}
-use mathlib.Core.Path.{◌≡◌, refl, sym, ◌∙◌, ap, subst}
+use mathlib.Core.Path.{◌≡◌, refl, sym, ◌∙◌, ap}
 use mathlib.Core.Bool.{Bool}
 use mathlib.Core.List.{List, [], ◌∷◌, ◌++◌}
 use lib.ListN.{length, get_or, drop, set, replicate, length-set, length-replicate, drop_of_length-le}
 use lib.Seq.{get_or-set_same, get_or-set_other}
+use Rattle.std.specs.Prelude.{Result, Ok, Err}
+use Rattle.outcome.specs.declared.Reason.{Reason}
+use Rattle.outcome.specs.declared.Refusal.{Refusal}
+use Rattle.outcome.specs.Refusals.{number_in}
 use Rattle.model.specs.Limits.{sheets, rows_most, messages_most}
 use Rattle.model.specs.Refusal.{Out, ok, refusal}
 use Rattle.model.specs.Text.{Line, Columns, lines_of}
@@ -18,15 +22,11 @@ use Rattle.line.proofs.Lines.{lines_at}
 use Rattle.relation.specs.Width.{width}
 use Rattle.row.specs.Judged.{Reader, reader_of, judged_by, StepAs}
 use Rattle.row.specs.declared.Step.{Step}
-use Rattle.row.specs.declared.Step.TheVariants as step
 use Rattle.presence.specs.AbsentCalls.{presence_in}
-use Rattle.presence.specs.declared.Presence.{Presence}
 use Rattle.sheet.specs.Bridge.{row_from, rows_at, rows_of, store_of, Sized}
-use Rattle.sheet.specs.Store.{verdict_on, BodyAs}
-use Rattle.sheet.specs.declared.Verdict.{Verdict}
-use Rattle.sheet.specs.declared.Verdict.TheVariants as verdict
+use Rattle.sheet.specs.Store.{BodyAs}
 use Rattle.sheet.proofs.Reading.{Kept, ahead_of, read_from, fresh}
-use Rattle.sheet.proofs.Body.{body_refused, body_complete}
+use Rattle.sheet.proofs.Body.{verdict_on, body_refused, body_complete}
 
 -- rows ahead of the one that is stored, and that one
 rows_set : (kind one two : List ℕ) (row k a b i n : ℕ) → i + n ≤ row
@@ -110,74 +110,70 @@ loop_begin choices c text first kind one two start words h z l =
       read = refl;
     }
 
-module _ (choices : Bool) (c : Columns) (text : List ℕ) (first at row messages : ℕ) (kind one two start boards lent words start' boards' words' : List ℕ) (r : Step)
-    (p : StepAs choices c text at row (reader_of start boards messages words) start' boards' words' r)
+module _ (choices : Bool) (c : Columns) (text : List ℕ) (first at row messages : ℕ) (kind one two start boards lent words start' boards' words' : List ℕ)
     (v : Looping choices c text first at row messages kind one two start boards lent words) (h : at < length text) where
   -- what is read, with the line at the position ahead of the others
   read_line : read_from choices c 0 (fresh lent) (lines_of (drop first text))
       ≡ ahead_all (rows_of kind one two row) (read_from choices c row (reader_of start boards messages words) (first_line (drop at text) ∷ lines_of (behind_line (drop at text))))
   read_line = v.read ∙ ap (λ (ls : List Line). ahead_all (rows_of kind one two row) (read_from choices c row (reader_of start boards messages words) ls)) (lines_at text at h)
 
-  pub loop_refused : (number : ℕ) → r ≡ step.Refused number → BodyAs choices c text first (store_of kind one two start') (verdict.Refused number (row + 2))
-  loop_refused number e =
-      let p' : StepAs choices c text at row (reader_of start boards messages words) start' boards' words' (step.Refused number) =
-      subst (λ (x : Step). StepAs choices c text at row (reader_of start boards messages words) start' boards' words' x) e p in
-      body_refused choices c text first kind one two start' lent v.all_lent number (line_of row)
-      (read_line ∙ ap (ahead_all (rows_of kind one two row)) (read_refused choices c row _ _ _ number (line_of row) p'.step)
+  pub loop_refused : (reason : Reason) → StepAs choices c text at row (reader_of start boards messages words) start' boards' words' (Err reason)
+      → BodyAs choices c text first (store_of kind one two start') (Err (record { reason = reason; line = row + 2 }))
+  loop_refused reason p =
+      let number : ℕ = number_in reason in
+      body_refused choices c text first kind one two start' lent v.all_lent (record { reason = reason; line = row + 2 })
+      (read_line ∙ ap (ahead_all (rows_of kind one two row)) (read_refused choices c row _ _ _ number (line_of row) p.step)
       ∙ ahead_refused (rows_of kind one two row) number (line_of row))
 
-  module _ (k a b next after : ℕ) (e : r ≡ step.Row k a b next after) where
-    stepped : StepAs choices c text at row (reader_of start boards messages words) start' boards' words' (step.Row k a b next after)
-    stepped = subst (λ (x : Step). StepAs choices c text at row (reader_of start boards messages words) start' boards' words' x) e p
-
+  module _ (s : Step) (stepped : StepAs choices c text at row (reader_of start boards messages words) start' boards' words' (Ok s)) where
     pub loop_room : row < rows_most
     loop_room = stepped.on.room
 
-    pub loop_further : length text - next < length text - at
+    pub loop_further : length text - s.next < length text - at
     loop_further = omega (arith, stepped.on.onward.further, stepped.on.onward.inside)
 
-    rows_more : rows_of (set kind row k) (set one row a) (set two row b) (suc row) ≡ rows_of kind one two row ++ (row_from k a b ∷ [])
+    rows_more : rows_of (set kind row s.kind) (set one row s.one) (set two row s.two) (suc row) ≡ rows_of kind one two row ++ (row_from s.kind s.one s.two ∷ [])
     rows_more =
-        rows_snoc (set kind row k) (set one row a) (set two row b) 0 row
+        rows_snoc (set kind row s.kind) (set one row s.one) (set two row s.two) 0 row
         ∙ rw (
           zero-add row,
-          rows_set kind one two row k a b 0 row (omega arith),
-          get_or-set_same kind row k 0 (omega (arith, loop_room, v.sized.kind)),
-          get_or-set_same one row a 0 (omega (arith, loop_room, v.sized.one)),
-          get_or-set_same two row b 0 (omega (arith, loop_room, v.sized.two)),
+          rows_set kind one two row s.kind s.one s.two 0 row (omega arith),
+          get_or-set_same kind row s.kind 0 (omega (arith, loop_room, v.sized.kind)),
+          get_or-set_same one row s.one 0 (omega (arith, loop_room, v.sized.one)),
+          get_or-set_same two row s.two 0 (omega (arith, loop_room, v.sized.two)),
         )
 
-    pub loop_more : Looping choices c text first next (row + 1) after (set kind row k) (set one row a) (set two row b) start' boards' lent words'
+    pub loop_more : Looping choices c text first s.next (row + 1) s.messages (set kind row s.kind) (set one row s.one) (set two row s.two) start' boards' lent words'
     loop_more =
         let on = stepped.on in
-        let rest : Out Kept = read_from choices c (suc row) (reader_of start' boards' after words') (lines_of (drop next text)) in
-        let new : read_from choices c row (reader_of start boards messages words) (first_line (drop at text) ∷ lines_of (behind_line (drop at text))) ≡ ahead_of (row_from k a b) rest =
-        read_ok choices c row _ _ _ (row_from k a b) (reader_of start' boards' after words') stepped.step
-        ∙ ap (λ (l : List ℕ). ahead_of (row_from k a b) (read_from choices c (suc row) (reader_of start' boards' after words') (lines_of l))) (sym on.onward.behind) in
+        let rest : Out Kept = read_from choices c (suc row) (reader_of start' boards' s.messages words') (lines_of (drop s.next text)) in
+        let new : read_from choices c row (reader_of start boards messages words) (first_line (drop at text) ∷ lines_of (behind_line (drop at text))) ≡ ahead_of (row_from s.kind s.one s.two) rest =
+        read_ok choices c row _ _ _ (row_from s.kind s.one s.two) (reader_of start' boards' s.messages words') stepped.step
+        ∙ ap (λ (l : List ℕ). ahead_of (row_from s.kind s.one s.two) (read_from choices c (suc row) (reader_of start' boards' s.messages words') (lines_of l))) (sym on.onward.behind) in
         record {
           inside = on.onward.inside;
           few = on.few;
           count = omega (arith, on.room);
           sized = record {
-            kind = length-set kind row k ∙ v.sized.kind;
-            one = length-set one row a ∙ v.sized.one;
-            two = length-set two row b ∙ v.sized.two;
+            kind = length-set kind row s.kind ∙ v.sized.kind;
+            one = length-set one row s.one ∙ v.sized.one;
+            two = length-set two row s.two ∙ v.sized.two;
             start = on.all_starts;
           };
           all_boards = on.all_boards;
           all_lent = v.all_lent;
           all_words = on.all_words;
-          read = rw (add-one row) (read_line ∙ ap (ahead_all (rows_of kind one two row)) new ∙ sym (ahead_snoc (rows_of kind one two row) (row_from k a b) rest)
+          read = rw (add-one row) (read_line ∙ ap (ahead_all (rows_of kind one two row)) new ∙ sym (ahead_snoc (rows_of kind one two row) (row_from s.kind s.one s.two) rest)
               ∙ ap (λ (l : List Row). ahead_all l rest) (sym rows_more));
         }
 
-pub loop_done : (choices : Bool) (c : Columns) (text : List ℕ) (first at row messages : ℕ) (kind one two start boards lent words : List ℕ) (f : Presence) (r : Verdict)
-    → Looping choices c text first at row messages kind one two start boards lent words → length text ≤ at → f ≡ presence_in kind one two start row → r ≡ verdict_on f row
-    → BodyAs choices c text first (store_of kind one two start) r
+pub loop_done : (choices : Bool) (c : Columns) (text : List ℕ) (first at row messages : ℕ) (kind one two start boards lent words : List ℕ) (f : Result (Unit {0}) Refusal)
+    → Looping choices c text first at row messages kind one two start boards lent words → length text ≤ at → f ≡ presence_in kind one two start row
+    → BodyAs choices c text first (store_of kind one two start) (verdict_on f row)
 unfolding read_from lines_of
-loop_done choices c text first at row messages kind one two start boards lent words f r v h g e =
+loop_done choices c text first at row messages kind one two start boards lent words f v h g =
     let d : drop at text ≡ [] = drop_of_length-le text h in
-    body_complete choices c text first kind one two start lent v.all_lent row r
+    body_complete choices c text first kind one two start lent v.all_lent row (verdict_on f row)
     (v.read ∙ ap (λ (l : List ℕ). ahead_all (rows_of kind one two row) (read_from choices c row (reader_of start boards messages words) (lines_of l))) d
     ∙ ahead_all_holds (rows_of kind one two row) start)
-    v.count v.sized (e ∙ ap (λ (x : Presence). verdict_on x row) g)
+    v.count v.sized (ap (λ (x : Result (Unit {0}) Refusal). verdict_on x row) g)

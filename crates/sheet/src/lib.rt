@@ -6,21 +6,23 @@ ghost use Rattle.model.specs.Limits.{messages_most};
 ghost use Rattle.relation.specs.Width.{width};
 ghost use Rattle.heading.specs.Names.{Below, columns_from};
 ghost use Rattle.sheet.specs.Bridge.{store_of, Sized, ReadAs};
-ghost use Rattle.sheet.specs.Store.{verdict_on, BodyAs};
+ghost use Rattle.sheet.specs.Store.{BodyAs};
 
-use heading::{Columns, Heading};
+use heading::Columns;
 use model::{EVENTS_MOST, ROWS_MOST, SHEETS};
-use presence::Presence;
-use row::Step;
+use outcome::{Reason, Refusal};
 
-// So many rows; or the refusal's number and line.
+// The rows that were read, in three columns of so many, and at `start[n]` the number of the row behind `S n`.
 #[derive(Clone, Copy)]
-pub enum Verdict {
-    Rows(usize),
-    Refused(u8, usize),
+pub struct Rows<'a> {
+    pub kind: &'a [u8],
+    pub one: &'a [u16],
+    pub two: &'a [u16],
+    pub count: usize,
+    pub start: &'a [u16],
 }
 
-// Reads a text, with or without A rows let through, into three columns of `Rows(count)` rows, and notes at `start[n]` the number of the row behind `S n` (0: no sheet n).
+// Reads a text, with or without A rows let through, into three columns of as many rows as it hands back, and notes at `start[n]` the number of the row behind `S n` (0: no sheet n).
 // The words hold the open block's order while it is read. What columns and words are lent with does not matter.
 pub fn read(
     text: &[u8],
@@ -30,24 +32,29 @@ pub fn read(
     two: &mut [u16; ROWS_MOST],
     start: &mut [u16; SHEETS],
     words: &mut [u64],
-) -> Verdict
+) -> Result<usize, Refusal>
     requires { Sized (store_of kind.old one.old two.old start.old) × (length words.old ≡ 2 * messages_most * width) }
     ensures { ReadAs choices text.now kind.new one.new two.new start.new result }
 {
-    if text.len() == 0 {
-        return Verdict::Refused(model::LENGTH, 0);
+    if text.is_empty() || model::TEXT_MOST < text.len() {
+        return Err(Reason::Length.at(0));
     }
-    if model::TEXT_MOST < text.len() {
-        return Verdict::Refused(model::LENGTH, 0);
-    }
-    let Heading::Named(columns, first) = heading::heading_of(text) else {
-        return Verdict::Refused(model::HEADING, 1);
-    };
-    rows(text, first, choices, columns, kind, one, two, start, words)
+    let heading = heading::heading_of(text).ok_or(Reason::Heading.at(1))?;
+    read_rows(
+        text,
+        heading.first_row,
+        choices,
+        heading.columns,
+        kind,
+        one,
+        two,
+        start,
+        words,
+    )
 }
 
 // All rows from `first` on, which is behind the heading.
-fn rows(
+fn read_rows(
     text: &[u8],
     first: usize,
     choices: bool,
@@ -57,7 +64,7 @@ fn rows(
     two: &mut [u16; ROWS_MOST],
     start: &mut [u16; SHEETS],
     words: &mut [u64],
-) -> Verdict
+) -> Result<usize, Refusal>
     requires { (first ≤ length text.now) × Below columns × Sized (store_of kind.old one.old two.old start.old) × (length words.old ≡ 2 * messages_most * width) }
     ensures { BodyAs choices (columns_from columns) text.now first (store_of kind.new one.new two.new start.new) result }
 {
@@ -66,8 +73,9 @@ fn rows(
     let mut at = first;
     let mut row = 0;
     let mut messages = 0;
+    // Not a `for`: each row says where the next begins.
     while at < text.len() {
-        let s = row::take_row(
+        let taken = row::take_row(
             text,
             at,
             row,
@@ -78,29 +86,18 @@ fn rows(
             &mut boards,
             words,
         );
-        match s {
-            Step::Refused(number) => {
-                return Verdict::Refused(number, row + model::FIRST_LINE);
-            }
-            Step::Row(k, a, b, next, after) => {
-                kind[row] = k;
-                one[row] = a;
-                two[row] = b;
-                at = next;
-                row += 1;
-                messages = after;
-            }
-        }
+        // A row is refused at its line.
+        let step = match taken {
+            Ok(step) => step,
+            Err(reason) => return Err(reason.at(row + model::FIRST_LINE)),
+        };
+        kind[row] = step.kind;
+        one[row] = step.one;
+        two[row] = step.two;
+        at = step.next;
+        row += 1;
+        messages = step.messages;
     }
-    verdict_on(presence::complete(row, kind, one, two, start), row)
-}
-
-// The verdict on so many rows, by whether every sheet that they need is there.
-fn verdict_on(presence: Presence, count: usize) -> Verdict
-    ensures { result ≡ verdict_on presence count }
-{
-    match presence {
-        Presence::Absent(line) => Verdict::Refused(model::ABSENT, line),
-        Presence::Complete => Verdict::Rows(count),
-    }
+    presence::complete(row, kind, one, two, start)?;
+    Ok(row)
 }

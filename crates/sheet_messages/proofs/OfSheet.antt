@@ -6,7 +6,7 @@ use mathlib.Core.List.{List, [], ◌∷◌, ◌++◌}
 use lib.ListN.{length, get_or, take, drop, get_or-append}
 use lib.Seq.{length-take-le, get_or-take}
 use Rattle.model.specs.Limits.{messages_most, rows_most}
-use Rattle.model.specs.Refusal.{Out, ok, refusal}
+use Rattle.model.specs.Refusal.{Out, ok}
 use Rattle.model.specs.Place.{line_of}
 use Rattle.model.specs.Order.{Scenario}
 use Rattle.model.specs.Answer.{sheet_of}
@@ -14,12 +14,13 @@ use Rattle.model.specs.Senders.{lines_met}
 use Rattle.model.specs.Holdings.{HoldingNumbers, messages_told, messages_answer, messages_left}
 use Rattle.model.proofs.Lines.{Well, sheet_well}
 use Rattle.relation.specs.Scenario.{scenario_in}
-use Rattle.expansion.specs.declared.Expanded.{Expanded}
-use Rattle.expansion.specs.declared.Expanded.TheVariants as expanded
+use Rattle.std.specs.Prelude.{Ok, Err}
+use Rattle.outcome.specs.declared.Refusal.{Refusal}
+use Rattle.outcome.specs.Refusals.{refused_in}
 use Rattle.scenario.specs.Contract.{SheetIn}
 use Rattle.scenario.proofs.Laws.{sheet_refused, sheet_is, sheet_fits}
 use Rattle.message_lines.proofs.Counted.{lines_count}
-use Rattle.sheet_messages.specs.Listing.{listed_as, refused_as, Told, Lists}
+use Rattle.sheet_messages.specs.Listing.{numbers_for, Told, Lists}
 
 -- only the lines of the messages told matter
 told_alike : (n : ℕ) (lines others : List ℕ) (S : Scenario) → ((m : ℕ) → m < n → get_or lines m 0 ≡ get_or others m 0) → messages_told n lines S ≡ messages_told n others S
@@ -35,37 +36,37 @@ lists_from : (text output output_exit : List ℕ) (r : HoldingNumbers) (o : Out 
 lists_from text output output_exit r o e a l =
     record { answer = a ∙ ap messages_answer (sym e); output_left = l ∙ ap (λ (p : Out Scenario). messages_left p (lines_met text) output) (sym e) }
 
-module _ (text boards words : List ℕ) (v : Expanded) (p : SheetIn text boards words v) where
-  module _ (number line : ℕ) (i : v ≡ expanded.Refused number line) where
-    is : sheet_of text ≡ refusal number line
-    is = sheet_refused text boards words v p number line i
+module _ (text boards words : List ℕ) where
+  module _ (e : Refusal) (p : SheetIn text boards words (Err e)) where
+    is : sheet_of text ≡ refused_in e
+    is = sheet_refused text boards words (Err e) p e refl
 
-    pub refusal_line : line ≤ line_of rows_most
-    refusal_line = let w : Well {A = Scenario} (line_of rows_most) (refusal number line) = subst (λ (o : Out Scenario). Well (line_of rows_most) o) is (sheet_well text) in omega (arith, w.within)
+    pub refusal_line : e.line ≤ line_of rows_most
+    refusal_line = let w : Well {A = Scenario} (line_of rows_most) (refused_in e) = subst (λ (o : Out Scenario). Well (line_of rows_most) o) is (sheet_well text) in omega (arith, w.within)
 
-    pub lists_refused : (output : List ℕ) (r : HoldingNumbers) → r ≡ refused_as number line → Lists text output output r
+    pub lists_refused : (output : List ℕ) → Lists text output output (numbers_for (Err e))
     unfolding messages_answer messages_left
-    lists_refused output r e = lists_from text output output r (refusal number line) is e refl
+    lists_refused output = lists_from text output output (numbers_for (Err e)) (refused_in e) is refl refl
 
-  module _ (count : ℕ) (i : v ≡ expanded.Messages count) where
+  module _ (count : ℕ) (p : SheetIn text boards words (Ok count)) where
     abbrev S : Scenario
     S = scenario_in count boards words
 
     lines_many : length (lines_met text) ≡ count
-    lines_many = lines_count text S (sheet_is text boards words v p count i)
+    lines_many = lines_count text S (sheet_is text boards words (Ok count) p count refl)
 
     pub messages_few : count ≤ messages_most
-    messages_few = (sheet_fits text boards words v p count i).few
+    messages_few = (sheet_fits text boards words (Ok count) p count refl).few
 
     pub lines_asked : count ≤ length (lines_met text)
     lines_asked = omega (arith, lines_many)
 
-    pub lists_told : (lines given output now : List ℕ) (r : HoldingNumbers) → lines ≡ take count (lines_met text) ++ drop count given
-        → Told lines boards output count now → r ≡ listed_as count → Lists text output now r
+    pub lists_told : (lines given output now : List ℕ) → lines ≡ take count (lines_met text) ++ drop count given
+        → Told lines boards output count now → Lists text output now (numbers_for (Ok count))
     unfolding messages_answer messages_left
-    lists_told lines given output now r e t a =
+    lists_told lines given output now e t =
         let long : length (take count (lines_met text)) ≡ count = length-take-le count (lines_met text) lines_asked in
         let same : (m : ℕ) → m < count → get_or lines m 0 ≡ get_or (lines_met text) m 0
         = λ m h. ap (λ (l : List ℕ). get_or l m 0) e ∙ get_or-append (take count (lines_met text)) (drop count given) 0 m (omega arith) ∙ get_or-take count (lines_met text) m 0 h in
-        lists_from text output now r (ok S) (sheet_is text boards words v p count i) a
+        lists_from text output now (numbers_for (Ok count)) (ok S) (sheet_is text boards words (Ok count) p count refl) refl
         (t.told count words ∙ ap (λ (l : List ℕ). l ++ drop (3 * count) output) (told_alike count lines (lines_met text) S same))

@@ -77,9 +77,3 @@ module _ (lines boards output : List ℕ) (count m : ℕ) (now : List ℕ) (t : 
   all_told h =
       let e : m ≡ count = omega (arith, t.so_far) in
       record { told = λ k words. t.told.told k words ∙ ap (λ (n : ℕ). messages_told n lines (scenario_in k boards words) ++ drop (3 * n) output) e }
-
--- the boards of a message are stored as they are read
-pub boards_stored : (out : List ℕ) (n k i line a b sender receiver : ℕ) → a ≡ sender → b ≡ receiver
-    → set (set (set out n line) k a) i b ≡ set (set (set out n line) k sender) i receiver
-boards_stored out n k i line a b sender receiver e f =
-    ap (λ (x : ℕ). set (set (set out n line) k x) i b) e ∙ ap (λ (x : ℕ). set (set (set out n line) k sender) i x) f

@@ -16,7 +16,10 @@ use Rattle.model.proofs.Holdings.{messages_listed}
 use Rattle.relation.specs.Rows.{cleared}
 use Rattle.relation.proofs.Cleared.{cleared_all}
 use Rattle.scenario.proofs.Laws.{scratch_behind_holds}
-use Rattle.sheet_messages.specs.Listing.{refused_as, Lists}
+use Rattle.std.specs.Prelude.{Err}
+use Rattle.outcome.specs.declared.Reason.TheVariants.{Bench}
+use Rattle.outcome.specs.declared.Refusal.{Refusal}
+use Rattle.sheet_messages.specs.Listing.{numbers_for, Lists}
 
 -- What is answered, and left in the buffers, as the model says of the call accepted or refused.
 listed_from : (text scratch scratch_exit output output_exit : List ℕ) (r : HoldingNumbers) (o : Out Scenario)
@@ -28,16 +31,19 @@ listed_from text scratch scratch_exit output output_exit r o e a s l =
 
 -- What each return is to show: refusal 2 for a short buffer, else what the sheet gives.
 module _ (text scratch output : List ℕ) where
-  refuses_bench : (r : HoldingNumbers) → r ≡ refused_as bench_refusal 0 → listable text (length scratch) (length output) ≡ refusal bench_refusal 0
-      → MessagesListed text scratch scratch output output r
+  refuses_bench : (r : Refusal) → r ≡ record { reason = Bench; line = 0 } → listable text (length scratch) (length output) ≡ refusal bench_refusal 0
+      → MessagesListed text scratch scratch output output (numbers_for (Err r))
   unfolding scratch_behind messages_answer messages_left
-  refuses_bench r a e = listed_from text scratch scratch output output r (refusal bench_refusal 0) e a refl refl
+  refuses_bench r a e =
+      rw a (listed_from text scratch scratch output output (numbers_for (Err (record { reason = Bench; line = 0 }))) (refusal bench_refusal 0) e refl refl refl)
 
-  pub refuses_scratch : (r : HoldingNumbers) → r ≡ refused_as bench_refusal 0 → length scratch < scratch_least → MessagesListed text scratch scratch output output r
+  pub refuses_scratch : (r : Refusal) → r ≡ record { reason = Bench; line = 0 } → length scratch < scratch_least
+      → MessagesListed text scratch scratch output output (numbers_for (Err r))
   unfolding listable
   refuses_scratch r a l = refuses_bench r a (rw (lt-ltb (length scratch) scratch_least l))
 
-  pub refuses_output : (r : HoldingNumbers) → r ≡ refused_as bench_refusal 0 → length output < message_numbers_least → MessagesListed text scratch scratch output output r
+  pub refuses_output : (r : Refusal) → r ≡ record { reason = Bench; line = 0 } → length output < message_numbers_least
+      → MessagesListed text scratch scratch output output (numbers_for (Err r))
   unfolding listable
   refuses_output r a l = refuses_bench r a (rw (lt-ltb (length output) message_numbers_least l, or-true (ltb (length scratch) scratch_least)))
 

@@ -3,15 +3,14 @@
 #![tactic(auto)]
 
 ghost use Rattle.std.specs.Prelude.{◌≡◌, ◌+◌, ◌*◌, ◌<◌, ◌≤◌, length, get_or, set};
-ghost use Rattle.model.specs.Limits.{messages_most, rows_most, message_numbers_least};
-ghost use Rattle.model.specs.Place.{line_of};
+ghost use Rattle.model.specs.Limits.{messages_most, message_numbers_least};
 ghost use Rattle.model.specs.Holdings.{MessagesListed};
 ghost use Rattle.relation.specs.Width.{width};
-ghost use Rattle.sheet_messages.specs.Listing.{numbers_in, listed_as, refused_as, Told, Lists};
+ghost use Rattle.sheet_messages.specs.Listing.{numbers_in, numbers_for, Small, Told, Lists};
 
 use answer_words::listed::{LISTED, REFUSED};
-use expansion::Expanded;
 use model::{EVENTS_MOST, MESSAGES_MOST};
+use outcome::Refusal;
 
 // The output of a sheet's messages: a line and two boards for each.
 const NUMBERS_LEAST: usize = 3 * MESSAGES_MOST;
@@ -25,35 +24,23 @@ pub struct SheetMessagesAnswer {
     pub two: u32,
 }
 
-// So many messages are listed.
-fn listed(count: usize) -> SheetMessagesAnswer
-    requires { count ≤ messages_most }
-    ensures { numbers_in result ≡ listed_as count }
+// The answer's numbers: so many messages are listed, or the refusal. Each fits 32 bits.
+fn told(answer: Result<usize, Refusal>) -> SheetMessagesAnswer
+    requires { Small answer }
+    ensures { numbers_in result ≡ numbers_for answer }
 {
-    SheetMessagesAnswer {
-        word: LISTED,
-        one: count as u32,
-        two: 0,
+    match answer {
+        Ok(count) => SheetMessagesAnswer {
+            word: LISTED,
+            one: count as u32,
+            two: 0,
+        },
+        Err(refusal) => SheetMessagesAnswer {
+            word: REFUSED,
+            one: refusal.reason.number(),
+            two: refusal.line as u32,
+        },
     }
-}
-
-// A refusal, with its number and its line.
-fn refused(number: u8, line: usize) -> SheetMessagesAnswer
-    requires { line ≤ line_of rows_most }
-    ensures { numbers_in result ≡ refused_as number line }
-{
-    SheetMessagesAnswer {
-        word: REFUSED,
-        one: number as u32,
-        two: line as u32,
-    }
-}
-
-// A board's number, as the output holds it.
-fn wide(board: u8) -> u16
-    ensures { result ≡ board }
-{
-    board as u16
 }
 
 // The three numbers of message m.
@@ -62,16 +49,9 @@ fn put(lines: &[u16; MESSAGES_MOST], boards: &[u8; EVENTS_MOST], m: usize, outpu
     requires m_in_bounds { 3 * m + 2 < length output.old }
     ensures { output.new ≡ set (set (set output.old (3 * m) (get_or lines.now m 0)) (3 * m + 1) (get_or boards.now (2 * m) 0)) (3 * m + 2) (get_or boards.now (2 * m + 1) 0) }
 {
-    let send = 2 * m;
-    let receive = send + 1;
-    let sender = wide(boards[send]);
-    let receiver = wide(boards[receive]);
-    let at = 3 * m;
-    let second = at + 1;
-    let third = at + 2;
-    output[at] = lines[m];
-    output[second] = sender;
-    output[third] = receiver;
+    output[3 * m] = lines[m];
+    output[3 * m + 1] = u16::from(boards[2 * m]);
+    output[3 * m + 2] = u16::from(boards[2 * m + 1]);
 }
 
 // The messages of a scenario, three numbers each: the line of the M row, the sender, the receiver.
@@ -80,44 +60,42 @@ fn tell(lines: &[u16; MESSAGES_MOST], boards: &[u8; EVENTS_MOST], count: usize, 
     requires message_numbers_least_in_bounds { message_numbers_least ≤ length output.old }
     ensures { Told lines.now boards.now output.old count output.new }
 {
-    let mut m = 0;
-    while m < count {
+    for m in 0..count {
         put(lines, boards, m, output);
-        m += 1;
     }
 }
 
 // A text: its scenario, whose boards are kept, then the lines of its messages, for which the words are used again.
-fn list(text: &[u8], words: &mut [u64], output: &mut [u16]) -> SheetMessagesAnswer
+fn list(text: &[u8], words: &mut [u64], output: &mut [u16]) -> Result<usize, Refusal>
     requires words_len { length words.old ≡ 2 * messages_most * width }
     requires message_numbers_least_in_bounds { message_numbers_least ≤ length output.old }
-    ensures { Lists text.now output.old output.new (numbers_in result) }
+    ensures lists { Lists text.now output.old output.new (numbers_for result) }
+    ensures small { Small result }
 {
     let mut boards = [0u8; EVENTS_MOST];
-    let outcome = scenario::scenario_of(text, &mut boards, words);
-    match outcome {
-        Expanded::Refused(number, line) => refused(number, line),
-        Expanded::Messages(count) => {
-            let mut lines = [0u16; MESSAGES_MOST];
-            message_lines::lines_of(text, count, words, &mut lines);
-            tell(&lines, &boards, count, output);
-            listed(count)
-        }
-    }
+    let count = scenario::scenario_of(text, &mut boards, words)?;
+    let mut lines = [0u16; MESSAGES_MOST];
+    message_lines::lines_of(text, count, words, &mut lines);
+    tell(&lines, &boards, count, output);
+    Ok(count)
 }
 
-// The messages of a sheet: refusal 2 touches nothing; after every other answer the scratch is cleared.
-pub fn sheet_messages(text: &[u8], scratch: &mut [u64], output: &mut [u16]) -> SheetMessagesAnswer
-    ensures { MessagesListed text.now scratch.old scratch.new output.old output.new (numbers_in result) }
+// The call: refusal 2 touches nothing; after every other answer the scratch is cleared.
+fn check(text: &[u8], scratch: &mut [u64], output: &mut [u16]) -> Result<usize, Refusal>
+    ensures listed { MessagesListed text.now scratch.old scratch.new output.old output.new (numbers_for result) }
+    ensures small { Small result }
 {
-    if scratch.len() < model::SCRATCH_LEAST {
-        return refused(model::BENCH, 0);
-    }
-    if output.len() < NUMBERS_LEAST {
-        return refused(model::BENCH, 0);
-    }
+    lent::at_least(model::SCRATCH_LEAST, scratch.len())?;
+    lent::at_least(NUMBERS_LEAST, output.len())?;
     let end = model::SCRATCH_LEAST;
     let answer = list(text, &mut scratch[..end], output);
     relation::clear(scratch, model::SCRATCH_LEAST);
     answer
+}
+
+// The messages of a sheet, with the answer's numbers for C.
+pub fn sheet_messages(text: &[u8], scratch: &mut [u64], output: &mut [u16]) -> SheetMessagesAnswer
+    ensures { MessagesListed text.now scratch.old scratch.new output.old output.new (numbers_in result) }
+{
+    told(check(text, scratch, output))
 }

@@ -13,24 +13,25 @@ use Rattle.relation.specs.Width.{width}
 use Rattle.relation.specs.Order.{before, Transitive}
 use Rattle.relation.specs.Scenario.{scenario_in}
 use Rattle.relation.proofs.Scenario.{before_at}
-use Rattle.expansion.specs.declared.Expanded.{Expanded}
-use Rattle.expansion.specs.declared.Expanded.TheVariants as expanded
+use Rattle.std.specs.Prelude.{Result, Ok, Err}
+use Rattle.outcome.specs.declared.Refusal.{Refusal}
+use Rattle.outcome.specs.declared.Reason.TheVariants.{Bench}
+use Rattle.outcome.specs.Refusals.{number_in}
 use Rattle.scenario.specs.Contract.{SheetIn}
 use Rattle.scenario.proofs.Laws.{sheet_refused, sheet_is, sheet_fits}
-use Rattle.taps.specs.declared.Answer.{Answer}
-use Rattle.taps.specs.declared.Answer.TheVariants.{Refused}
+use Rattle.taps.specs.declared.Taps.{Taps}
 use Rattle.taps.specs.Parts.{Lent, Decides, DecidesFor}
-use Rattle.taps.proofs.Deciding.{refuses}
+use Rattle.taps.proofs.Deciding.{refuses_as}
 
-module _ (text boards words : List ℕ) (v : Expanded) (p : SheetIn text boards words v) (first second output : List ℕ) where
-  pub scenario_refused : (number line : ℕ) → v ≡ expanded.Refused number line
-      → Decides first second (and_then (sheet_of text) (with_lists first second)) output output (Refused number line)
+module _ (text boards words : List ℕ) (v : Result ℕ Refusal) (p : SheetIn text boards words v) (first second output : List ℕ) where
+  pub scenario_refused : (f : Refusal) → v ≡ Err f
+      → Decides first second (and_then (sheet_of text) (with_lists first second)) output output (Err f)
   unfolding and_then
-  scenario_refused number line i =
-      refuses first second number line _ output
-      (ap (λ (o : Out Scenario). and_then o (with_lists first second)) (sheet_refused text boards words v p number line i))
+  scenario_refused f i =
+      refuses_as first second f _ output
+      (ap (λ (o : Out Scenario). and_then o (with_lists first second)) (sheet_refused text boards words v p f i))
 
-  module _ (count : ℕ) (i : v ≡ expanded.Messages count) where
+  module _ (count : ℕ) (i : v ≡ Ok count) where
     -- the relation of an accepted sheet is closed
     scenario_closed : Transitive (2 * count) (before width words)
     scenario_closed x y z hx hy hz a b =
@@ -43,7 +44,7 @@ module _ (text boards words : List ℕ) (v : Expanded) (p : SheetIn text boards 
         let F = sheet_fits text boards words v p count i in
         record { few = F.few; words_long = F.words_long; output_long = h; closed = scenario_closed }
 
-    pub scenario_decided : (behind : List ℕ) (r : Answer) → DecidesFor count words first second output behind r
+    pub scenario_decided : (behind : List ℕ) (r : Result Taps Refusal) → DecidesFor count words first second output behind r
         → Decides first second (and_then (sheet_of text) (with_lists first second)) output behind r
     unfolding and_then
     scenario_decided behind r d =

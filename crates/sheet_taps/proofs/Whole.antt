@@ -17,7 +17,11 @@ use Rattle.model.proofs.Taps.{taps_accepted_parts, taps_course}
 use Rattle.relation.specs.Rows.{cleared}
 use Rattle.relation.proofs.Cleared.{cleared_all}
 use Rattle.scenario.proofs.Laws.{scratch_behind_holds}
-use Rattle.taps.specs.declared.Answer.{Answer}
+use Rattle.taps.specs.declared.Taps.{Taps}
+use Rattle.std.specs.Prelude.{Result, Ok, Err}
+use Rattle.outcome.specs.declared.Refusal.{Refusal}
+use Rattle.outcome.specs.declared.Reason.TheVariants.{Bench}
+use Rattle.outcome.specs.Refusals.{number_in}
 use Rattle.taps.specs.Parts.{numbers_for, Decides}
 
 -- What is answered, and left in the buffers, as the model says of the call accepted or refused: then all that it says of the course holds.
@@ -44,21 +48,22 @@ checked_from text scratch scratch_exit first second output output_exit r o e i s
 
 -- What each return of `fit` is to show: refusal 2 for a short buffer, else what the sheet and the lists decide.
 module _ (text scratch first second output : List ℕ) where
-  refuses_bench : taps_accepted_of text (length scratch) first second (length output) ≡ refusal bench_refusal 0
-      → TapsChecked text scratch scratch first second output output (record { word = refused_word; one = bench_refusal; two = 0 })
+  refuses_bench : (r : Refusal) → r ≡ record { reason = Bench; line = 0 } → taps_accepted_of text (length scratch) first second (length output) ≡ refusal bench_refusal 0
+      → TapsChecked text scratch scratch first second output output (numbers_for (Err r))
   unfolding scratch_behind tapped_for output_after
-  refuses_bench e = checked_from text scratch scratch first second output output _ (refusal bench_refusal 0) e refl refl refl
+  refuses_bench r i e =
+      checked_from text scratch scratch first second output output _ (refusal bench_refusal 0) e (ap (λ (q : Refusal). numbers_for (Err q)) i) refl refl
 
-  pub refuses_scratch : length scratch < scratch_least
-      → TapsChecked text scratch scratch first second output output (record { word = refused_word; one = bench_refusal; two = 0 })
+  pub refuses_scratch : (r : Refusal) → r ≡ record { reason = Bench; line = 0 } → length scratch < scratch_least
+      → TapsChecked text scratch scratch first second output output (numbers_for (Err r))
   unfolding taps_accepted_of
-  refuses_scratch l = refuses_bench (rw (lt-ltb (length scratch) scratch_least l))
+  refuses_scratch r i l = refuses_bench r i (rw (lt-ltb (length scratch) scratch_least l))
 
-  pub refuses_output : length output < tap_numbers_least
-      → TapsChecked text scratch scratch first second output output (record { word = refused_word; one = bench_refusal; two = 0 })
+  pub refuses_output : (r : Refusal) → r ≡ record { reason = Bench; line = 0 } → length output < tap_numbers_least
+      → TapsChecked text scratch scratch first second output output (numbers_for (Err r))
   unfolding taps_accepted_of
-  refuses_output l =
-      refuses_bench (rw (lt-ltb (length output) tap_numbers_least l, or-true (ltb (length scratch) scratch_least)))
+  refuses_output r i l =
+      refuses_bench r i (rw (lt-ltb (length output) tap_numbers_least l, or-true (ltb (length scratch) scratch_least)))
 
   -- refusal 20 is behind the sheet's, so the lists do not change what is left in the scratch
   scratch_same : (o : Out Scenario) → scratch_behind o scratch ≡ scratch_behind (and_then o (with_lists first second)) scratch
@@ -71,7 +76,7 @@ module _ (text scratch first second output : List ℕ) where
       go true false = refl
       go false b = refl
 
-  pub answers : (scratch_exit output_exit used : List ℕ) (n : ℕ) (r : Answer) (w : ℕ) → scratch_least ≤ length scratch → tap_numbers_least ≤ length output
+  pub answers : (scratch_exit output_exit used : List ℕ) (n : ℕ) (r : Result Taps Refusal) (w : ℕ) → scratch_least ≤ length scratch → tap_numbers_least ≤ length output
       → length used ≡ n → n ≤ scratch_least → scratch_exit ≡ cleared w (used ++ drop n scratch) → w ≡ scratch_least
       → Decides first second (and_then (sheet_of text) (with_lists first second)) output output_exit r
       → TapsChecked text scratch scratch_exit first second output output_exit (numbers_for r)

@@ -9,8 +9,8 @@ ghost use Rattle.model.specs.Taps.{with_lists, TapsChecked};
 ghost use Rattle.relation.specs.Width.{width};
 ghost use Rattle.taps.specs.Parts.{numbers_for, Decides};
 
-use expansion::Expanded;
-use taps::Answer;
+use outcome::Refusal;
+use taps::Taps;
 
 // A text: its scenario, in the words of the relation, and what is decided of it with the lists.
 fn judge(
@@ -19,17 +19,14 @@ fn judge(
     first: &[u16],
     second: &[u16],
     output: &mut [u16],
-) -> Answer
+) -> Result<Taps, Refusal>
     requires words_len { length words.old ≡ 2 * messages_most * width }
     requires tap_numbers_least_in_bounds { tap_numbers_least ≤ length output.old }
     ensures { Decides first.now second.now (and_then (sheet_of text.now) (with_lists first.now second.now)) output.old output.new result }
 {
     let mut boards = [0u8; model::EVENTS_MOST];
-    let outcome = scenario::scenario_of(text, &mut boards, words);
-    match outcome {
-        Expanded::Refused(number, line) => Answer::Refused(number, line),
-        Expanded::Messages(count) => taps::decide(words, count, first, second, output),
-    }
+    let count = scenario::scenario_of(text, &mut boards, words)?;
+    taps::decide(words, count, first, second, output)
 }
 
 // Whether both lists fit one course of events: refusal 2 touches nothing; behind every other answer the scratch is cleared.
@@ -39,15 +36,11 @@ pub fn fit(
     first: &[u16],
     second: &[u16],
     output: &mut [u16],
-) -> Answer
+) -> Result<Taps, Refusal>
     ensures { TapsChecked text.now scratch.old scratch.new first.now second.now output.old output.new (numbers_for result) }
 {
-    if scratch.len() < model::SCRATCH_LEAST {
-        return Answer::Refused(model::BENCH, 0);
-    }
-    if output.len() < model::TAP_NUMBERS_LEAST {
-        return Answer::Refused(model::BENCH, 0);
-    }
+    lent::at_least(model::SCRATCH_LEAST, scratch.len())?;
+    lent::at_least(model::TAP_NUMBERS_LEAST, output.len())?;
     let end = model::SCRATCH_LEAST;
     let answer = judge(text, &mut scratch[..end], first, second, output);
     relation::clear(scratch, model::SCRATCH_LEAST);

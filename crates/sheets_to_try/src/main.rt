@@ -7,7 +7,6 @@ ghost use Rattle.std.specs.Prelude.{◌≤◌, length};
 
 use answer_words::checked::{FREE, LOCKED, REFUSED};
 use answers::ChannelCheckAnswer;
-use input::Input;
 use std::io;
 use std::io::Write;
 
@@ -17,26 +16,24 @@ const LIST_MOST: usize = 8192;
 // Room for a text that is too long.
 const ROOM: usize = model::TEXT_MOST + 256;
 
-const LINE_END: u8 = 10;
-
-// What must come: the word and the three numbers.
+// What must come: the word, where the line names one, and the three numbers.
 #[derive(Clone, Copy)]
 struct Expected {
-    word: u32,
+    word: Option<u32>,
     one: u32,
     two: u32,
     three: u32,
 }
 
-// The place of the first such byte from there on; the end of the text where there is none.
-fn find(text: &[u8], at: usize, byte: u8) -> usize
-    requires { at ≤ length text.now }
+// The end of the field that starts there: its space, or the end of the line.
+fn field_end(line: &[u8], at: usize) -> usize
+    requires { at ≤ length line.now }
     ensures from { at ≤ result }
-    ensures within { result ≤ length text.now }
+    ensures within { result ≤ length line.now }
 {
-    match text[at..].iter().position(|b| *b == byte) {
+    match line[at..].iter().position(|b| *b == b' ') {
         Some(ahead) => at + ahead,
-        None => text.len(),
+        None => line.len(),
     }
 }
 
@@ -45,40 +42,27 @@ fn behind_field(line: &[u8], at: usize) -> usize
     requires { at ≤ length line.now }
     ensures { result ≤ length line.now }
 {
-    let end = find(line, at, b' ');
-    if end < line.len() { end + 1 } else { end }
+    (field_end(line, at) + 1).min(line.len())
 }
 
-// The number of the word that starts there; 3, which no answer has, of any other.
-fn word_at(line: &[u8], at: usize) -> u32 {
-    if line.len() <= at {
-        return 3;
-    }
-    match line[at] {
-        b'f' => FREE,
-        b'l' => LOCKED,
-        b'r' => REFUSED,
-        _ => 3,
+// The number of the word that starts there, if one does.
+fn word_at(line: &[u8], at: usize) -> Option<u32> {
+    match line.get(at) {
+        Some(b'f') => Some(FREE),
+        Some(b'l') => Some(LOCKED),
+        Some(b'r') => Some(REFUSED),
+        _ => None,
     }
 }
 
 // The number that starts there. None in the list has more than four digits.
 fn number_at(line: &[u8], at: usize) -> u32 {
     let mut value = 0;
-    let mut i = at;
-    while i < line.len() {
-        let digit = line[i];
-        if digit < b'0' {
+    for digit in line.iter().skip(at) {
+        if !digit.is_ascii_digit() || 9999 < value {
             return value;
         }
-        if b'9' < digit {
-            return value;
-        }
-        if 9999 < value {
-            return value;
-        }
-        value = value * 10 + (digit - b'0') as u32;
-        i += 1;
+        value = value * 10 + u32::from(*digit - b'0');
     }
     value
 }
@@ -111,15 +95,14 @@ fn behind_answer(line: &[u8], at: usize) -> usize
 }
 
 fn is_expected(a: ChannelCheckAnswer, must: Expected) -> bool {
-    a.word == must.word && a.one == must.one && a.two == must.two && a.three == must.three
+    Some(a.word) == must.word && a.one == must.one && a.two == must.two && a.three == must.three
 }
 
-// Whether it came, behind what it is. False where that could not be printed, which is then told.
-fn tell(rt: &HostRuntime, what: &[u8], came: bool) -> bool {
+// Whether it came, behind what it is. Nothing where that could not be printed, which is then told.
+fn tell(rt: &HostRuntime, what: &[u8], came: bool) -> Option<()> {
     let printed = print_came(&mut rt.stdout(), what, came);
-    let taken = printed.is_ok();
     printing::conclude(&mut rt.stderr(), printed);
-    taken
+    printed.ok()
 }
 
 fn print_came<W: Write>(out: &mut W, what: &[u8], came: bool) -> io::Result<()> {
@@ -147,8 +130,8 @@ fn came_of(text: &[u8], line: &[u8], from: usize) -> bool
     requires { from ≤ length line.now }
 {
     let mut at = from;
-    for code in 0..model::CHANNELS {
-        if !is_expected(answer_on(text, code as u32), expected_at(line, at)) {
+    for code in 0..model::CHANNELS as u32 {
+        if !is_expected(answer_on(text, code), expected_at(line, at)) {
             return false;
         }
         at = behind_answer(line, at);
@@ -156,31 +139,21 @@ fn came_of(text: &[u8], line: &[u8], from: usize) -> bool
     true
 }
 
-// A line of the list: a file's name, and what must come. False where the file cannot be read, or the line not be printed.
-fn show(rt: &HostRuntime, line: &[u8]) -> bool {
+// A line of the list: a file's name, and what must come. Nothing where the file cannot be read, or the line not be printed.
+fn show(rt: &HostRuntime, line: &[u8]) -> Option<()> {
     let mut text = [0u8; ROOM];
-    let end = find(line, 0, b' ');
+    let end = field_end(line, 0);
     let from = behind_field(line, 0);
-    match input::read_file(rt, &mut rt.stderr(), &line[..end], &mut text) {
-        Input::Failed => false,
-        Input::Read(n) => tell(rt, line, came_of(&text[..n], line, from)),
-    }
+    let n = input::read_file(rt, &mut rt.stderr(), &line[..end], &mut text)?;
+    tell(rt, line, came_of(&text[..n], line, from))
 }
 
 // Each line of the list, up to one that fails.
-fn show_all(rt: &HostRuntime, list: &[u8]) -> bool {
-    let mut at = 0;
-    while at < list.len() {
-        let end = find(list, at, LINE_END);
-        if !show(rt, &list[at..end]) {
-            return false;
-        }
-        if end == list.len() {
-            return true;
-        }
-        at = end + 1;
+fn show_all(rt: &HostRuntime, list: &[u8]) -> Option<()> {
+    for line in list.split_inclusive(|b| *b == b'\n') {
+        show(rt, line.strip_suffix(b"\n").unwrap_or(line))?;
     }
-    true
+    Some(())
 }
 
 // A sheet without messages on a channel, with these buffers: free, or refused with so much.
@@ -191,10 +164,10 @@ fn show_lent(
     scratch: &mut [u64],
     trace: &mut [u8],
     number: u32,
-) -> bool {
+) -> Option<()> {
     let a = channel_check::channel_check(b"kind one two\nS 0 0\n", code, scratch, trace);
     let must = Expected {
-        word: if number == 0 { FREE } else { REFUSED },
+        word: Some(if number == 0 { FREE } else { REFUSED }),
         one: number,
         two: 0,
         three: 0,
@@ -203,39 +176,43 @@ fn show_lent(
 }
 
 // The same with the least buffers that are enough.
-fn show_enough(rt: &HostRuntime, what: &[u8], code: u32, number: u32) -> bool {
+fn show_enough(rt: &HostRuntime, what: &[u8], code: u32, number: u32) -> Option<()> {
     let mut scratch = [0u64; model::SCRATCH_LEAST];
     let mut trace = [0u8; model::TRACE_LEAST];
     show_lent(rt, what, code, &mut scratch, &mut trace, number)
 }
 
 // A word of scratch too few; and a byte of trace.
-fn show_short_scratch(rt: &HostRuntime) -> bool {
+fn show_short_scratch(rt: &HostRuntime) -> Option<()> {
     let mut scratch = [0u64; model::SCRATCH_LEAST - 1];
     let mut trace = [0u8; model::TRACE_LEAST];
     show_lent(rt, b"4095 words: refused 2", 0, &mut scratch, &mut trace, 2)
 }
 
-fn show_short_trace(rt: &HostRuntime) -> bool {
+fn show_short_trace(rt: &HostRuntime) -> Option<()> {
     let mut scratch = [0u64; model::SCRATCH_LEAST];
     let mut trace = [0u8; model::TRACE_LEAST - 1];
     show_lent(rt, b"1535 bytes: refused 2", 0, &mut scratch, &mut trace, 2)
 }
 
 // The limits of what is lent.
-fn show_limits(rt: &HostRuntime) -> bool {
-    show_enough(rt, b"channel 5: free", 5, 0)
-        && show_enough(rt, b"channel 6: refused 1", 6, 1)
-        && show_enough(rt, b"4096 words and 1536 bytes: free", 0, 0)
-        && show_short_scratch(rt)
-        && show_short_trace(rt)
+fn show_limits(rt: &HostRuntime) -> Option<()> {
+    show_enough(rt, b"channel 5: free", 5, 0)?;
+    show_enough(rt, b"channel 6: refused 1", 6, 1)?;
+    show_enough(rt, b"4096 words and 1536 bytes: free", 0, 0)?;
+    show_short_scratch(rt)?;
+    show_short_trace(rt)
+}
+
+// The list, and behind it the limits.
+fn show_list(rt: &HostRuntime) -> Option<()> {
+    let mut list = [0u8; LIST_MOST];
+    let n = input::read_file(rt, &mut rt.stderr(), b"list", &mut list)?;
+    show_all(rt, &list[..n])?;
+    show_limits(rt)
 }
 
 fn main(rt: HostRuntime) {
-    let mut list = [0u8; LIST_MOST];
-    if let Input::Read(n) = input::read_file(&rt, &mut rt.stderr(), b"list", &mut list) {
-        if show_all(&rt, &list[..n]) {
-            show_limits(&rt);
-        }
-    }
+    // What failed was told.
+    let _ = show_list(&rt);
 }

@@ -56,34 +56,38 @@ module _ (done : List ℕ) (count : ℕ) where
   pub finishing_starts : Finishing 0
   finishing_starts = passing_start count _
 
-  pub send_undone : (m : ℕ) (t : Bool) → not t ≡ true → t ≡ holds width done 0 (2 * m) → m < count → false ≡ all_done count done
-  send_undone m t f h l = failing count _ m l (rw (← h, not-true t f))
+  pub send_undone : (m : ℕ) (t : Bool) → t ≡ false → t ≡ holds width done 0 (2 * m) → m < count → false ≡ all_done count done
+  send_undone m t f h l = failing count _ m l (rw (← h, f))
 
-  pub receive_undone : (m : ℕ) (t : Bool) → not t ≡ true → t ≡ holds width done 0 (2 * m + 1) → m < count → false ≡ all_done count done
-  receive_undone m t f h l = failing count _ m l (rw (← h, not-true t f) (and_false (in_row done (2 * m))))
+  pub receive_undone : (m : ℕ) (t : Bool) → t ≡ false → t ≡ holds width done 0 (2 * m + 1) → m < count → false ≡ all_done count done
+  receive_undone m t f h l = failing count _ m l (rw (← h, f) (and_false (in_row done (2 * m))))
 
-  pub both_done : (m : ℕ) (t u : Bool) → not t ≡ false → t ≡ holds width done 0 (2 * m) → not u ≡ false → u ≡ holds width done 0 (2 * m + 1)
+  pub both_done : (m : ℕ) (t u : Bool) → t ≡ true → t ≡ holds width done 0 (2 * m) → u ≡ true → u ≡ holds width done 0 (2 * m + 1)
       → m < count → Finishing m → Finishing (m + 1)
   both_done m t u f h g k l P =
-      passing_more count _ m P l (and_both (in_row done (2 * m)) (in_row done (2 * m + 1)) (sym h ∙ not-false t f) (sym k ∙ not-false u g))
+      passing_more count _ m P l (and_both (in_row done (2 * m)) (in_row done (2 * m + 1)) (sym h ∙ f) (sym k ∙ g))
 
   pub all_done_holds : (m : ℕ) → Finishing m → count ≤ m → true ≡ all_done count done
   all_done_holds m P l = passing_end count _ m P l
 
+pub no_value : (p v : Bool) → p ≡ true → v ≡ not p → v ≡ true → ⊥
+no_value true v e f g = cc
+no_value false v e f g = cc
+
 -- What each return of `is_held_up` is to show.
 module _ (count : ℕ) (on words : List ℕ) (c : Channel) (done way rows : List ℕ) where
   module _ (m : ℕ) where
-    pub may_send : (r : Bool) → r ≡ true → SaysIn count on words c done way rows (step.Send m) r → SaysNoStep count on words c done way rows m false
-    may_send r t h run d w s = rw (← h run d w s, t)
+    pub may_send : (p v : Bool) → p ≡ true → v ≡ false → SaysIn count on words c done way rows (step.Send m) p → SaysNoStep count on words c done way rows m v
+    may_send p v e i h run d w s = rw (i, ← h run d w s, e)
 
-    pub may_deliver : (q r : Bool) → q ≡ false → r ≡ true → SaysIn count on words c done way rows (step.Send m) q
-        → SaysIn count on words c done way rows (step.Deliver m) r → SaysNoStep count on words c done way rows m false
-    may_deliver q r f t g h run d w s = rw (← g run d w s, ← h run d w s, f, t)
+    pub may_deliver : (p q v : Bool) → p ≡ false → v ≡ not q → v ≡ false → SaysIn count on words c done way rows (step.Send m) p
+        → SaysIn count on words c done way rows (step.Deliver m) q → SaysNoStep count on words c done way rows m v
+    may_deliver p q v e f i g h run d w s = rw (i, ← g run d w s, ← h run d w s, e, sym f ∙ i)
 
-    pub may_consume : (p q r : Bool) → p ≡ false → q ≡ false → SaysIn count on words c done way rows (step.Send m) p
+    pub may_consume : (p q r v : Bool) → p ≡ false → v ≡ not q → v ≡ true → SaysIn count on words c done way rows (step.Send m) p
         → SaysIn count on words c done way rows (step.Deliver m) q → SaysIn count on words c done way rows (step.Consume m) r
         → SaysNoStep count on words c done way rows m (not r)
-    may_consume p q r e f g h i run d w s = rw (← g run d w s, ← h run d w s, ← i run d w s, e, f)
+    may_consume p q r v e f j g h i run d w s = rw (← g run d w s, ← h run d w s, ← i run d w s, e, sym f ∙ j)
 
 -- the search for a message that may move, in every run with these parts
 module _ (count : ℕ) (on words : List ℕ) (c : Channel) (done way rows : List ℕ) where

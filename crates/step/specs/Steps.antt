@@ -1,21 +1,20 @@
 -- From the code's steps to the model's. Assumes nothing.
 use Rattle.std.proofs.Math.Option.{Option, none, some}
-use Rattle.std.specs.Prelude.{ℕ, ◌+◌, ◌*◌}
+use Rattle.std.specs.Prelude as code
+use Rattle.std.specs.Prelude.{ℕ, Some, None, ◌+◌, ◌*◌}
 use Rattle.model.specs.Run as model
 use Rattle.model.specs.Schedule.{message_of_step}
 use Rattle.step.specs.declared.Step.{Step}
 use Rattle.step.specs.declared.Step.TheVariants as step
-use Rattle.step.specs.declared.StepOrNone.{StepOrNone}
-use Rattle.step.specs.declared.StepOrNone.TheVariants as maybe
 
 abbrev pub step_in : Step → model.Step
 step_in (step.Send m) = model.send m
 step_in (step.Deliver m) = model.deliver m
 step_in (step.Consume m) = model.consume m
 
-abbrev pub step_or_none : StepOrNone → Option model.Step
-step_or_none (maybe.Step s) = some (step_in s)
-step_or_none maybe.Nothing = none
+abbrev pub step_or_none : code.Option Step → Option model.Step
+step_or_none (Some s) = some (step_in s)
+step_or_none None = none
 
 abbrev pub message_in : Step → ℕ
 message_in s = message_of_step (step_in s)

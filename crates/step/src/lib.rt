@@ -23,12 +23,6 @@ pub enum Step {
     Consume(usize),
 }
 
-#[derive(Clone, Copy)]
-pub enum StepOrNone {
-    Step(Step),
-    Nothing,
-}
-
 impl Step {
     // The byte of its kind.
     pub fn kind(self) -> u8
@@ -67,14 +61,14 @@ impl Step {
     }
 
     // The step that a kind and a message tell; any other kind is no step.
-    pub fn told(kind: usize, m: usize) -> StepOrNone
+    pub fn told(kind: usize, m: usize) -> Option<Step>
         ensures { step_or_none result ≡ step_told kind m }
     {
         match kind {
-            SEND => StepOrNone::Step(Step::Send(m)),
-            DELIVER => StepOrNone::Step(Step::Deliver(m)),
-            CONSUME => StepOrNone::Step(Step::Consume(m)),
-            _ => StepOrNone::Nothing,
+            SEND => Some(Step::Send(m)),
+            DELIVER => Some(Step::Deliver(m)),
+            CONSUME => Some(Step::Consume(m)),
+            _ => None,
         }
     }
 }

@@ -40,11 +40,9 @@ pub fn takes(words: &[u64], boards: &[u8], count: usize, e: usize, class: Class,
     let send = 2 * m;
     let receive = send + 1;
     match class {
-        Class::AnyConsume => true,
+        Class::AnyConsume | Class::AnyDelivery | Class::AnySend => true,
         Class::DeliveryOf => m == e,
         Class::NeededDelivery => relation::test(words, needing, receive),
         Class::NeededSend => at_or_before::at_or_before(words, boards, count, send, needing),
-        Class::AnyDelivery => true,
-        Class::AnySend => true,
     }
 }

@@ -31,6 +31,12 @@ use Rattle.rules.specs.Rules.{free_in, BufferRow, SaysSendRule, SaysDeliverRule}
 use Rattle.rules.proofs.Conditions.{free_says}
 use Rattle.step_rules.specs.Steps.{held_up, SaysFree, SaysRow}
 
+-- an event that is done, or waits, is not ready
+unready : (r : Readiness) → (r ≡ Ready → ⊥) → ready_of (readiness_in r) ≡ false
+unready Ready f = absurd (f refl)
+unready Done f = refl
+unready (Waits k) f = refl
+
 module _ (count : ℕ) (on words masks : List ℕ) (standing : Standing count on words masks) (m : ℕ) (inside : m < count) where
   module _ (c : Channel) (way : List ℕ) where
     module _ (done : List ℕ) where
@@ -41,16 +47,9 @@ module _ (count : ℕ) (on words masks : List ℕ) (standing : Standing count on
           ready_reads (scenario_in count on words) (state_of run) (send_of m)
           ∙ ap ready_of (subst (λ (x : Event). readiness (scenario_in count on words) (state_of run) x ≡ readiness_in r) (send_event m) (sym (h run d)))
 
-      send_unready : (r : Readiness) → ready_of (readiness_in r) ≡ false → SaysReadiness count on words done (2 * m) r
-          → SaysFree count on words c done way (Send m) false
+      pub send_unready : (r : Readiness) → (r ≡ Ready → ⊥) → SaysReadiness count on words done (2 * m) r → SaysFree count on words c done way (Send m) false
       unfolding allowed
-      send_unready r f h run d w free = rw (lt-ltb m count inside, send_read r h run d, f)
-
-      pub send_done : (r : Readiness) → r ≡ Done → SaysReadiness count on words done (2 * m) r → SaysFree count on words c done way (Send m) false
-      send_done r e h = send_unready r (ap (λ (q : Readiness). ready_of (readiness_in q)) e) h
-
-      pub send_waits : (r : Readiness) (k : ℕ) → r ≡ Waits k → SaysReadiness count on words done (2 * m) r → SaysFree count on words c done way (Send m) false
-      send_waits r k e h = send_unready r (ap (λ (q : Readiness). ready_of (readiness_in q)) e) h
+      send_unready r f h run d w free = rw (lt-ltb m count inside, send_read r h run d, unready r f)
 
       pub send_ruled : (r : Readiness) (u : Bool) → SaysSendRule words masks c.to_send way m u → r ≡ Ready → SaysReadiness count on words done (2 * m) r
           → SaysFree count on words c done way (Send m) u
@@ -89,17 +88,14 @@ module _ (count : ℕ) (on words masks : List ℕ) (standing : Standing count on
         ∙ ap ready_of (subst (λ (x : Event). readiness (scenario_in count on words) (state_of run) x ≡ readiness_in u) (receive_event m) (sym (h run d)))))
 
     module _ (r : Bool) (u : Readiness) (h : SaysReadiness count on words done (2 * m + 1) u) (p : r ≡ true) (e : r ≡ holds width held y (2 * m)) where
-      told : (t : Readiness) → u ≡ t → (c : Channel) (way : List ℕ) → SaysRow count on words c done way held y (Consume m) (ready_of (readiness_in t))
-      told t i = subst (λ (q : Readiness). (c : Channel) (way : List ℕ) → SaysRow count on words c done way held y (Consume m) (ready_of (readiness_in q))) i (consume_read r u h p e)
+      told : (t : Bool) → ready_of (readiness_in u) ≡ t → (c : Channel) (way : List ℕ) → SaysRow count on words c done way held y (Consume m) t
+      told t i = subst (λ (b : Bool). (c : Channel) (way : List ℕ) → SaysRow count on words c done way held y (Consume m) b) i (consume_read r u h p e)
 
       pub consume_ready : u ≡ Ready → (c : Channel) (way : List ℕ) → SaysRow count on words c done way held y (Consume m) true
-      consume_ready i = told Ready i
+      consume_ready i = told true (ap (λ (q : Readiness). ready_of (readiness_in q)) i)
 
-      pub consume_done : u ≡ Done → (c : Channel) (way : List ℕ) → SaysRow count on words c done way held y (Consume m) false
-      consume_done i = told Done i
-
-      pub consume_waits : (k : ℕ) → u ≡ Waits k → (c : Channel) (way : List ℕ) → SaysRow count on words c done way held y (Consume m) false
-      consume_waits k i = told (Waits k) i
+      pub consume_unready : (u ≡ Ready → ⊥) → (c : Channel) (way : List ℕ) → SaysRow count on words c done way held y (Consume m) false
+      consume_unready f = told false (unready u f)
 
 -- The step at hand is one of the three: so is its message.
 pub inside : (at : ℕ → Step) (step : Step) (m count : ℕ) → step ≡ at m → message_in step < count → message_in (at m) < count
@@ -137,14 +133,3 @@ module _ (count : ℕ) (on words masks : List ℕ) (standing : Standing count on
   never (Send m) up run d w b = rw (unfree run (get_or on (2 * m) 0) b up, and-false)
   never (Deliver m) up run d w b = rw (unfree run (get_or on (2 * m + 1) 0) b up, and-false)
   never (Consume m) up run d w b = not_both false up refl
-
--- what each return of `held_up` is to show
-module _ (eager : Bool) (masks held : List ℕ) (y : ℕ) (step : Step) (m : ℕ) where
-  pub held_up_send : (t : Bool) → t ≡ free_in eager masks held y → step ≡ Send m → not t ≡ held_up eager masks held y step
-  held_up_send t g i = ap not g ∙ ap (held_up eager masks held y) (sym i)
-
-  pub held_up_delivery : (t : Bool) → t ≡ free_in eager masks held y → step ≡ Deliver m → not t ≡ held_up eager masks held y step
-  held_up_delivery t g i = ap not g ∙ ap (held_up eager masks held y) (sym i)
-
-  pub not_held_up : step ≡ Consume m → false ≡ held_up eager masks held y step
-  not_held_up i = ap (held_up eager masks held y) (sym i)

@@ -3,7 +3,7 @@ use mathlib.Core.Path.{◌≡◌, refl, sym, ◌∙◌, ap}
 use mathlib.Core.Bool.{Bool, true, false, not, ◌&&◌, ◌||◌}
 use Prim.Native.Nat.{ℕ, suc, ◌+◌, ◌*◌, ◌<◌, ◌≤◌}
 use native.Mathlib.Omega.{arith}
-use borrow.Author.Tests.{le-leb, lt-leb, not-false, eq-eqb, ne_eqb}
+use borrow.Author.Tests.{le-leb, lt-leb, not-false}
 use lib.Dec.{eqb, leb}
 use Rattle.model.specs.Limits.{boards, messages_most}
 use Rattle.model.specs.Bounded.{every, any, how_many}
@@ -47,25 +47,14 @@ passed_one run b n p e l k =
 pub passed_all : (run : Run) (b : ℕ) → Passed run b → boards ≤ b → false ≡ holds_two (state_of run)
 passed_all run b p l = let e : b ≡ boards = omega (arith, p.most) in sym (ap (λ n. any n (crowd (state_of run))) (sym e) ∙ p.none)
 
--- each part of what bars a switch
-pub eager_bars : (run : Run) (eager r : Bool) → eager ≡ true → r ≡ holds_two (state_of run) → r ≡ (eager && holds_two (state_of run))
-eager_bars run eager r e i = rw e i
-
-pub ring_bars : (run : Run) (code n : ℕ) → code ≡ 5 → n ≡ how_many messages_most (λ m. in_row run.way (2 * m))
-    → leb 2 n ≡ (eqb code 5 && is_full (state_of run))
-ring_bars run code n e i = rw (eq-eqb code 5 e) (ap (leb 2) i)
-
-pub others_pass : (run : Run) (code : ℕ) → (code ≡ 5 → ⊥) → false ≡ (eqb code 5 && is_full (state_of run))
-others_pass run code e = rw (ne_eqb code 5 e)
-
--- and both
+-- what bars a switch, by its parts
 pub barred_by_buffers : (run : Run) (code : ℕ) (c : Channel) (r : Bool) → channel_in c ≡ channel_of code → r ≡ (c.eager && holds_two (state_of run)) → r ≡ true
-    → true ≡ is_barred code (state_of run)
+    → r ≡ is_barred code (state_of run)
 unfolding is_barred
 barred_by_buffers run code c r i e t =
     let s = state_of run in
     let held : ((channel_of code).eager && holds_two s) ≡ true = ap (λ (k : model.Channel). k.eager && holds_two s) (sym i) ∙ sym e ∙ t in
-    sym (or_left _ (eqb code 5 && is_full s) held)
+    t ∙ sym (or_left _ (eqb code 5 && is_full s) held)
 
 pub barred_by_way : (run : Run) (code : ℕ) (c : Channel) (r w : Bool) → channel_in c ≡ channel_of code → r ≡ (c.eager && holds_two (state_of run)) → r ≡ false
     → w ≡ (eqb code 5 && is_full (state_of run)) → w ≡ is_barred code (state_of run)

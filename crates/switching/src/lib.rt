@@ -19,7 +19,7 @@ const TOKEN_RING: usize = 5;
 fn messages_of(word: u64) -> usize
     ensures { result ≡ how_many half_word (λ j. has word (2 * j)) }
 {
-    u64::count_ones(word & SENDS) as usize
+    (word & SENDS).count_ones() as usize
 }
 
 // How many messages a row has, as bits of their sends.
@@ -27,8 +27,8 @@ fn messages_in(row: [u64; WIDTH]) -> usize
     ensures { result ≡ how_many messages_most (λ m. in_row row (2 * m)) }
 {
     let mut count = 0;
-    for i in 0..WIDTH {
-        count += messages_of(row[i]);
+    for word in row {
+        count += messages_of(word);
     }
     count
 }
@@ -37,10 +37,8 @@ fn messages_in(row: [u64; WIDTH]) -> usize
 fn holds_two(run: Run) -> bool
     ensures { result ≡ holds_two (state_of run) }
 {
-    for board in 0..model::BOARDS {
-        let buffer = run.buffers[board];
-        let held = buffer.held;
-        if 2 <= messages_in(held) {
+    for buffer in run.buffers {
+        if 2 <= messages_in(buffer.held) {
             return true;
         }
     }
@@ -51,21 +49,14 @@ fn holds_two(run: Run) -> bool
 fn bars_buffers(run: Run, eager: bool) -> bool
     ensures { result ≡ (eager && holds_two (state_of run)) }
 {
-    if eager {
-        return holds_two(run);
-    }
-    false
+    eager && holds_two(run)
 }
 
 // Token ring has no room for two messages or more under way.
 fn bars_way(run: Run, code: usize) -> bool
     ensures { result ≡ (eqb code 5 && is_full (state_of run)) }
 {
-    if code == TOKEN_RING {
-        let way = run.way;
-        return 2 <= messages_in(way);
-    }
-    false
+    code == TOKEN_RING && 2 <= messages_in(run.way)
 }
 
 // The state bars a switch to the code.
@@ -74,8 +65,5 @@ pub fn is_barred(run: Run, code: usize) -> bool
     ensures { result ≡ is_barred code (state_of run) }
 {
     let c = channel_table::channel_of(code);
-    if bars_buffers(run, c.eager) {
-        return true;
-    }
-    bars_way(run, code)
+    bars_buffers(run, c.eager) || bars_way(run, code)
 }

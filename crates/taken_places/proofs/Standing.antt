@@ -14,6 +14,9 @@ use lib.Dec.{eqb, ltb}
 use lib.ListN.{length, get_or, take, drop, length-take, drop_of_length-le}
 use lib.Pow.{shl_exact}
 use lib.Seq.{get_or-take, drop-cons, append_snoc}
+use Rattle.std.specs.Prelude as code
+use Rattle.std.specs.Prelude.{Some, None, unwrap_or}
+use Rattle.outcome.specs.Options.{found_in}
 use Rattle.model.specs.Limits.{jobs_most}
 use Rattle.model.specs.Bounded.{among, each_once, lowest}
 use Rattle.model.specs.Dispatcher as model
@@ -27,9 +30,7 @@ use Rattle.queue.specs.declared.Queue.{Queue}
 use Rattle.queue.specs.Bridge.{job_in, jobs_in, apart_from, queue_in, PlacesOf, is_free_in, free_place_in}
 use Rattle.queue.proofs.Jobs.{jobs_more}
 use Rattle.queue.proofs.Apart.{swaps, among_first, places_snoc}
-use Rattle.taken_places.specs.declared.Place.{Place}
-use Rattle.taken_places.specs.declared.Place.TheVariants as place
-use Rattle.taken_places.specs.Places.{MayStand, TakenIn, place_in, SparePlace}
+use Rattle.taken_places.specs.Places.{MayStand, TakenIn, SparePlace}
 
 -- one bit of a word
 small_power : (p : ℕ) → p < 64 → 1 * 2 ^ p % 2 ^ 64 ≡ 2 ^ p
@@ -151,37 +152,27 @@ free_nowhere js bits place p P l =
     let e : place ≡ jobs_most = omega (arith, p.within) in
     sym (ap (λ n. lowest n (λ p. not (has bits p))) (sym e) ∙ p.nowhere) ∙ free_as js bits P
 
-module _ (js : List model.Job) (v : Place) (found : place_in v ≡ free_place_in js) where
-  pub spare_at : (p : ℕ) → v ≡ place.At p → SparePlace js p
-  spare_at p i =
-      let e : free_place_in js ≡ some p = sym found ∙ ap place_in i in
-      record { below = (lowest_some jobs_most (is_free_in js) p e).below; lowest = λ k f. let both : some p ≡ some k = sym e ∙ f in cc }
-
-  pub spare_none : v ≡ place.Nothing → SparePlace js 0
-  spare_none i =
-      record {
-        below = omega arith;
-        lowest = λ k f.
-            let both : none ≡ some k = sym (ap place_in i) ∙ found ∙ f in
-            let z : ◌≡◌ {A = ℕ} 0 1 = cc in
-            absurd (omega arith);
-      }
+-- the lowest free place, or 0
+pub spare_of : (js : List model.Job) (v : code.Option ℕ) → found_in v ≡ free_place_in js → SparePlace js (unwrap_or v 0)
+spare_of js (Some p) found =
+    record { below = (lowest_some jobs_most (is_free_in js) p (sym found)).below; lowest = λ k f. let both : some p ≡ some k = found ∙ f in cc }
+spare_of js None found =
+    record {
+      below = omega arith;
+      lowest = λ k f.
+          let both : none ≡ some k = found ∙ f in
+          let z : ◌≡◌ {A = ℕ} 0 1 = cc in
+          absurd (omega arith);
+    }
 
 -- ---- a place may be taken
 module _ (taken place : ℕ) where
-  pub stands_not : jobs_most ≤ place → MayStand taken place false
-  stands_not l = record { is = sym (rw (le-ltb place jobs_most l)) }
+  pub stands_not : jobs_most ≤ place → MayStand taken place (ltb place jobs_most)
+  stands_not l = record { is = rw (le-ltb place jobs_most l) }
 
-  pub stands_taken : place < jobs_most → bit_and (taken / 2 ^ place) 1 ≡ 1 → MayStand taken place false
+  pub stands_so : place < jobs_most → MayStand taken place (not (eqb (bit_and (taken / 2 ^ place) 1) 1))
   unfolding has
-  stands_taken l e =
-      let one : taken / 2 ^ place % 2 ≡ 1 = sym (and_mask (taken / 2 ^ place) 1) ∙ e in
-      record { is = sym (rw (lt-ltb place jobs_most l, eq-eqb (taken / 2 ^ place % 2) 1 one)) }
-
-  pub stands_free : place < jobs_most → (bit_and (taken / 2 ^ place) 1 ≡ 1 → ⊥) → MayStand taken place true
-  unfolding has
-  stands_free l n =
-      record { is = sym (rw (lt-ltb place jobs_most l, ne_eqb (taken / 2 ^ place % 2) 1 (λ e. n (and_mask (taken / 2 ^ place) 1 ∙ e)))) }
+  stands_so l = record { is = rw (lt-ltb place jobs_most l) (ap (λ k. not (eqb k 1)) (and_mask (taken / 2 ^ place) 1)) }
 
   pub stands_below : (r : Bool) → MayStand taken place r → not r ≡ false → place < jobs_most
   stands_below r e t = ltb-true place jobs_most (and_left (ltb place jobs_most) (not (has taken place)) (sym e.is ∙ not-false r t))

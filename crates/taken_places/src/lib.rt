@@ -2,30 +2,18 @@
 #![tactic(auto)]
 
 ghost use Rattle.std.specs.Prelude.{◌≡◌};
+ghost use Rattle.outcome.specs.Options.{found_in};
 ghost use Rattle.queue.specs.Bridge.{queue_in, PlacesOf, free_place_in};
-ghost use Rattle.taken_places.specs.Places.{MayStand, TakenIn, place_in, SparePlace};
+ghost use Rattle.taken_places.specs.Places.{MayStand, TakenIn, SparePlace};
 
 use model::JOBS_MOST;
 use queue::{Queue, Taken};
-
-// A place, if one is free.
-#[derive(Clone, Copy)]
-pub enum Place {
-    At(usize),
-    Nothing,
-}
 
 // A job may be put in the place: it is one of the eight, and none of those taken.
 fn may_stand(taken: u64, place: usize) -> bool
     ensures { MayStand taken place result }
 {
-    if JOBS_MOST <= place {
-        return false;
-    }
-    if (taken >> place) & 1 == 1 {
-        return false;
-    }
-    true
+    place < JOBS_MOST && (taken >> place) & 1 != 1
 }
 
 // How many jobs are held, and where.
@@ -58,26 +46,22 @@ pub fn places(queue: Queue) -> u64
     taken.places
 }
 
-// The lowest free place.
-pub fn free_place(queue: Queue) -> Place
-    ensures { place_in result ≡ free_place_in (queue_in queue) }
+// The lowest free place, if one is free.
+pub fn free_place(queue: Queue) -> Option<usize>
+    ensures { found_in result ≡ free_place_in (queue_in queue) }
 {
     let taken = places(queue);
     for place in 0..JOBS_MOST {
         if may_stand(taken, place) {
-            return Place::At(place);
+            return Some(place);
         }
     }
-    Place::Nothing
+    None
 }
 
 // The lowest free place, where there is one: one of the eight in any case.
 pub fn spare_place(queue: Queue) -> usize
     ensures { SparePlace (queue_in queue) result }
 {
-    let found = free_place(queue);
-    match found {
-        Place::At(place) => place,
-        Place::Nothing => 0,
-    }
+    free_place(queue).unwrap_or(0)
 }

@@ -13,15 +13,19 @@ use Rattle.model.specs.Order.{Scenario}
 use Rattle.model.specs.Taps.{Tapped, with_lists, is_sooner, precedes, course_of, fit, clash, fit_word, tapped_on, tapped_for, tap_numbers_of, output_after}
 use Rattle.relation.specs.Width.{width}
 use Rattle.relation.specs.Order.{before, Transitive}
-use Rattle.relation.specs.Own.{is_own, found_in}
+use Rattle.std.specs.Prelude as std
+use Rattle.std.specs.Prelude.{Result, Ok, Err, Some, None}
+use Rattle.outcome.specs.declared.Refusal.{Refusal}
+use Rattle.outcome.specs.declared.Reason.TheVariants.{Tap}
+use Rattle.outcome.specs.Options.{found_in}
+use Rattle.outcome.specs.Refusals.{number_in}
+use Rattle.relation.specs.Own.{is_own}
 use Rattle.relation.specs.Scenario.{scenario_in}
-use Rattle.relation.specs.declared.Found.{Found}
-use Rattle.relation.specs.declared.Found.TheVariants as found
 use Rattle.course.specs.Links.{Room, linked_by}
 use Rattle.course.specs.Left.{NoCircle}
 use Rattle.course.proofs.Closing.{linked_by_holds, twice_long, own_circle, no_circle, course_same, course_long}
-use Rattle.taps.specs.declared.Answer.{Answer}
-use Rattle.taps.specs.declared.Answer.TheVariants.{Fit, Clash, Refused}
+use Rattle.taps.specs.declared.Taps.{Taps}
+use Rattle.taps.specs.declared.Taps.TheVariants.{Fit, Clash}
 use Rattle.taps.specs.Parts.{numbers_for, Lent, Decides, DecidesFor}
 
 -- the words have the room that the links ask for
@@ -67,23 +71,30 @@ module _ (first second : List ℕ) (S : Scenario) where
   lists_first f = rw f
 
 -- a refusal handed on
-pub refuses : (first second : List ℕ) (number line : ℕ) (o : Out Scenario) (output : List ℕ) → o ≡ refusal number line
-    → Decides first second o output output (Refused number line)
+pub refuses_as : (first second : List ℕ) (r : Refusal) (o : Out Scenario) (output : List ℕ) → o ≡ refusal (number_in r.reason) r.line
+    → Decides first second o output output (Err r)
 unfolding tapped_for output_after
-refuses first second number line o output e =
-    subst⁻¹ (λ (p : Out Scenario). Decides first second p output output (Refused number line)) e
-    (record { answer = refl; output_left = refl })
+refuses_as first second r o output e =
+    subst⁻¹ (λ (p : Out Scenario). Decides first second p output output (Err r)) e (record { answer = refl; output_left = refl })
+
+refuses : (first second : List ℕ) (r : Refusal) (line : ℕ) (o : Out Scenario) (output : List ℕ) → r ≡ record { reason = Tap; line = line } → o ≡ refusal tap_refusal line
+    → Decides first second o output output (Err r)
+unfolding tapped_for output_after
+refuses first second r line o output i e =
+    subst⁻¹ (λ (p : Out Scenario). Decides first second p output output (Err r)) e
+    (record { answer = ap (λ (q : Refusal). numbers_for (Err q)) i; output_left = refl })
 
 -- The lists, one by one: refusal 20 at the first that is not in order.
 module _ (count : ℕ) (words first second output : List ℕ) (r : Bool) where
-  pub refuses_first : r ≡ each_once (2 * count) first → not r ≡ true → DecidesFor count words first second output output (Refused tap_refusal 1)
-  refuses_first e f boards =
-      refuses first second tap_refusal 1 _ output (lists_first first second (scenario_in count boards words) (sym e ∙ not-true r f))
+  pub refuses_first : r ≡ each_once (2 * count) first → not r ≡ true → (t : Refusal) → t ≡ record { reason = Tap; line = 1 }
+      → DecidesFor count words first second output output (Err t)
+  refuses_first e f t i boards =
+      refuses first second t 1 _ output i (lists_first first second (scenario_in count boards words) (sym e ∙ not-true r f))
 
   pub refuses_second : (q : Bool) → q ≡ each_once (2 * count) first → not q ≡ false → r ≡ each_once (2 * count) second → not r ≡ true
-      → DecidesFor count words first second output output (Refused tap_refusal 2)
-  refuses_second q d t e f boards =
-      refuses first second tap_refusal 2 _ output (lists_second first second (scenario_in count boards words) (sym d ∙ not-false q t) (sym e ∙ not-true r f))
+      → (u : Refusal) → u ≡ record { reason = Tap; line = 2 } → DecidesFor count words first second output output (Err u)
+  refuses_second q d t e f u i boards =
+      refuses first second u 2 _ output i (lists_second first second (scenario_in count boards words) (sym d ∙ not-false q t) (sym e ∙ not-true r f))
 
 -- a list that is not refused
 pub list_stands : (n : ℕ) (list : List ℕ) (r : Bool) → r ≡ each_once n list → not r ≡ false → each_once n list ≡ true
@@ -100,7 +111,7 @@ module _ (count : ℕ) (words output first second : List ℕ) (lent : Lent count
   linked_long =
       ap length is-linked ∙ twice_long count [] words first second (lent_room count words output lent) lent.closed first_once second_once
 
-  module _ (v : Found) (f : found_in v ≡ lowest (2 * count) (is_own width twice)) where
+  module _ (v : std.Option ℕ) (f : found_in v ≡ lowest (2 * count) (is_own width twice)) where
     found_circle : (boards : List ℕ) (o : Option ℕ) → found_in v ≡ o
         → lowest (2 * count) (λ x. precedes (scenario_in count boards words) first second x x) ≡ o
     found_circle boards o i =
@@ -109,7 +120,7 @@ module _ (count : ℕ) (words output first second : List ℕ) (lent : Lent count
         ∙ sym f
         ∙ i
 
-    decides : (boards : List ℕ) (a : Tapped) (behind : List ℕ) (r : Answer)
+    decides : (boards : List ℕ) (a : Tapped) (behind : List ℕ) (r : Result Taps Refusal)
         → tapped_on first second (scenario_in count boards words) ≡ a
         → numbers_for r ≡ tap_numbers_of a → behind ≡ output_after a output
         → Decides first second (with_lists first second (scenario_in count boards words)) output behind r
@@ -119,15 +130,15 @@ module _ (count : ℕ) (words output first second : List ℕ) (lent : Lent count
         (lists_stand first second (scenario_in count boards words) first_once second_once)
         (record { answer = n ∙ ap tap_numbers_of (sym i); output_left = b ∙ ap (λ (p : Tapped). output_after p output) (sym i) })
 
-    pub clashes : (x : ℕ) → v ≡ found.Event x → DecidesFor count words first second output output (Clash x)
+    pub clashes : (x : ℕ) → v ≡ Some x → DecidesFor count words first second output output (Ok (Clash x))
     unfolding output_after
     clashes x i boards =
-        decides boards (clash x) output (Clash x)
-        (tapped_by first second (scenario_in count boards words) (some x) (found_circle boards (some x) (ap found_in i))) refl refl
+        decides boards (clash x) output (Ok (Clash x))
+        (tapped_by first second (scenario_in count boards words) (some x) (found_circle boards (some x) (ap (found_in {A = ℕ}) i))) refl refl
 
-    module _ (i : v ≡ found.Nothing) where
+    module _ (i : v ≡ None) where
       none_own_holds : lowest (2 * count) (is_own width linked) ≡ none
-      none_own_holds = ap (λ (l : List ℕ). lowest (2 * count) (is_own width l)) (sym is-linked) ∙ sym f ∙ ap found_in i
+      none_own_holds = ap (λ (l : List ℕ). lowest (2 * count) (is_own width l)) (sym is-linked) ∙ sym f ∙ ap (found_in {A = ℕ}) i
 
       pub fits_without_circle : NoCircle (2 * count) twice
       fits_without_circle =
@@ -135,15 +146,15 @@ module _ (count : ℕ) (words output first second : List ℕ) (lent : Lent count
           (no_circle count [] words first second (lent_room count words output lent) lent.closed first_once second_once none_own_holds)
 
       pub fits : (behind : List ℕ) → behind ≡ course_of (2 * count) (before width twice) (2 * count) ++ drop (2 * count) output
-          → DecidesFor count words first second output behind (Fit (2 * count))
+          → DecidesFor count words first second output behind (Ok (Fit (2 * count)))
       unfolding output_after
       fits behind b boards =
           let S = scenario_in count boards words in
           let room = lent_room count words output lent in
           let long = course_long count boards words first second room lent.closed first_once second_once none_own_holds in
           let same = course_same count boards words first second room lent.closed first_once second_once none_own_holds in
-          decides boards (fit (course_of (2 * count) (is_sooner S first second) (2 * count))) behind (Fit (2 * count))
-          (tapped_by first second S none (found_circle boards none (ap found_in i)))
+          decides boards (fit (course_of (2 * count) (is_sooner S first second) (2 * count))) behind (Ok (Fit (2 * count)))
+          (tapped_by first second S none (found_circle boards none (ap (found_in {A = ℕ}) i)))
           (ap (λ (k : ℕ). record { word = fit_word; one = k; two = 0 }) (sym long))
           (b ∙ ap (λ (l : List ℕ). course_of (2 * count) (before width l) (2 * count) ++ drop (2 * count) output) is-linked
           ∙ ap (λ (l : List ℕ). l ++ drop (2 * count) output) (sym same)

@@ -1,22 +1,20 @@
 // What two taps' lists of event numbers decide on an accepted sheet: one course of events for both, a clash, or a list that is refused.
 #![tactic(auto)]
 
-ghost use Rattle.std.specs.Prelude.{◌≡◌, true, ◌*◌};
+ghost use Rattle.std.specs.Prelude.{Ok, ◌≡◌, true, ◌*◌};
 ghost use Rattle.model.specs.Bounded.{each_once};
 ghost use Rattle.relation.specs.Width.{width};
 ghost use Rattle.relation.specs.Order.{before, Transitive};
 ghost use Rattle.course.specs.Links.{Room, linked_by};
 ghost use Rattle.taps.specs.Parts.{DecidesFor, Lent};
 
-use relation::Found;
+use outcome::{Reason, Refusal};
 
-// Fit, with the number of events in the output; a clash, with the event that would have to precede itself; or refused, with number
-// and line.
+// Fit, with the number of events in the output; or a clash, with the event that would have to precede itself.
 #[derive(Clone, Copy)]
-pub enum Answer {
+pub enum Taps {
     Fit(usize),
     Clash(usize),
-    Refused(u8, usize),
 }
 
 // The links of both lists go into the relation.
@@ -39,19 +37,19 @@ fn fit_both(
     first: &[u16],
     second: &[u16],
     output: &mut [u16],
-) -> Answer
+) -> Taps
     requires lent { Lent count words.old output.old }
     requires first_value { each_once (2 * count) first.now ≡ true }
     requires second_value { each_once (2 * count) second.now ≡ true }
-    ensures { DecidesFor count words.old first.now second.now output.old output.new result }
+    ensures { DecidesFor count words.old first.now second.now output.old output.new (Ok result) }
 {
     let events = 2 * count;
     link_both(words, count, first, second);
     match closure::lowest_own(words, events) {
-        Found::Event(x) => Answer::Clash(x),
-        Found::Nothing => {
+        Some(x) => Taps::Clash(x),
+        None => {
             course::write_course(words, events, output);
-            Answer::Fit(events)
+            Taps::Fit(events)
         }
     }
 }
@@ -63,16 +61,16 @@ pub fn decide(
     first: &[u16],
     second: &[u16],
     output: &mut [u16],
-) -> Answer
+) -> Result<Taps, Refusal>
     requires { Lent count words.old output.old }
     ensures { DecidesFor count words.old first.now second.now output.old output.new result }
 {
     let events = 2 * count;
     if !course::each_once(first, events) {
-        return Answer::Refused(model::TAP, 1);
+        return Err(Reason::Tap.at(1));
     }
     if !course::each_once(second, events) {
-        return Answer::Refused(model::TAP, 2);
+        return Err(Reason::Tap.at(2));
     }
-    fit_both(words, count, first, second, output)
+    Ok(fit_both(words, count, first, second, output))
 }

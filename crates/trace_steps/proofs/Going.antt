@@ -26,9 +26,8 @@ use Rattle.board.specs.Boards.{boards_most}
 use Rattle.board.specs.Masks.{Standing}
 use Rattle.run.specs.declared.Buffer.{Buffer}
 use Rattle.run.specs.declared.Run.{Run}
+use Rattle.std.specs.Prelude as prelude
 use Rattle.step.specs.declared.Step as code
-use Rattle.step.specs.declared.StepOrNone.{StepOrNone}
-use Rattle.step.specs.declared.StepOrNone.TheVariants as maybe
 use Rattle.step.specs.Steps.{step_in, message_in, step_or_none}
 use Rattle.run.specs.State.{state_of, Starts, Reaches, BoardAt, TargetOf}
 use Rattle.run.proofs.States.{buffer_read, reaches}
@@ -46,7 +45,7 @@ use Rattle.trace_steps.specs.Bridge.{known, StepAt, Unwaited, Stood, Taken}
 
 -- what `step_at` is to show: a step on a message of the scenario is told as it stands, any other is none
 module _ (trace : List ℕ) (i count m : ℕ) (e : m ≡ get_or trace (2 * i + 1) 0) where
-  pub tells_unknown : count ≤ m → StepAt trace i count maybe.Nothing
+  pub tells_unknown : count ≤ m → StepAt trace i count prelude.None
   tells_unknown h = rw (← e) (go (get_or trace (2 * i) 0))
     where
       go : (kind : ℕ) → none ≡ known count (step_told kind m)
@@ -55,7 +54,7 @@ module _ (trace : List ℕ) (i count m : ℕ) (e : m ≡ get_or trace (2 * i + 1
       go (suc (suc zero)) = rw (le-ltb m count h)
       go (suc (suc (suc kind))) = refl
 
-  pub tells_known : (kind : ℕ) (r : StepOrNone) → m < count → kind ≡ get_or trace (2 * i) 0 → step_or_none r ≡ step_told kind m → StepAt trace i count r
+  pub tells_known : (kind : ℕ) (r : prelude.Option code.Step) → m < count → kind ≡ get_or trace (2 * i) 0 → step_or_none r ≡ step_told kind m → StepAt trace i count r
   tells_known kind r h k s = rw (← e, ← k) (s ∙ go kind)
     where
       go : (kind : ℕ) → step_told kind m ≡ known count (step_told kind m)
@@ -86,8 +85,8 @@ known_told count (some u) t h = go (dec_lt (message_of_step u) count)
         let same : none ≡ some t = rw (le-ltb (message_of_step u) count (omega arith)) at h in
         absurd (let n : ◌≡◌ {A = ℕ} 0 1 = cc in omega arith)
 
-module _ (count : ℕ) (on words masks : List ℕ) (trace : List ℕ) (i : ℕ) (told : StepOrNone) (t : code.Step) (tells : StepAt trace i count told)
-    (is : told ≡ maybe.Step t) where
+module _ (count : ℕ) (on words masks : List ℕ) (trace : List ℕ) (i : ℕ) (told : prelude.Option code.Step) (t : code.Step) (tells : StepAt trace i count told)
+    (is : told ≡ prelude.Some t) where
   pub step_inside : message_in t < count
   step_inside = known_inside count (step_told (get_or trace (2 * i) 0) (get_or trace (2 * i + 1) 0)) (step_in t) (sym tells ∙ ap step_or_none is)
 
@@ -151,7 +150,7 @@ module _ (count : ℕ) (on words : List ℕ) (c : Channel) (trace : List ℕ) wh
   pub step_there : (end : ℕ) (run : Run) (i : ℕ) → Going end run i → i < end → 2 * i + 1 < length trace
   step_there end run i G l = omega (arith, G.whole, G.even)
 
-  module _ (end : ℕ) (run : Run) (i : ℕ) (told : StepOrNone) (G : Going end run i) (l : i < end) (tells : StepAt trace i count told) where
+  module _ (end : ℕ) (run : Run) (i : ℕ) (told : prelude.Option code.Step) (G : Going end run i) (l : i < end) (tells : StepAt trace i count told) where
     first : replay S (channel_in c) trace ≡ replay_from S (channel_in c) i (state_of run) (step_or_none told ∷ steps_in (drop (2 * i + 2) trace))
     unfolding steps_in
     first =
@@ -159,17 +158,17 @@ module _ (count : ℕ) (on words : List ℕ) (c : Channel) (trace : List ℕ) wh
         ∙ same_told i (state_of run) (step_told (get_or trace (2 * i) 0) (get_or trace (2 * i + 1) 0)) (steps_in (drop (2 * i + 2) trace))
         ∙ ap (λ o. replay_from S (channel_in c) i (state_of run) (o ∷ steps_in (drop (2 * i + 2) trace))) (sym tells)
 
-    pub tells_none : (r : Outcome) → Unwaited (NotAllowed i) r → told ≡ maybe.Nothing → Taken S (channel_in c) trace r
+    pub tells_none : (r : Outcome) → Unwaited (NotAllowed i) r → told ≡ prelude.None → Taken S (channel_in c) trace r
     unfolding replay_from
     tells_none r T nothing =
-        halts i r T (sym (first ∙ ap (λ (o : StepOrNone). replay_from S (channel_in c) i (state_of run) (step_or_none o ∷ steps_in (drop (2 * i + 2) trace))) nothing))
+        halts i r T (sym (first ∙ ap (λ (o : prelude.Option code.Step). replay_from S (channel_in c) i (state_of run) (step_or_none o ∷ steps_in (drop (2 * i + 2) trace))) nothing))
 
-    module _ (t : code.Step) (is : told ≡ maybe.Step t) (r : Bool) (says : Says count on words c run t r) where
+    module _ (t : code.Step) (is : told ≡ prelude.Some t) (r : Bool) (says : Says count on words c run t r) where
       taken : replay S (channel_in c) trace
           ≡ cond r (replay_from S (channel_in c) (suc i) (next S (state_of run) (step_in t)) (steps_in (drop (2 * i + 2) trace))) (not_allowed i)
       unfolding replay_from
       taken =
-          first ∙ ap (λ (o : StepOrNone). replay_from S (channel_in c) i (state_of run) (step_or_none o ∷ steps_in (drop (2 * i + 2) trace))) is
+          first ∙ ap (λ (o : prelude.Option code.Step). replay_from S (channel_in c) i (state_of run) (step_or_none o ∷ steps_in (drop (2 * i + 2) trace))) is
           ∙ ap (λ b. cond b (replay_from S (channel_in c) (suc i) (next S (state_of run) (step_in t)) (steps_in (drop (2 * i + 2) trace))) (not_allowed i)) (sym says)
 
       tells_forbidden : not r ≡ true → not_allowed i ≡ replay S (channel_in c) trace
@@ -203,7 +202,7 @@ module _ (count : ℕ) (on words : List ℕ) (c : Channel) (trace : List ℕ) wh
           }
 
     -- the step is judged by the parts of the run, and the buffer of its board
-    module _ (t : code.Step) (is : told ≡ maybe.Step t) (r : Bool) (b : ℕ) (other : Buffer)
+    module _ (t : code.Step) (is : told ≡ prelude.Some t) (r : Bool) (b : ℕ) (other : Buffer)
         (says : SaysStep count on words c run.done run.way (get_or run.buffers b other) t r) (at : BoardAt on t b) where
       judged : Says count on words c run t r
       judged = says run refl refl (buffer_read run on t b other at G.wide)

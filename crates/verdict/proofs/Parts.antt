@@ -10,12 +10,12 @@ use Rattle.model.specs.Race.{race_rule_of, lowest_race}
 use Rattle.model.specs.Schedule.{schedule}
 use Rattle.model.specs.Answer.{locked_word, free, locked, verdict_of, answer_for, numbers_of, trace_after}
 use Rattle.race.specs.declared.Rule.{Rule}
-use Rattle.lowest_race.specs.declared.Lowest.{Lowest}
-use Rattle.lowest_race.specs.declared.Lowest.TheVariants as lowest
+use Rattle.std.specs.Prelude as std
+use Rattle.std.specs.Prelude.{Some, None, Ok}
 use Rattle.race.specs.Bridge.{rule_in}
-use Rattle.lowest_race.specs.Named.{race_in}
+use Rattle.outcome.specs.Options.{found_in}
 use Rattle.schedule.specs.Schedule.{Scheduled}
-use Rattle.verdict.specs.declared.Answer.TheVariants.{Free, Locked}
+use Rattle.verdict.specs.declared.Verdict.TheVariants.{Free, Locked}
 use Rattle.verdict.specs.Parts.{IsRace, Decides}
 
 -- the schedule on the channel of a code
@@ -42,7 +42,7 @@ module _ (S : Scenario) (code : ℕ) where
   module _ (trace : List ℕ) where
     -- the race named, and its schedule written: locked
     pub locks : (e x steps : ℕ) (behind : List ℕ) → IsRace S code e x → Scheduled S (model.channel_of code) e trace behind steps
-        → Decides (ok S) code trace behind (Locked e x steps)
+        → Decides (ok S) code trace behind (Ok (Locked e x steps))
     unfolding answer_for trace_after
     locks e x steps behind h t =
         let v = sym (verdict_locked e x h) in
@@ -52,16 +52,16 @@ module _ (S : Scenario) (code : ℕ) where
         }
 
     -- no race: free, and the trace as it was
-    pub frees : lowest_race S (race_rule_of code) ≡ none → Decides (ok S) code trace trace Free
+    pub frees : lowest_race S (race_rule_of code) ≡ none → Decides (ok S) code trace trace (Ok Free)
     unfolding answer_for trace_after
     frees h =
         let v = sym (verdict_free h) in
         record { answer = ap numbers_of v; trace_left = ap (λ a. trace_after a trace) v }
 
 -- the race that the search named, or none
-module _ (S : Scenario) (code : ℕ) (rule : Rule) (v : Lowest) (same : rule_in rule ≡ race_rule_of code) (found : race_in v ≡ lowest_race S (rule_in rule)) where
-  pub named : (e x : ℕ) → v ≡ lowest.Race e x → IsRace S code e x
-  named e x i = ap (lowest_race S) (sym same) ∙ sym found ∙ ap race_in i
+module _ (S : Scenario) (code : ℕ) (rule : Rule) (v : std.Option (ℕ × ℕ)) (same : rule_in rule ≡ race_rule_of code) (found : found_in v ≡ lowest_race S (rule_in rule)) where
+  pub named : (e x : ℕ) → v ≡ Some (e, x) → IsRace S code e x
+  named e x i = ap (lowest_race S) (sym same) ∙ sym found ∙ ap (found_in {A = ℕ × ℕ}) i
 
-  pub unnamed : (trace : List ℕ) → v ≡ lowest.Nothing → Decides (ok S) code trace trace Free
-  unnamed trace i = frees S code trace (ap (lowest_race S) (sym same) ∙ sym found ∙ ap race_in i)
+  pub unnamed : (trace : List ℕ) → v ≡ None → Decides (ok S) code trace trace (Ok Free)
+  unnamed trace i = frees S code trace (ap (lowest_race S) (sym same) ∙ sym found ∙ ap (found_in {A = ℕ × ℕ}) i)

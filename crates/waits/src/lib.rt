@@ -3,60 +3,44 @@
 
 ghost use Rattle.std.specs.Prelude.{◌≡◌, ◌<◌};
 ghost use Rattle.model.specs.Waits.{wait_of, each_board};
-ghost use Rattle.relation.specs.Scenario.{scenario_in};
+ghost use Rattle.board.specs.Scenarios.{scenario_of};
 ghost use Rattle.board.specs.Boards.{boards_most};
-ghost use Rattle.board.specs.Masks.{Standing};
 ghost use Rattle.run.specs.State.{state_of};
 ghost use Rattle.waits.specs.Bridge.{SaysHeld, SaysWait};
 
+use board::Scenario;
 use next_message::next_in;
 use readiness::Readiness;
 use relation::WIDTH;
 use run::{Buffer, Run};
 
 // The readiness of message m's receive, if the buffer holds m. A message that it does not hold keeps no board waiting.
-fn held_readiness(
-    words: &[u64],
-    masks: &[u64],
-    boards: &[u8],
-    count: usize,
-    done: &[u64; WIDTH],
-    buffer: Buffer,
-    m: usize,
-) -> Readiness
-    requires standing { Standing count boards.now words.now masks.now }
-    requires m_lt_count { m < count }
-    ensures { SaysHeld count boards.now words.now done.now buffer m result }
+fn held_readiness(scenario: &Scenario, done: &[u64; WIDTH], buffer: Buffer, m: usize) -> Readiness
+    requires m_lt_count { m < scenario.now.count }
+    ensures { SaysHeld scenario.now.count scenario.now.boards.now scenario.now.words.now done.now buffer m result }
 {
     let send = 2 * m;
     if !relation::test(&buffer.held, 0, send) {
         return Readiness::Ready;
     }
     let receive = send + 1;
-    readiness::readiness_of(words, masks, boards, count, done, receive)
+    readiness::readiness_of(scenario, done, receive)
 }
 
 // The event that the lowest message of the buffer whose receive is unready waits for.
-fn wait_at(
-    words: &[u64],
-    masks: &[u64],
-    boards: &[u8],
-    count: usize,
-    done: &[u64; WIDTH],
-    buffer: Buffer,
-) -> u16
-    requires { Standing count boards.now words.now masks.now }
-    ensures { SaysWait count boards.now words.now done.now buffer result }
+fn wait_at(scenario: &Scenario, done: &[u64; WIDTH], buffer: Buffer) -> u16
+    ensures { SaysWait scenario.now.count scenario.now.boards.now scenario.now.words.now done.now buffer result }
 {
+    // Not a `for`: it steps on to the next message that the buffer holds.
     let mut m = next_in(&buffer.held, 0);
-    while m < count {
-        let readiness = held_readiness(words, masks, boards, count, done, buffer, m);
+    while m < scenario.count {
+        let readiness = held_readiness(scenario, done, buffer, m);
         match readiness {
             Readiness::Ready => {}
             Readiness::Done => return model::NO_WAIT,
             Readiness::Waits(k) => return k as u16,
         }
-        if m + 1 == count {
+        if m + 1 == scenario.count {
             return model::NO_WAIT;
         }
         m = next_in(&buffer.held, m + 1);
@@ -65,21 +49,14 @@ fn wait_at(
 }
 
 // The event that each board waits for, board by board.
-pub fn waits_of(
-    run: Run,
-    words: &[u64],
-    masks: &[u64],
-    boards: &[u8],
-    count: usize,
-) -> [u16; model::BOARDS]
-    requires { Standing count boards.now words.now masks.now }
-    ensures { result ≡ each_board boards_most (wait_of (scenario_in count boards.now words.now) (state_of run)) }
+pub fn waits_of(run: Run, scenario: &Scenario) -> [u16; model::BOARDS]
+    ensures { result ≡ each_board boards_most (wait_of (scenario_of scenario.now) (state_of run)) }
 {
     let done = run.done;
     let mut waits = [model::NO_WAIT; model::BOARDS];
     for b in 0..model::BOARDS {
         let buffer = run.buffers[b];
-        waits[b] = wait_at(words, masks, boards, count, &done, buffer);
+        waits[b] = wait_at(scenario, &done, buffer);
     }
     waits
 }

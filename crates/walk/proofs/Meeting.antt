@@ -10,7 +10,7 @@ use mathlib.Core.Bool.{Bool, true, false, cond, ◌||◌, true≢false}
 use mathlib.Core.List.{List, [], ◌∷◌}
 use lib.Dec.{eqb, ltb}
 use lib.ListN.{length, get_or, set, drop, length-set}
-use borrow.Author.Tests.{eq-eqb, ne_eqb, eqb-true, lt-ltb, le-ltb, ltb-true}
+use borrow.Author.Tests.{eq-eqb, eqb-true, lt-ltb, le-ltb, ltb-true}
 use Rattle.model.proofs.Bounded.{and_left, and_right, or_cases, or_left, or_right}
 use Rattle.model.specs.Limits.{boards, messages_most}
 use Rattle.model.specs.Refusal.{Out, ok, refusal, messages_refusal}
@@ -25,14 +25,11 @@ use Rattle.sheet.proofs.Bridge.{rows_drop as rows-at-drop, row_message as row-is
 use Rattle.blocks.specs.Store.{Store, store_of, boards_with, added, passed, store_ops}
 use Rattle.walk.specs.Block.{opened, state_of, rows_from, in_block, block_walked, Leaves, AllStand, Ready}
 use Rattle.walk.specs.declared.Walk.{Walk}
-use Rattle.walk.specs.declared.Walked.{Walked}
-use Rattle.walk.specs.declared.Walked.TheVariants.{To, Stopped}
+use Rattle.std.specs.Prelude.{Ok, Err}
+use Rattle.outcome.specs.declared.Refusal.{Refusal}
+use Rattle.outcome.specs.declared.Reason.TheVariants.{Messages}
 use Rattle.blocks.proofs.Passed.{length_passed}
 use Rattle.blocks.proofs.Added.{length_added}
-
--- what a block leaves, known by another name
-pub leaves_as : {r r' : Walked} {t : Store} {o : Out (ℕ × Progress Store)} → r ≡ r' → Leaves r t o → Leaves r' t o
-leaves_as {t = t} {o = o} e h = subst (λ (r : Walked). Leaves r t o) e h
 
 -- the rows from row i on
 pub rows_drop : (kind one two : List ℕ) (count i : ℕ) → drop i (rows_of kind one two count) ≡ rows_from kind one two count i
@@ -71,18 +68,6 @@ module _ (kind : List ℕ) (count i : ℕ) where
         λ m. true≢false (sym (or_left (eqb (get_or kind i 0) 77) (eqb (get_or kind i 0) 80) (eq-eqb (get_or kind i 0) 77 m)) ∙ f),
         λ p. true≢false (sym (or_right (eqb (get_or kind i 0) 77) (eqb (get_or kind i 0) 80) (eq-eqb (get_or kind i 0) 80 p)) ∙ f),
       )
-
-  pub at_message : i < count → get_or kind i 0 ≡ 77 → eqb (get_or kind i 0) 77 ≡ in_block kind count i
-  unfolding in_block
-  at_message h e = rw (lt-ltb i count h, eq-eqb (get_or kind i 0) 77 e)
-
-  pub at_order : (r : Bool) → i < count → (get_or kind i 0 ≡ 77 → ⊥) → r ≡ eqb (get_or kind i 0) 80 → r ≡ in_block kind count i
-  unfolding in_block
-  at_order r h n e = rw (lt-ltb i count h, ne_eqb (get_or kind i 0) 77 n) e
-
-  pub at_end : count ≤ i → ltb i count ≡ in_block kind count i
-  unfolding in_block
-  at_end h = rw (le-ltb i count h)
 
 -- where a message takes its place there are as many boards, and boards stay boards
 boards_with_length : (events : List ℕ) (m a b : ℕ) → length (boards_with events m a b) ≡ length events
@@ -180,8 +165,8 @@ module _ (kind one two : List ℕ) (count row : ℕ) (w₀ : Walk) (t₀ : Store
         pub message_boards : (a < boards) × (b < boards)
         message_boards = message_stands.0
 
-        pub meeting_refused : (t' : Store) → messages_most ≤ met → Leaves (Stopped messages_refusal (line_of i)) t' whole
-        meeting_refused t' m = record { exact = sym (message_refused rest i s a b m) ∙ message_head; room = tt }
+        pub meeting_refused : (t' : Store) (r' : Refusal) → r' ≡ record { reason = Messages; line = line_of i } → messages_most ≤ met → Leaves (Err r') t' whole
+        meeting_refused t' r' f m = rw f (record { exact = sym (message_refused rest i s a b m) ∙ message_head; room = tt })
 
         pub meeting_message : (events' words' : List ℕ) → (events' ≡ boards_with events met a b) × (words' ≡ added width words past met a b) → met < messages_most
             → Meeting (i + 1) (met + 1) (store_of events' words' past)
@@ -249,7 +234,7 @@ module _ (kind one two : List ℕ) (count row : ℕ) (w₀ : Walk) (t₀ : Store
 
       pub meeting_end : (past' : List ℕ) (next : Walk) → past' ≡ passed width past events words (2 * w₀.first) (2 * met)
           → next ≡ opened w₀.calls w₀.choices met
-          → Leaves (To i next) (store_of events words past') whole
+          → Leaves (Ok (record { row = i; walk = next })) (store_of events words past') whole
       unfolding block_opened store_ops
       meeting_end past' next f e =
           let room = j.ready.room in

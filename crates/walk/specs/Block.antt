@@ -1,6 +1,6 @@
 -- The rows of one block: what they come to, and what each asks of the walk that comes to it.
 -- Assumes nothing.
-use Rattle.std.specs.Prelude.{ℕ, ◌+◌, ◌-◌, ◌*◌, ◌<◌, ◌≤◌, ◌≡◌, Bool, true, false, ◌&&◌, ◌||◌, List, [], ◌∷◌, eqb, ltb, length, get_or}
+use Rattle.std.specs.Prelude.{ℕ, ◌+◌, ◌-◌, ◌*◌, ◌<◌, ◌≤◌, ◌≡◌, Bool, true, false, ◌&&◌, ◌||◌, List, [], ◌∷◌, eqb, ltb, length, get_or, Result, Ok, Err}
 use Prim.Native.Char.{code}
 use Rattle.model.specs.Limits.{boards, messages_most, rows_most}
 use Rattle.model.specs.Refusal.{Out, ok, refusal, messages_refusal}
@@ -12,7 +12,8 @@ use Rattle.blocks.specs.Store.{Store, store_ops}
 use Rattle.blocks.specs.Room.{Room}
 use Rattle.walk.specs.declared.Walk.{Walk}
 use Rattle.walk.specs.declared.Walked.{Walked}
-use Rattle.walk.specs.declared.Walked.TheVariants.{To, Stopped}
+use Rattle.outcome.specs.declared.Refusal.{Refusal}
+use Rattle.outcome.specs.Refusals.{refused_in}
 
 -- a walk that has met nothing yet
 abbrev pub fresh : Walk
@@ -50,15 +51,15 @@ block_walked (call n ∷ rs) i s = ok (i, block_opened store_ops s)
 block_walked (choice m n ∷ rs) i s = ok (i, block_opened store_ops s)
 
 -- what a block leaves
-abbrev pub walked_of : Walked → Store → Out (ℕ × Progress Store)
-walked_of (To i w) t = ok (i, state_of w t)
-walked_of (Stopped number line) t = refusal number line
+abbrev pub walked_of : Result Walked Refusal → Store → Out (ℕ × Progress Store)
+walked_of (Ok b) t = ok (b.row, state_of b.walk t)
+walked_of (Err r) t = refused_in r
 
-abbrev pub RoomLeft : Walked → Store → Type 0
-RoomLeft (To i w) t = Room w.first w.count t
-RoomLeft (Stopped number line) t = Unit {0}
+abbrev pub RoomLeft : Result Walked Refusal → Store → Type 0
+RoomLeft (Ok b) t = Room b.walk.first b.walk.count t
+RoomLeft (Err r) t = Unit {0}
 
-pub record Leaves (r : Walked) (t : Store) (expected : Out (ℕ × Progress Store)) : Type 0 where
+pub record Leaves (r : Result Walked Refusal) (t : Store) (expected : Out (ℕ × Progress Store)) : Type 0 where
   pub exact : walked_of r t ≡ expected
   pub room : RoomLeft r t
 

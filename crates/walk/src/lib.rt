@@ -5,6 +5,9 @@ ghost use Rattle.std.specs.Prelude.{◌≡◌, ◌≤◌, length};
 ghost use Rattle.blocks.specs.Store.{store_of};
 ghost use Rattle.walk.specs.Block.{fresh, opened, state_of, rows_from, in_block, RowsFew, Ready, Leaves, block_walked};
 
+use outcome::{Reason, Refusal};
+use sheet::Rows;
+
 // How far a walk is: calls made, A rows met, the number of the open block's first message, and messages met.
 #[derive(Clone, Copy)]
 pub struct Walk {
@@ -46,14 +49,15 @@ impl Walk {
     }
 }
 
-// Where the rows of a block end: the row behind them and the walk there, or the refusal's number and line.
+// Where the rows of a block end: the row behind them, and the walk there.
 #[derive(Clone, Copy)]
-pub enum Walked {
-    To(usize, Walk),
-    Stopped(u8, usize),
+pub struct Walked {
+    pub row: usize,
+    pub walk: Walk,
 }
 
 // A row of a block, M or P.
+#[tactic(auto, unfolding(crate::specs::Block::in_block))]
 pub fn in_block(kind: &[u8], rows: usize, row: usize) -> bool
     requires { rows ≤ length kind.now }
     ensures { result ≡ in_block kind.now rows row }
@@ -62,37 +66,39 @@ pub fn in_block(kind: &[u8], rows: usize, row: usize) -> bool
 }
 
 // The rows of one block from a row on: each is met, with refusal 10 at the first message too many; then the block is closed, and the next is open.
+#[tactic(auto, unfolding(crate::specs::Block::in_block))]
 pub fn walk_block(
-    kind: &[u8],
-    one: &[u16],
-    two: &[u16],
-    rows: usize,
+    rows: &Rows,
     boards: &mut [u8],
     words: &mut [u64],
     past: &mut [u64],
     row: usize,
     walk: Walk,
-) -> Walked
-    requires rows_few { RowsFew kind.now one.now two.now rows }
-    requires ready { Ready kind.now one.now two.now rows row walk.first walk.count (store_of boards.old words.old past.old) }
-    ensures { Leaves result (store_of boards.new words.new past.new) (block_walked (rows_from kind.now one.now two.now rows row) row (state_of walk (store_of boards.old words.old past.old))) }
+) -> Result<Walked, Refusal>
+    requires rows_few { RowsFew rows.now.kind.now rows.now.one.now rows.now.two.now rows.now.count }
+    requires ready { Ready rows.now.kind.now rows.now.one.now rows.now.two.now rows.now.count row walk.first walk.count (store_of boards.old words.old past.old) }
+    ensures { Leaves result (store_of boards.new words.new past.new) (block_walked (rows_from rows.now.kind.now rows.now.one.now rows.now.two.now rows.now.count row) row (state_of walk (store_of boards.old words.old past.old))) }
 {
     let first = walk.first;
     let mut at = row;
     let mut met = walk.count;
-    while in_block(kind, rows, at) {
-        if kind[at] == b'P' {
-            blocks::add_order(words, first, met, one[at], two[at]);
+    // No `for`: where the rows of the block end is what the loop finds.
+    while in_block(rows.kind, rows.count, at) {
+        if rows.kind[at] == b'P' {
+            blocks::add_order(words, first, met, rows.one[at], rows.two[at]);
             at += 1;
             continue;
         }
         if Walk::MESSAGES_MOST <= met {
-            return Walked::Stopped(model::MESSAGES, at + model::FIRST_LINE);
+            return Err(Reason::Messages.at(at + model::FIRST_LINE));
         }
-        blocks::add_message(boards, words, past, met, one[at], two[at]);
+        blocks::add_message(boards, words, past, met, rows.one[at], rows.two[at]);
         met += 1;
         at += 1;
     }
     blocks::close_block(boards, words, past, first, met);
-    Walked::To(at, Walk::opened(walk.calls, walk.choices, met))
+    Ok(Walked {
+        row: at,
+        walk: Walk::opened(walk.calls, walk.choices, met),
+    })
 }

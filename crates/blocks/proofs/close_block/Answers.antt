@@ -1,15 +1,10 @@
 -- `blocks::close_block` meets its contract. The loop keeps `Passing`: the events passed are past on their boards.
-use Prim.Native.Nat.{◌-◌}
-use native.Mathlib.Omega.{arith}
 use borrow.Author.Rules.{rules}
 use Rattle.blocks.proofs.Turns.{passing_start, passing_more, passing_end, past_room, past_room_joined}
 use Rattle.blocks.proofs.close_block.Goals as goal
 
 pub loop-e-init : goal.loop-e-init
 loop-e-init c = search passing_start
-
-pub overflow_cast-board : goal.overflow_cast-board
-overflow_cast-board c = omega (arith, c.shared_slice_known-in-loop-e-1.given c.loop-e.e)
 
 pub join_from-requires : goal.join_from-requires
 join_from-requires c = record { width_in_bounds = search past_room; width_in_bounds_2 = search rules }

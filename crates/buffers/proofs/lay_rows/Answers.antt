@@ -1,6 +1,5 @@
 -- `buffers::lay_rows` meets its contract. The loop keeps `Laid`: the buffers passed are laid out. Assumes nothing.
 use mathlib.Core.Path.{refl}
-use Prim.Native.Nat.{◌-◌}
 use borrow.Author.Rules.{rules}
 use Rattle.run.proofs.States.{buffers_long}
 use Rattle.buffers.proofs.Rows.{laid_start, laid_more, laid_all}

@@ -4,8 +4,8 @@ use Rattle.run.proofs.States.{buffers_long, buffer_read, reaches}
 use Rattle.channel.proofs.StepTests.{known, unknown}
 use Rattle.channel.proofs.allowed_in.Goals as goal
 
-pub returns-then-count-m : goal.returns-then-count-m
-returns-then-count-m c = search unknown
+pub returns-then-scenario-m : goal.returns-then-scenario-m
+returns-then-scenario-m c = search unknown
 
 pub board_at-board-requires : goal.board_at-board-requires
 board_at-board-requires c = search (reaches, known)

@@ -4,6 +4,3 @@ use Rattle.choice_answer.proofs.choices_of.Given as goal
 
 abbrev pub invariant-loop-k : goal.invariant-loop-k
 invariant-loop-k l = Numbering l.list l.met l.number l.k
-
-abbrev pub decreases-loop-k : goal.decreases-loop-k
-decreases-loop-k l = l.k

@@ -8,8 +8,8 @@ use Rattle.sheet.specs.Bridge.{rows_of}
 use Rattle.choice_lists.proofs.Judging.{Judging}
 use Rattle.choice_lists.proofs.walk_lists.Given as goal
 
-abbrev pub invariant-loop-number : goal.invariant-loop-number
-invariant-loop-number l = Judging (rows_of l.kind l.one l.two l.count) l.code l.list l.first × (length l.boards ≡ 2 * messages_most) × (length l.words ≡ 2 * messages_most * width)
+abbrev pub invariant-loop-counted : goal.invariant-loop-counted
+invariant-loop-counted l = Judging (rows_of l.rows.kind.now l.rows.one.now l.rows.two.now l.rows.count) l.code l.list l.first × (length l.boards ≡ 2 * messages_most) × (length l.words ≡ 2 * messages_most * width)
 
-abbrev pub decreases-loop-number : goal.decreases-loop-number
-decreases-loop-number l = lists_most - l.list
+abbrev pub decreases-loop-counted : goal.decreases-loop-counted
+decreases-loop-counted l = lists_most - l.list

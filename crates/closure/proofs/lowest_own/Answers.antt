@@ -1,5 +1,4 @@
 -- `closure::lowest_own` meets its contract. The loop keeps that no row passed holds its own event.
-use Prim.Native.Nat.{◌-◌}
 use borrow.Author.Rules.{rules}
 use Rattle.closure.proofs.Lowest.{own_start, own_here, own_not_here, own_nowhere}
 use Rattle.closure.proofs.lowest_own.Goals as goal

@@ -1,5 +1,4 @@
 -- `course::all_left` meets its contract. The loop keeps `Filling`: the events passed are in the row. Assumes nothing.
-use Prim.Native.Nat.{◌-◌}
 use Rattle.course.proofs.Filling.{filling_start, filling_more, filling_end}
 use Rattle.course.proofs.all_left.Goals as goal
 

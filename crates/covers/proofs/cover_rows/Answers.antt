@@ -7,8 +7,8 @@ use Rattle.covers.proofs.cover_rows.Goals as goal
 pub loop-e-init : goal.loop-e-init
 loop-e-init c = search made_start
 
-pub cover-row-requires : goal.cover-row-requires
-cover-row-requires c = record { standing = search (made_standing, rules); e_lt_count = search rules }
+pub invariant_of-scenario : goal.invariant_of-scenario
+invariant_of-scenario c = search (made_standing, rules)
 
 pub loop-e-preserved : goal.loop-e-preserved
 loop-e-preserved c = search made_more

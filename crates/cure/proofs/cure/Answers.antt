@@ -6,14 +6,17 @@ use lib.ListN.{length-take}
 use Rattle.model.specs.Limits.{messages_most}
 use Rattle.relation.specs.Width.{width}
 use Rattle.cure.proofs.Parts.{refuses_scratch, refuses_output, answers}
+use Rattle.std.proofs.lemmas.Result.{err_from_is_err_and}
 use borrow.Author.Rules.{rules}
 use Rattle.cure.proofs.cure.Goals as goal
 
-pub returns-then-scratch-lt-SCRATCH_LEAST : goal.returns-then-scratch-lt-SCRATCH_LEAST
-returns-then-scratch-lt-SCRATCH_LEAST c = search refuses_scratch
+pub returns-in_err-at_least : goal.returns-in_err-at_least
+returns-in_err-at_least c = let p = err_from_is_err_and c.from_residual.result c.from_residual.ensures.1 in
+    rw (p.1, p.2) (refuses_scratch _ _ _ _ c.in_err-at_least.ensures.0 c.in_err-at_least.ensures.1)
 
-pub returns-then-output-lt-SHEET_OUTPUT_LEAST : goal.returns-then-output-lt-SHEET_OUTPUT_LEAST
-returns-then-output-lt-SHEET_OUTPUT_LEAST c = search refuses_output
+pub returns-in_err-at_least-2 : goal.returns-in_err-at_least-2
+returns-in_err-at_least-2 c = let p = err_from_is_err_and c.from_residual-in_err-at_least-2.result c.from_residual-in_err-at_least-2.ensures.1 in
+    rw (p.1, p.2) (refuses_output _ _ _ _ c.in_err-at_least-2.ensures.0 c.in_err-at_least-2.ensures.1)
 
 pub slice_bounds-judge-end-2 : goal.slice_bounds-judge-end-2
 slice_bounds-judge-end-2 c = simp length-take (omega arith)
@@ -24,5 +27,5 @@ judge-answer-requires c = record { words_len = simp length-take (omega arith); s
 pub returns : goal.returns
 returns c = let n = 2 * messages_most * width in
     let kept = length-take n c.args.scratch.now in
-    answers _ _ _ _ _ c.judge-answer.new.words n _ _ (search rules) (search rules) (omega (arith, kept)) (search rules)
+    answers _ _ _ _ _ c.judge-answer.new.words n _ _ c.in_ok-at_least.ensures c.in_ok-at_least-2.ensures (omega (arith, kept)) (search rules)
     c.clear.ensures refl c.judge-answer.ensures

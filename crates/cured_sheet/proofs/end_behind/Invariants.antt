@@ -2,8 +2,5 @@
 use Rattle.cured_sheet.specs.Spans.{NoneLast}
 use Rattle.cured_sheet.proofs.end_behind.Given as goal
 
-abbrev pub invariant-loop-end : goal.invariant-loop-end
-invariant-loop-end l = NoneLast l.words l.count l.w l.end
-
-abbrev pub decreases-loop-end : goal.decreases-loop-end
-decreases-loop-end l = l.end
+abbrev pub invariant-loop-e : goal.invariant-loop-e
+invariant-loop-e l = NoneLast l.words l.count l.w l.e

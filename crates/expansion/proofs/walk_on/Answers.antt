@@ -1,46 +1,34 @@
 -- `expansion::walk_on` meets its contract. Assumes nothing.
 use native.Mathlib.Omega.{arith}
-use Rattle.walk.proofs.Meeting.{leaves_as}
+use Rattle.std.proofs.lemmas.Result.{err_from_is_err_and}
 use Rattle.next_block.proofs.Seeking.{reaches_as}
 use Rattle.expansion.proofs.Reading.{start_long, sheets_lent}
 use Rattle.expansion.proofs.Whole.{walking_start, walking_stopped, walking_end, block_ready, walking_refused, walking_less, walking_on}
 use Rattle.expansion.proofs.walk_on.Goals as goal
 
-pub bounds-start-0 : goal.bounds-start-0
-bounds-start-0 c = omega (arith, start_long _ _ _ _ _ c.requires.rows_read)
+pub bounds-rows-0 : goal.bounds-rows-0
+bounds-rows-0 c = omega (arith, start_long _ _ _ _ _ c.requires.rows_read)
 
-pub overflow_cast-at : goal.overflow_cast-at
-overflow_cast-at c = omega (arith, c.shared_slice_known-5-1.given 0)
-
-pub loop-number-init : goal.loop-number-init
-loop-number-init c = search walking_start
+pub loop-reached-init : goal.loop-reached-init
+loop-reached-init c = search walking_start
 
 pub next_block-requires : goal.next_block-requires
-next_block-requires c = record { sheets = sheets_lent _ _ _ _ _ c.requires.rows_read _; between = c.loop-number.invariant.between }
+next_block-requires c = record { sheets = sheets_lent _ _ _ _ _ c.requires.rows_read _; between = c.loop-reached.invariant.between }
 
-pub returns-in-Stopped : goal.returns-in-Stopped
-returns-in-Stopped c = walking_stopped _ _ _ _ _ _ _ _ _ _ _ c.loop-number.invariant _ _ _ (reaches_as c.in-Stopped.is c.next_block.ensures)
+pub returns-in_err-reached : goal.returns-in_err-reached
+returns-in_err-reached c = let p = err_from_is_err_and c.from_residual.result c.from_residual.ensures.1 in rw (p.1, p.2) (walking_stopped _ _ _ _ _ _ _ _ _ _ _ c.loop-reached.invariant _ _ c.in_err-reached.ensures)
 
 pub returns-in-End : goal.returns-in-End
-returns-in-End c = walking_end _ _ _ _ _ _ _ _ _ _ _ c.loop-number.invariant _ _ _ (reaches_as c.in-End.is c.next_block.ensures) _ c.opened.ensures
+returns-in-End c = walking_end _ _ _ _ _ _ _ _ _ _ _ c.loop-reached.invariant _ _ _ (reaches_as c.in-End.is c.in_ok-reached.ensures) _ c.opened.ensures
 
 pub walk_block-requires : goal.walk_block-requires
-walk_block-requires c = record { rows_few = (sheets_lent _ _ _ _ _ c.requires.rows_read 0).rows; ready = block_ready _ _ _ _ _ _ _ _ _ _ _ c.loop-number.invariant _ _ _ _ _ (reaches_as c.in-Block.is c.next_block.ensures) _ c.opened-walk.ensures }
+walk_block-requires c = record { rows_few = (sheets_lent _ _ _ _ _ c.requires.rows_read 0).rows; ready = block_ready _ _ _ _ _ _ _ _ _ _ _ c.loop-reached.invariant _ _ _ _ _ (reaches_as c.in-Block.is c.in_ok-reached.ensures) _ c.opened-walk.ensures }
 
-pub shape_of-boards-in-Stopped-walk_block : goal.shape_of-boards-in-Stopped-walk_block
-shape_of-boards-in-Stopped-walk_block c = omega (arith, c.requires.rests.room.events_long, c.loop-number.invariant.room.events_long)
+pub returns-in_err-behind-in-Block : goal.returns-in_err-behind-in-Block
+returns-in_err-behind-in-Block c = let p = err_from_is_err_and c.from_residual-in_err-behind-in-Block.result c.from_residual-in_err-behind-in-Block.ensures.1 in rw (p.1, p.2) (walking_refused _ _ _ _ _ _ _ _ _ _ _ c.loop-reached.invariant _ _ _ _ _ (reaches_as c.in-Block.is c.in_ok-reached.ensures) _ c.opened-walk.ensures _ _ c.in_err-behind-in-Block.ensures)
 
-pub shape_of-words-in-Stopped-walk_block : goal.shape_of-words-in-Stopped-walk_block
-shape_of-words-in-Stopped-walk_block c = omega (arith, c.requires.rests.room.words_long, c.loop-number.invariant.room.words_long)
+pub loop-reached-smaller : goal.loop-reached-smaller
+loop-reached-smaller c = walking_less _ _ _ _ _ _ _ _ _ _ _ c.loop-reached.invariant _ _ _ _ _ (reaches_as c.in-Block.is c.in_ok-reached.ensures) _ c.opened-walk.ensures _ _ _ c.in_ok-behind-in-Block.ensures
 
-pub shape_of-past-in-Stopped-walk_block : goal.shape_of-past-in-Stopped-walk_block
-shape_of-past-in-Stopped-walk_block c = omega (arith, c.requires.rests.room.past_long, c.loop-number.invariant.room.past_long)
-
-pub returns-in-Stopped-walk_block : goal.returns-in-Stopped-walk_block
-returns-in-Stopped-walk_block c = walking_refused _ _ _ _ _ _ _ _ _ _ _ c.loop-number.invariant _ _ _ _ _ (reaches_as c.in-Block.is c.next_block.ensures) _ c.opened-walk.ensures _ _ _ (leaves_as c.in-Stopped-walk_block.is c.walk_block.ensures)
-
-pub loop-number-smaller : goal.loop-number-smaller
-loop-number-smaller c = walking_less _ _ _ _ _ _ _ _ _ _ _ c.loop-number.invariant _ _ _ _ _ (reaches_as c.in-Block.is c.next_block.ensures) _ c.opened-walk.ensures _ _ _ (leaves_as c.in-To.is c.walk_block.ensures)
-
-pub loop-number-preserved : goal.loop-number-preserved
-loop-number-preserved c = walking_on _ _ _ _ _ _ _ _ _ _ _ c.loop-number.invariant _ _ _ _ _ (reaches_as c.in-Block.is c.next_block.ensures) _ c.opened-walk.ensures _ _ _ (leaves_as c.in-To.is c.walk_block.ensures)
+pub loop-reached-preserved : goal.loop-reached-preserved
+loop-reached-preserved c = walking_on _ _ _ _ _ _ _ _ _ _ _ c.loop-reached.invariant _ _ _ _ _ (reaches_as c.in-Block.is c.in_ok-reached.ensures) _ c.opened-walk.ensures _ _ _ c.in_ok-behind-in-Block.ensures

@@ -1,5 +1,4 @@
 -- `are_bytes` meets its contract. The loop's invariant: the name and the field agree up to `i`. Assumes nothing.
-use Prim.Native.Nat.{◌-◌}
 use Rattle.fields.proofs.Scan.{name_other, name_begin, name_more, name_unlike, name_end}
 use Rattle.fields.proofs.are_bytes.Goals as goal
 

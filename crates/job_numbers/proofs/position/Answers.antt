@@ -1,5 +1,4 @@
 -- `job_numbers::position` meets its contract. Assumes nothing.
-use Prim.Native.Nat.{◌-◌}
 use Rattle.job_numbers.proofs.Numbers.{looked_none, looked_one, looked_here, looked_all}
 use borrow.Author.Rules.{rules}
 use Rattle.job_numbers.proofs.position.Goals as goal

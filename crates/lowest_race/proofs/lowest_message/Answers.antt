@@ -6,8 +6,8 @@ use Rattle.lowest_race.proofs.lowest_message.Goals as goal
 pub loop-e-init : goal.loop-e-init
 loop-e-init c = search messages_begin
 
-pub returns-in-Event : goal.returns-in-Event
-returns-in-Event c = search messages_find
+pub returns-in-Some : goal.returns-in-Some
+returns-in-Some c = search messages_find
 
 pub loop-e-preserved : goal.loop-e-preserved
 loop-e-preserved c = search messages_go_on

@@ -5,7 +5,7 @@ use Rattle.lowest_race.proofs.Messages.{Passed}
 use Rattle.lowest_race.proofs.lowest_message.Given as goal
 
 abbrev pub invariant-loop-e : goal.invariant-loop-e
-invariant-loop-e l = Passed l.count l.boards l.words (rule_in l.rule) l.e
+invariant-loop-e l = Passed l.scenario.count l.scenario.boards.now l.scenario.words.now (rule_in l.rule) l.e
 
 abbrev pub decreases-loop-e : goal.decreases-loop-e
-decreases-loop-e l = l.count - l.e
+decreases-loop-e l = l.scenario.count - l.e

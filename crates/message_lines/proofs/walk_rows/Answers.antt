@@ -21,8 +21,8 @@ overflow_add-level c = search call_level
 pub overflow_add-calls : goal.overflow_add-calls
 overflow_add-calls c = search call_count
 
-pub bounds-one-at : goal.bounds-one-at
-bounds-one-at c = search call_one
+pub bounds-rows-at : goal.bounds-rows-at
+bounds-rows-at c = search call_one
 
 pub start_of-at-requires-then-letter-eq67 : goal.start_of-at-requires-then-letter-eq67
 start_of-at-requires-then-letter-eq67 c = search call_sheet
@@ -78,8 +78,8 @@ loop-met-smaller c = search row_less
 pub loop-met-preserved : goal.loop-met-preserved
 loop-met-preserved c = search writing_on
 
-pub offset_bounds-one-at : goal.offset_bounds-one-at
-offset_bounds-one-at c = search call_place
+pub offset_bounds-rows-at : goal.offset_bounds-rows-at
+offset_bounds-rows-at c = search call_place
 
 pub returns : goal.returns
 returns c = search all_written

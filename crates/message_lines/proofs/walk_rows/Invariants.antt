@@ -4,7 +4,7 @@ use Rattle.message_lines.proofs.Looking.{Writing}
 use Rattle.message_lines.proofs.walk_rows.Given as goal
 
 abbrev pub invariant-loop-met : goal.invariant-loop-met
-invariant-loop-met l = Writing l.kind l.one l.two l.rows l.asked l.initial.lines l.lines l.from l.level l.at l.calls l.met
+invariant-loop-met l = Writing l.rows.kind.now l.rows.one.now l.rows.two.now l.rows.count l.asked l.initial.lines l.lines l.from l.level l.at l.calls l.met
 
 abbrev pub decreases-loop-met : goal.decreases-loop-met
-decreases-loop-met l = rank l.rows l.level l.at l.calls
+decreases-loop-met l = rank l.rows.count l.level l.at l.calls

@@ -1,12 +1,8 @@
 -- `monitor::begin` meets its contract. Assumes nothing.
-use Rattle.monitor.proofs.Parts.{line_small, begin_refused, begun}
+use Rattle.std.proofs.lemmas.Result.{err_from_is_err_and}
+use Rattle.monitor.proofs.Parts.{line_small}
 use Rattle.monitor.proofs.begin.Goals as goal
 
-pub refused-requires : goal.refused-requires
-refused-requires c = search line_small
-
-pub returns-in-Refused : goal.returns-in-Refused
-returns-in-Refused c = search begin_refused
-
-pub returns-in-Messages : goal.returns-in-Messages
-returns-in-Messages c = search begun
+pub returns-in_err-scenario_of-clause-fits : goal.returns-in_err-scenario_of-clause-fits
+returns-in_err-scenario_of-clause-fits c = let p = err_from_is_err_and c.from_residual.result c.from_residual.ensures.1 in
+    rw (p.1, p.2) (line_small _ _ _ _ c.in_err-scenario_of.ensures)

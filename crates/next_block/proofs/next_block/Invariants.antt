@@ -3,8 +3,8 @@ use Rattle.next_block.specs.Levels.{rank}
 use Rattle.next_block.proofs.Seeking.{Seeking}
 use Rattle.next_block.proofs.next_block.Given as goal
 
-abbrev pub invariant-loop-rows : goal.invariant-loop-rows
-invariant-loop-rows l = Seeking l.options l.kind l.one l.two l.rows l.initial.from l.depth l.row l.made l.met l.from l.level l.at l.calls l.choices
+abbrev pub invariant-loop-options : goal.invariant-loop-options
+invariant-loop-options l = Seeking l.options l.rows.kind.now l.rows.one.now l.rows.two.now l.rows.count l.initial.from l.initial.level l.initial.at l.initial.calls l.initial.choices l.from l.level l.at l.calls l.choices
 
-abbrev pub decreases-loop-rows : goal.decreases-loop-rows
-decreases-loop-rows l = rank l.rows l.level l.at l.calls
+abbrev pub decreases-loop-options : goal.decreases-loop-options
+decreases-loop-options l = rank l.rows.count l.level l.at l.calls

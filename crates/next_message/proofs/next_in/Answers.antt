@@ -1,5 +1,4 @@
 -- `next_in` meets its contract. The loop keeps `NoneBefore`: no message is in the words passed. Assumes nothing.
-use Prim.Native.Nat.{◌-◌}
 use native.Mathlib.Omega.{arith}
 use lib.Count.{trailing_le}
 use lib.ListN.{get_or}
@@ -17,7 +16,7 @@ overflow_add-result c = let few = trailing_le word_bits (left c.args.row.now c.a
     search rules
 
 pub returns-then-rest-ne0 : goal.returns-then-rest-ne0
-returns-then-rest-ne0 c = next_in_word _ _ (c.shared_slice_known-1.given _).fits c.if-rest-ne0.true (omega arith)
+returns-then-rest-ne0 c = next_in_word _ _ (c.type_inv.row _).fits c.if-rest-ne0.true (omega arith)
 
 pub loop-i-init : goal.loop-i-init
 loop-i-init c = search none_before
@@ -31,7 +30,7 @@ overflow_add-result-then-word-ne0 c = let few = trailing_le word_bits (get_or c.
     search rules
 
 pub returns-then-word-ne0 : goal.returns-then-word-ne0
-returns-then-word-ne0 c = next_in_row _ _ _ c.loop-i.invariant (c.shared_slice_known-in-loop-i-1.given _).fits c.if-word-ne0.true (omega arith)
+returns-then-word-ne0 c = next_in_row _ _ _ c.loop-i.invariant (c.type_inv.row _).fits c.if-word-ne0.true (omega arith)
 
 pub loop-i-preserved : goal.loop-i-preserved
 loop-i-preserved c = search none_before_more

@@ -1,16 +1,15 @@
 -- `next_step::choose` meets its contract. Assumes nothing.
-use Prim.Native.Nat.{◌-◌}
 use Rattle.next_step.proofs.Searching.{tried_none, tried_more, chooses, chooses_nothing}
 use Rattle.next_step.proofs.choose.Goals as goal
 
-pub loop-k-init : goal.loop-k-init
-loop-k-init c = search tried_none
+pub loop-class-init : goal.loop-class-init
+loop-class-init c = search tried_none
 
-pub returns-in-Step : goal.returns-in-Step
-returns-in-Step c = search chooses
+pub returns-in-Some : goal.returns-in-Some
+returns-in-Some c = search (chooses, c.in-Some.ensures)
 
-pub loop-k-preserved : goal.loop-k-preserved
-loop-k-preserved c = search tried_more
+pub loop-class-preserved : goal.loop-class-preserved
+loop-class-preserved c = search (tried_more, c.in_default.ensures)
 
 pub returns : goal.returns
 returns c = search chooses_nothing

@@ -1,4 +1,5 @@
 -- `permitted::check` meets its contract. Assumes nothing.
+use Rattle.std.proofs.lemmas.Result.{err_from_is_err_and}
 use borrow.Author.Rules.{rules}
 use native.Mathlib.Omega.{arith}
 use Prim.Native.Nat.{◌*◌}
@@ -9,14 +10,17 @@ use Rattle.relation.specs.Width.{width}
 use Rattle.permitted.proofs.Whole.{refuses_channel, refuses_scratch, refuses_trace, answers}
 use Rattle.permitted.proofs.check.Goals as goal
 
-pub returns-then-channel-ge-CHANNELS : goal.returns-then-channel-ge-CHANNELS
-returns-then-channel-ge-CHANNELS c = search refuses_channel
+pub returns-in_err-channel : goal.returns-in_err-channel
+returns-in_err-channel c = let p = err_from_is_err_and c.from_residual.result c.from_residual.ensures.1 in
+    rw (p.1, p.2, c.in_err-channel.ensures.0) (refuses_channel _ _ _ _ _ c.in_err-channel.ensures.1)
 
-pub returns-then-scratch-lt-SCRATCH_LEAST : goal.returns-then-scratch-lt-SCRATCH_LEAST
-returns-then-scratch-lt-SCRATCH_LEAST c = refuses_scratch _ _ _ _ _ (search rules) (omega arith)
+pub returns-in_err-at_least : goal.returns-in_err-at_least
+returns-in_err-at_least c = let p = err_from_is_err_and c.from_residual-in_err-at_least.result c.from_residual-in_err-at_least.ensures.1 in
+    rw (p.1, p.2, c.in_err-at_least.ensures.0) (refuses_scratch _ _ _ _ _ c.in_ok-channel.ensures.1 c.in_err-at_least.ensures.1)
 
-pub returns-then-trace-lt-TRACE_LEAST : goal.returns-then-trace-lt-TRACE_LEAST
-returns-then-trace-lt-TRACE_LEAST c = refuses_trace _ _ _ _ _ (search rules) (omega arith)
+pub returns-in_err-at_least-2 : goal.returns-in_err-at_least-2
+returns-in_err-at_least-2 c = let p = err_from_is_err_and c.from_residual-in_err-at_least-2.result c.from_residual-in_err-at_least-2.ensures.1 in
+    rw (p.1, p.2, c.in_err-at_least-2.ensures.0) (refuses_trace _ _ _ _ _ c.in_ok-channel.ensures.1 c.in_err-at_least-2.ensures.1)
 
 pub slice_bounds-judge-end-2 : goal.slice_bounds-judge-end-2
 slice_bounds-judge-end-2 c = simp length-take (omega arith)
@@ -27,5 +31,5 @@ judge-answer-requires c = record { words_len = simp length-take (omega arith); c
 pub returns : goal.returns
 returns c = let n = 2 * messages_most * width in
     let kept = length-take n c.args.scratch.now in
-    answers _ _ _ _ _ _ _ c.judge-answer.new.words n _ _ (search rules) (search rules) (search rules) (omega (arith, kept)) (search rules)
-    c.clear.ensures refl c.judge-answer.ensures
+    rw (← c.in_ok-channel.ensures.0) (answers _ _ _ _ _ _ _ c.judge-answer.new.words n _ _ (search rules) c.in_ok-at_least.ensures c.in_ok-at_least-2.ensures (omega (arith, kept)) (search rules)
+    c.clear.ensures refl c.judge-answer.ensures)

@@ -1,18 +1,17 @@
 -- `add_message` meets its contract. Assumes nothing.
 use Rattle.place.proofs.Standing.{no_source, no_target, no_room, message_fits_holds}
-use mathlib.Core.Path.{refl}
 use native.Mathlib.Omega.{arith}
 use borrow.Author.Rules.{rules}
 use Rattle.place.proofs.add_message.Goals as goal
+use Rattle.place.proofs.add_message.Goals.{then-a-ge-BOARDS-via-then-a-ge-BOARDS, then-a-ge-BOARDS-via-else-a-ge-BOARDS+then-b-ge-BOARDS, then-a-ge-BOARDS-via-else-a-ge-BOARDS+else-b-ge-BOARDS+then-messages-ge-MESSAGES_MOST}
 
-pub returns-then-a-ge-BOARDS : goal.returns-then-a-ge-BOARDS
-returns-then-a-ge-BOARDS c = record { value = no_source _ _ c.requires.0 c.requires.1 _ _ (omega arith); boards_after = refl }
+pub returns-then-a-ge-BOARDS-clause-value : goal.returns-then-a-ge-BOARDS-clause-value
+returns-then-a-ge-BOARDS-clause-value c =
+    elim c.then-a-ge-BOARDS.branch [
+      | then-a-ge-BOARDS-via-then-a-ge-BOARDS w ↦ no_source _ _ c.requires.0 c.requires.1 _ _ (omega arith)
+      | then-a-ge-BOARDS-via-else-a-ge-BOARDS+then-b-ge-BOARDS w ↦ no_target _ _ c.requires.0 c.requires.1 _ _ (omega arith) (omega arith)
+      | then-a-ge-BOARDS-via-else-a-ge-BOARDS+else-b-ge-BOARDS+then-messages-ge-MESSAGES_MOST w ↦ no_room _ _ c.requires.0 c.requires.1 _ _ (omega arith) (omega arith) (omega arith)
+    ]
 
-pub returns-then-b-ge-BOARDS : goal.returns-then-b-ge-BOARDS
-returns-then-b-ge-BOARDS c = record { value = no_target _ _ c.requires.0 c.requires.1 _ _ (omega arith) (omega arith); boards_after = refl }
-
-pub returns-then-messages-ge-MESSAGES_MOST : goal.returns-then-messages-ge-MESSAGES_MOST
-returns-then-messages-ge-MESSAGES_MOST c = record { value = no_room _ _ c.requires.0 c.requires.1 _ _ (omega arith) (omega arith) (omega arith); boards_after = refl }
-
-pub returns : goal.returns
-returns c = search (message_fits_holds, rules)
+pub returns-clause-value : goal.returns-clause-value
+returns-clause-value c = search (message_fits_holds, rules)

@@ -4,6 +4,3 @@ use Rattle.race.proofs.on_board.Given as goal
 
 abbrev pub invariant-loop-x : goal.invariant-loop-x
 invariant-loop-x l = LookedAt l.boards l.board l.from l.to l.x l.on
-
-abbrev pub decreases-loop-x : goal.decreases-loop-x
-decreases-loop-x l = l.x

@@ -7,12 +7,12 @@ use Rattle.readiness.proofs.readiness_of.Goals as goal
 pub returns-then-test : goal.returns-then-test
 returns-then-test c = search says_done
 
-pub first_left-found-requires : goal.first_left-found-requires
-first_left-found-requires c = let board = c.requires.standing.boards_below c.args.x (omega arith) in
+pub first_left-requires : goal.first_left-requires
+first_left-requires c = let board = c.args.scenario.now.standing.boards_below c.args.x (omega arith) in
     search rules
 
-pub returns-in-Event : goal.returns-in-Event
-returns-in-Event c = search says_waits
+pub returns-in-Some : goal.returns-in-Some
+returns-in-Some c = search says_waits
 
-pub returns-in-Nothing : goal.returns-in-Nothing
-returns-in-Nothing c = search says_ready
+pub returns-in-None : goal.returns-in-None
+returns-in-None c = search says_ready

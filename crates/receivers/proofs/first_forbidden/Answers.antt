@@ -1,5 +1,4 @@
 -- `receivers::first_forbidden` meets its contract: the loop keeps that no message passed is forbidden. Assumes nothing.
-use Prim.Native.Nat.{◌-◌}
 use borrow.Author.Rules.{rules}
 use Rattle.receivers.proofs.Looking.{passed_none, on_a_board, board_fits, forbidden_here, permitted_here, forbidden_nowhere}
 use Rattle.receivers.proofs.first_forbidden.Goals as goal

@@ -1,5 +1,4 @@
 -- `receivers::permitted_by` meets its contract: the loop keeps that the senders passed have their sets. Assumes nothing.
-use Prim.Native.Nat.{◌-◌}
 use Rattle.receivers.proofs.Deciding.{filling_start, filling_more, filled}
 use Rattle.receivers.proofs.permitted_by.Goals as goal
 

@@ -7,17 +7,20 @@ use lib.ListN.{length-take}
 use Rattle.model.specs.Limits.{messages_most}
 use Rattle.relation.specs.Width.{width}
 use Rattle.replay.proofs.Whole.{refuses_channel, refuses_scratch, refuses_trace, replays, trace_fits}
+use Rattle.std.proofs.lemmas.Result.{err_from_is_err_and}
 use borrow.Author.Rules.{rules}
 use Rattle.replay.proofs.judge_trace.Goals as goal
 
-pub returns-then-channel-ge-CHANNELS : goal.returns-then-channel-ge-CHANNELS
-returns-then-channel-ge-CHANNELS c = search refuses_channel
+pub returns-in_err-channel : goal.returns-in_err-channel
+returns-in_err-channel c = let p = err_from_is_err_and c.from_residual.result c.from_residual.ensures.1 in
+    rw (p.1, p.2) (refuses_channel _ _ _ _ _ c.in_err-channel.ensures.0 c.in_err-channel.ensures.1)
 
-pub returns-then-scratch-lt-SCRATCH_LEAST : goal.returns-then-scratch-lt-SCRATCH_LEAST
-returns-then-scratch-lt-SCRATCH_LEAST c = search refuses_scratch
+pub returns-in_err-at_least : goal.returns-in_err-at_least
+returns-in_err-at_least c = let p = err_from_is_err_and c.from_residual-in_err-at_least.result c.from_residual-in_err-at_least.ensures.1 in
+    rw (p.1, p.2) (refuses_scratch _ _ _ _ _ c.in_err-at_least.ensures.0 c.in_ok-channel.ensures.1 c.in_err-at_least.ensures.1)
 
 pub returns-then-not-is_trace : goal.returns-then-not-is_trace
-returns-then-not-is_trace c = search (refuses_trace, rules)
+returns-then-not-is_trace c = let known = c.in_ok-channel.ensures.1 in let long = c.in_ok-at_least.ensures in search (refuses_trace, rules)
 
 pub slice_bounds-judge-end-2 : goal.slice_bounds-judge-end-2
 slice_bounds-judge-end-2 c = simp length-take (omega arith)
@@ -29,5 +32,5 @@ judge-outcome-requires c = let fits = trace_fits _ _ (ap not c.if-not-is_trace.f
 pub returns : goal.returns
 returns c = let n = 2 * messages_most * width in
     let kept = length-take n c.args.scratch.now in
-    replays _ _ _ _ c.judge-outcome.result _ _ c.judge-outcome.new.words n (ap not c.if-not-is_trace.false) c.is_trace.ensures (search rules) (search rules) (omega (arith, kept)) (search rules)
-    c.clear-2.ensures c.judge-outcome.ensures
+    rw (← c.in_ok-channel.ensures.0) (replays _ _ _ _ c.judge-outcome.result _ _ c.judge-outcome.new.words n (ap not c.if-not-is_trace.false) c.is_trace.ensures (search rules) (search rules) (omega (arith, kept)) (search rules)
+    c.clear-2.ensures c.judge-outcome.ensures)

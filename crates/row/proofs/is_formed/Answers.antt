@@ -1,28 +1,22 @@
 -- `is_formed` meets its contract. Assumes nothing.
+use Rattle.row.proofs.Forms.{form_pair, form_choice, form_one, form_block, form_used, form_none}
 use native.Mathlib.Omega.{arith}
-use Rattle.row.proofs.Forms.{form_message, form_order, form_choice, form_sheet, form_call, form_block, form_used, form_none}
 use Rattle.row.proofs.is_formed.Goals as goal
 
-pub returns-then-kind-eq77 : goal.returns-then-kind-eq77
-returns-then-kind-eq77 c = search form_message
+pub returns-in-77 : goal.returns-in-77
+returns-in-77 c = form_pair _ _ _ _ c.in-77.is
 
-pub returns-then-kind-eq80 : goal.returns-then-kind-eq80
-returns-then-kind-eq80 c = search form_order
+pub returns-in-65 : goal.returns-in-65
+returns-in-65 c = form_choice _ _ _ _ c.in-65.is
 
-pub returns-then-kind-eq65 : goal.returns-then-kind-eq65
-returns-then-kind-eq65 c = search form_choice
+pub returns-in-83 : goal.returns-in-83
+returns-in-83 c = form_one _ _ _ _ c.in-83.is
 
-pub returns-then-two-ne0 : goal.returns-then-two-ne0
-returns-then-two-ne0 c = form_used _ _ _ _ (λ e. omega arith) (search) (search) (search)
+pub returns-then-one-eq0 : goal.returns-then-one-eq0
+returns-then-one-eq0 c = search form_block
 
-pub returns-then-kind-eq83 : goal.returns-then-kind-eq83
-returns-then-kind-eq83 c = search form_sheet
+pub returns-else-one-eq0 : goal.returns-else-one-eq0
+returns-else-one-eq0 c = search form_used
 
-pub returns-then-kind-eq67 : goal.returns-then-kind-eq67
-returns-then-kind-eq67 c = search form_call
-
-pub returns-then-kind-eq66 : goal.returns-then-kind-eq66
-returns-then-kind-eq66 c = search form_block
-
-pub returns : goal.returns
-returns c = search form_none
+pub returns-in_default : goal.returns-in_default
+returns-in_default c = form_none _ _ _ _ (λ e. grind arith) (λ e. grind arith) (λ e. grind arith) (λ e. grind arith) (λ e. grind arith) (λ e. grind arith)

@@ -1,5 +1,4 @@
 -- `rules_from` meets its contract. Assumes nothing.
-use borrow.Author.Rules.{rules}
 use Prim.Native.Nat.{◌-◌}
 use lib.ListN.{length}
 use Rattle.sender_table.proofs.Storing.{Looping}

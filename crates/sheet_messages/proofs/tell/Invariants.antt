@@ -1,10 +1,6 @@
 -- `sheet_messages::tell` meets its contract: its loop keeps `Telling`. Assumes nothing.
-use Prim.Native.Nat.{◌-◌}
 use Rattle.sheet_messages.proofs.Telling.{Telling}
 use Rattle.sheet_messages.proofs.tell.Given as goal
 
 abbrev pub invariant-loop-m : goal.invariant-loop-m
 invariant-loop-m l = Telling l.lines l.boards l.initial.output l.count l.m l.output
-
-abbrev pub decreases-loop-m : goal.decreases-loop-m
-decreases-loop-m l = l.count - l.m

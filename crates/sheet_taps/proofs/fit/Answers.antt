@@ -5,16 +5,18 @@ use Rattle.model.specs.Limits.{messages_most}
 use Rattle.relation.specs.Width.{width}
 use lib.ListN.{length-take}
 use Rattle.sheet_taps.proofs.Whole.{refuses_scratch, refuses_output, answers}
-use borrow.Author.Rules.{rules}
+use Rattle.std.proofs.lemmas.Result.{err_from_is_err_and}
 use borrow.Author.Rules.{rules}
 use native.Mathlib.Omega.{arith}
 use Rattle.sheet_taps.proofs.fit.Goals as goal
 
-pub returns-then-scratch-lt-SCRATCH_LEAST : goal.returns-then-scratch-lt-SCRATCH_LEAST
-returns-then-scratch-lt-SCRATCH_LEAST c = refuses_scratch _ _ _ _ _ (omega arith)
+pub returns-in_err-at_least : goal.returns-in_err-at_least
+returns-in_err-at_least c = let p = err_from_is_err_and c.from_residual.result c.from_residual.ensures.1 in
+    rw (p.1, p.2) (refuses_scratch _ _ _ _ _ _ c.in_err-at_least.ensures.0 c.in_err-at_least.ensures.1)
 
-pub returns-then-output-lt-TAP_NUMBERS_LEAST : goal.returns-then-output-lt-TAP_NUMBERS_LEAST
-returns-then-output-lt-TAP_NUMBERS_LEAST c = refuses_output _ _ _ _ _ (omega arith)
+pub returns-in_err-at_least-2 : goal.returns-in_err-at_least-2
+returns-in_err-at_least-2 c = let p = err_from_is_err_and c.from_residual-in_err-at_least-2.result c.from_residual-in_err-at_least-2.ensures.1 in
+    rw (p.1, p.2) (refuses_output _ _ _ _ _ _ c.in_err-at_least-2.ensures.0 c.in_err-at_least-2.ensures.1)
 
 pub slice_bounds-judge-end-2 : goal.slice_bounds-judge-end-2
 slice_bounds-judge-end-2 c = simp length-take (omega arith)
@@ -25,5 +27,5 @@ judge-answer-requires c = record { words_len = simp length-take (omega arith); t
 pub returns : goal.returns
 returns c = let n = 2 * messages_most * width in
     let kept = length-take n c.args.scratch.now in
-    answers _ _ _ _ _ _ _ c.judge-answer.new.words n _ _ (search rules) (search rules) (omega (arith, kept)) (search rules)
+    answers _ _ _ _ _ _ _ c.judge-answer.new.words n _ _ c.in_ok-at_least.ensures c.in_ok-at_least-2.ensures (omega (arith, kept)) (search rules)
     c.clear.ensures refl c.judge-answer.ensures

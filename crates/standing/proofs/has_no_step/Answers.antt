@@ -1,5 +1,4 @@
 -- `standing::has_no_step` meets its contract. Assumes nothing.
-use Prim.Native.Nat.{◌-◌}
 use Rattle.standing.proofs.AtEnd.{without_step_starts, step_left, no_step_more, no_step_at_all}
 use borrow.Author.Rules.{rules}
 use Rattle.standing.proofs.has_no_step.Goals as goal

@@ -1,10 +1,6 @@
 -- `standing::is_finished` meets its contract. Assumes nothing.
-use Prim.Native.Nat.{◌-◌}
 use Rattle.standing.proofs.AtEnd.{Finishing}
 use Rattle.standing.proofs.is_finished.Given as goal
 
 abbrev pub invariant-loop-m : goal.invariant-loop-m
 invariant-loop-m l = Finishing l.done l.count l.m
-
-abbrev pub decreases-loop-m : goal.decreases-loop-m
-decreases-loop-m l = l.count - l.m

@@ -1,9 +1,6 @@
 -- `takes` meets its contract, class by class. Assumes nothing.
-use Rattle.step_classes.proofs.EachClass.{takes_one, takes_delivery, takes_send}
+use Rattle.step_classes.proofs.EachClass.{takes_delivery, takes_send}
 use Rattle.step_classes.proofs.takes.Goals as goal
-
-pub returns-in-DeliveryOf : goal.returns-in-DeliveryOf
-returns-in-DeliveryOf c = search takes_one
 
 pub returns-in-NeededDelivery : goal.returns-in-NeededDelivery
 returns-in-NeededDelivery c = search takes_delivery

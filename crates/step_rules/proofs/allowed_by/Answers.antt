@@ -5,13 +5,13 @@ use Rattle.step_rules.proofs.StepKinds.{inside, step_sends, step_delivers, step_
 use Rattle.step_rules.proofs.allowed_by.Goals as goal
 
 pub may_send-requires : goal.may_send-requires
-may_send-requires c = record { standing = search rules; m_lt_count = search (inside Send) }
+may_send-requires c = record { m_lt_count = search (inside Send) }
 
 pub may_deliver-requires : goal.may_deliver-requires
-may_deliver-requires c = record { standing = search rules; m_lt_count = search (inside Deliver) }
+may_deliver-requires c = record { m_lt_count = search (inside Deliver) }
 
 pub may_consume-requires : goal.may_consume-requires
-may_consume-requires c = record { standing = search rules; m_lt_count = (search (inside Consume), search rules) }
+may_consume-requires c = record { m_lt_count = (search (inside Consume), search rules) }
 
 pub returns-in-Send : goal.returns-in-Send
 returns-in-Send c = search step_sends

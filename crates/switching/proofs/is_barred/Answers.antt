@@ -5,5 +5,5 @@ use Rattle.switching.proofs.is_barred.Goals as goal
 pub returns-then-bars_buffers : goal.returns-then-bars_buffers
 returns-then-bars_buffers c = search barred_by_buffers
 
-pub returns : goal.returns
-returns c = search barred_by_way
+pub returns-else-bars_buffers : goal.returns-else-bars_buffers
+returns-else-bars_buffers c = search barred_by_way

@@ -14,10 +14,10 @@ lowest_own-requires c = let long = linked_long _ _ _ _ _ c.requires.lent c.requi
 
 pub write_course-requires : goal.write_course-requires
 write_course-requires c = let long = linked_long _ _ _ _ _ c.requires.lent c.requires.first_value c.requires.second_value _ c.link_both.ensures in
-    let room = lent_room _ _ _ c.requires.lent in record { width_in_bounds = omega arith; events_bound = (omega arith, omega arith); no_circle = fits_without_circle _ _ _ _ _ c.requires.lent c.requires.first_value c.requires.second_value _ c.link_both.ensures _ c.lowest_own.ensures c.in-Nothing.is }
+    let room = lent_room _ _ _ c.requires.lent in record { width_in_bounds = omega arith; events_bound = (omega arith, omega arith); no_circle = fits_without_circle _ _ _ _ _ c.requires.lent c.requires.first_value c.requires.second_value _ c.link_both.ensures _ c.lowest_own.ensures c.in-None.is }
 
-pub returns-in-Event : goal.returns-in-Event
-returns-in-Event c = search clashes
+pub returns-in-Some : goal.returns-in-Some
+returns-in-Some c = search clashes
 
-pub returns-in-Nothing : goal.returns-in-Nothing
-returns-in-Nothing c = search fits
+pub returns-in-None : goal.returns-in-None
+returns-in-None c = search fits

@@ -6,5 +6,5 @@ use Rattle.verdict.proofs.decide.Goals as goal
 pub lock-requires : goal.lock-requires
 lock-requires c = record { fit = search rules; code_lt_channels = search rules; race = search named }
 
-pub returns-in-Nothing : goal.returns-in-Nothing
-returns-in-Nothing c = search unnamed
+pub returns-in-None : goal.returns-in-None
+returns-in-None c = search unnamed

@@ -6,8 +6,8 @@ use Rattle.verdict.proofs.withhold.Goals as goal
 pub board_masks-requires : goal.board_masks-requires
 board_masks-requires c = record { count_le_messages_most = search rules; count_in_bounds = search rules; width_in_bounds = search rules; boards_below = c.requires.fit.boards_below }
 
-pub schedule-requires : goal.schedule-requires
-schedule-requires c = record {
+pub invariant_of-scenario : goal.invariant_of-scenario
+invariant_of-scenario c = record {
   standing = record {
     few = search rules;
     boards_long = search rules;
@@ -16,8 +16,6 @@ schedule-requires c = record {
     boards_below = c.requires.fit.boards_below;
     masks_of = c.board_masks.ensures;
   };
-  e_lt_count = search rules;
-  count_in_bounds = search rules;
 }
 
 pub returns : goal.returns

@@ -1,5 +1,4 @@
 -- `waits::wait_at` meets its contract. The loop keeps `Passed`: no message passed keeps the board waiting. Assumes nothing.
-use Prim.Native.Nat.{◌-◌}
 use Rattle.next_message.proofs.InRow.{less_left}
 use Rattle.waits.proofs.Searching.{search_begins, goes_past, finds_nobody, nobody_left, finds_done, finds_event, event_fits}
 use Rattle.waits.proofs.wait_at.Goals as goal
@@ -16,8 +15,8 @@ overflow_cast-result c = search event_fits
 pub returns-in-Waits : goal.returns-in-Waits
 returns-in-Waits c = search finds_event
 
-pub returns-then-m-count : goal.returns-then-m-count
-returns-then-m-count c = search nobody_left
+pub returns-then-m-scenario : goal.returns-then-m-scenario
+returns-then-m-scenario c = search nobody_left
 
 pub loop-m-smaller : goal.loop-m-smaller
 loop-m-smaller c = search less_left

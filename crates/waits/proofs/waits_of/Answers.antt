@@ -1,6 +1,4 @@
 -- `waits::waits_of` meets its contract. The loop keeps `Answered`: the boards passed are answered. Assumes nothing.
-use Prim.Native.Nat.{◌-◌}
-use Rattle.model.specs.Limits as limits
 use Rattle.waits.proofs.Searching.{answered_none, answered_more, answered_all}
 use Rattle.waits.proofs.waits_of.Goals as goal
 

@@ -1,5 +1,5 @@
 -- `board::masks::board_masks` meets its contract. The loop keeps `Masking`: the masks of the messages passed.
-use Prim.Native.Nat.{◌+◌, ◌*◌, ◌-◌}
+use Prim.Native.Nat.{◌+◌, ◌*◌}
 use native.Mathlib.Omega.{arith}
 use borrow.Author.Rules.{rules}
 use Rattle.board.proofs.Masking.{masking_start, masking_more, masking_end}

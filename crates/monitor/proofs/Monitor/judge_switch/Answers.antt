@@ -1,15 +1,8 @@
 -- `Monitor::judge_switch` meets its contract. Assumes nothing.
-use Rattle.monitor.proofs.Parts.{line_small, switch_refused, barred, made}
+use Rattle.std.proofs.lemmas.Result.{err_from_is_err_and}
+use Rattle.monitor.proofs.Parts.{line_small}
 use Rattle.monitor.proofs.Monitor.judge_switch.Goals as goal
 
-pub refused-requires : goal.refused-requires
-refused-requires c = search line_small
-
-pub returns-then-is_barred : goal.returns-then-is_barred
-returns-then-is_barred c = search barred
-
-pub returns-in-Refused : goal.returns-in-Refused
-returns-in-Refused c = search switch_refused
-
-pub returns-else-is_barred : goal.returns-else-is_barred
-returns-else-is_barred c = search made
+pub returns-in_err-scenario_of-clause-fits : goal.returns-in_err-scenario_of-clause-fits
+returns-in_err-scenario_of-clause-fits c = let p = err_from_is_err_and c.from_residual.result c.from_residual.ensures.1 in
+    rw (p.1, p.2) (line_small _ _ _ _ c.in_err-scenario_of.ensures)

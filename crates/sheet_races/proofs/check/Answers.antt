@@ -1,0 +1,38 @@
+-- `sheet_races::check` meets its contract. Assumes nothing.
+use Prim.Native.Nat.{◌*◌}
+use mathlib.Core.Path.{refl}
+use native.Mathlib.Omega.{arith}
+use Rattle.std.proofs.lemmas.Result.{err_from_is_err_and}
+use borrow.Author.Rules.{rules}
+use lib.ListN.{length-take}
+use Rattle.model.specs.Limits.{messages_most}
+use Rattle.relation.specs.Width.{width}
+use Rattle.sheet_races.proofs.Whole.{refuses_channel, refuses_scratch, no_line, answers}
+use Rattle.sheet_races.proofs.check.Goals as goal
+
+pub returns-in_err-channel : goal.returns-in_err-channel
+returns-in_err-channel c = let p = err_from_is_err_and c.from_residual.result c.from_residual.ensures.1 in
+    rw (p.1, p.2) (record { races_told = refuses_channel _ _ _ _ _ c.in_err-channel.ensures.0 c.in_err-channel.ensures.1; small = no_line c.in_err-channel.ensures.0 })
+
+pub returns-in_err-at_least : goal.returns-in_err-at_least
+returns-in_err-at_least c = let p = err_from_is_err_and c.from_residual-in_err-at_least.result c.from_residual-in_err-at_least.ensures.1 in
+    rw (p.1, p.2) (record {
+      races_told = refuses_scratch _ _ _ _ _ c.in_err-at_least.ensures.0 c.in_ok-channel.ensures.1 c.in_err-at_least.ensures.1;
+      small = no_line c.in_err-at_least.ensures.0;
+    })
+
+pub slice_bounds-judge-end-2 : goal.slice_bounds-judge-end-2
+slice_bounds-judge-end-2 c = simp length-take (omega arith)
+
+pub judge-answer-requires : goal.judge-answer-requires
+judge-answer-requires c = record { words_len = simp length-take (omega arith); code_lt_channels = search rules }
+
+pub returns : goal.returns
+returns c = let n = 2 * messages_most * width in
+    let kept = length-take n c.args.scratch.now in
+    record {
+      races_told = rw (← c.in_ok-channel.ensures.0) (
+          answers _ c.in_ok-channel.channel _ _ _ _ c.judge-answer.new.words n _ _ (search rules) c.in_ok-at_least.ensures (omega (arith, kept)) (search rules)
+          c.clear.ensures refl c.judge-answer.ensures.answers);
+      small = c.judge-answer.ensures.small;
+    }

@@ -100,6 +100,8 @@ fn read(
 }
 
 // An admission, into the lowest free place. Where it is refused the dispatcher stays as it was.
+// Kept out of line: in line, the dispatcher's call holds one more copy of the dispatcher.
+#[inline(never)]
 pub fn admit_into(
     part: Part,
     spare: usize,

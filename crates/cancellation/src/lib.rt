@@ -8,6 +8,8 @@ use outcome::{Reason, Refusal};
 use queue::Queue;
 
 // A cancellation, from the queue: the queue that it leaves. Where it is refused the queue stays as it was.
+// Kept out of line: in line, the dispatcher's call holds one more copy of the dispatcher.
+#[inline(never)]
 pub fn leave(queue: Queue, number: u32, words: &mut [u64]) -> Result<Queue, Refusal>
     ensures leaves { LeavesIn queue number words.old words.new result }
     ensures fits { LineFits result }

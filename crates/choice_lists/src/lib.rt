@@ -17,7 +17,7 @@ use race::Rule;
 use sheet::Rows;
 
 // The lists of eight options are numbers, A row 0 the highest bit, so that they come in their order. This many is behind the last.
-const LISTS: usize = 1 << model::CHOICES_MOST;
+pub const LISTS: usize = 1 << model::CHOICES_MOST;
 
 // All lists were walked: the last one's number, its messages, which are in boards and words, the A rows that it met, and the number of
 // the first locked list ahead of it, if there is one.

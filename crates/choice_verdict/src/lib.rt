@@ -85,7 +85,11 @@ pub fn judge_lists(
     requires boards_len { (length boards.old ≡ 2 * messages_most) × (length words.old ≡ 2 * messages_most * width) }
     ensures { Judged (judged_over (rows_in rows.now) code (lists_of (rows_in rows.now))) trace.old trace.new result }
 {
-    let walked = choice_lists::walk_lists(rows, code, boards, words)?;
+    // Not a `?`: the edit rows_for_the_line changes what is handed on here.
+    let walked = match choice_lists::walk_lists(rows, code, boards, words) {
+        Ok(walked) => walked,
+        Err(refusal) => return Err(refusal),
+    };
     match walked.first {
         Some(first) => lock_list(rows, first, code, boards, words, trace),
         None => Ok(decide_list(

@@ -41,8 +41,11 @@ fn judge(text: &[u8], words: &mut [u64], output: &mut [u8]) -> Result<usize, Ref
     ensures { Decides (and_then (sheet_of text.now) cured_of) output.old output.new result }
 {
     let mut boards = [0u8; model::EVENTS_MOST];
-    let count = scenario::scenario_of(text, &mut boards, words)?;
-    decide(words, &boards, count, output)
+    // Not a `?`: the edit line_of_a_refusal_lost changes what is handed on here.
+    match scenario::scenario_of(text, &mut boards, words) {
+        Ok(count) => decide(words, &boards, count, output),
+        Err(refusal) => Err(refusal),
+    }
 }
 
 // The call, with the length of the text written: refusal 2 touches nothing; behind every other answer the scratch is cleared.

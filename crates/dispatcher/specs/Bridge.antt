@@ -12,6 +12,7 @@ use Rattle.outcome.specs.declared.Refusal.{Refusal}
 use Rattle.outcome.specs.Refusals.{number_in}
 use Rattle.dispatcher.specs.declared.Dispatcher.{Dispatcher}
 use Rattle.dispatcher.specs.declared.DispatcherAnswer.{DispatcherAnswer}
+use Rattle.dispatcher.specs.declared.Told as code
 
 abbrev pub held_in : Dispatcher → Held
 held_in d = record { queue = d.queue; given = d.given; races = d.races; boards = d.boards }
@@ -29,9 +30,18 @@ told_in r = record { word = r.word; one = r.one; two = r.two; answer = numbers_i
 abbrev pub answer_in : DispatcherAnswer → Served Dispatcher
 answer_in r = record { told = told_in r; next = r.next }
 
--- a call refused: the dispatcher as it was
-abbrev pub refused_as : Refusal → Dispatcher → Served Dispatcher
-refused_as f d = record { told = record { word = refused_word; one = number_in f.reason; two = f.line; answer = no_answer }; next = d }
+-- what a call tells without the dispatcher, and with what is held after it; with no answer of the check's; and refused
+abbrev pub told_of : code.Told → Told
+told_of t = record { word = t.word; one = t.one; two = t.two; answer = numbers_in t.answer }
+
+abbrev pub served_as : code.Told → Dispatcher → Served Held
+served_as t d = record { told = told_of t; next = held_in d }
+
+abbrev pub unanswered_as : ℕ → ℕ → ℕ → Told
+unanswered_as word one two = record { word = word; one = one; two = two; answer = no_answer }
+
+abbrev pub refused_as : Refusal → Told
+refused_as f = unanswered_as refused_word (number_in f.reason) f.line
 
 -- the dispatcher that holds no job and gave out no number
 abbrev pub emptied : Dispatcher

@@ -2,10 +2,15 @@
 #![tactic(auto)]
 
 ghost use Rattle.std.specs.Prelude.{◌≡◌, ◌<◌, ◌^◌};
+ghost use Rattle.model.specs.Limits.{jobs_most};
 ghost use Rattle.model.specs.Dispatcher.{empty_dispatcher, WholeLists};
-ghost use Rattle.dispatcher.specs.Bridge.{dispatcher_in, Holds, emptied, answer_in, refused_as, AdmitOf, TurnOf, CancelOf};
+ghost use Rattle.lent.specs.Lent.{LineFits};
+ghost use Rattle.admission.specs.Admission.{entered_by};
+ghost use Rattle.head_turn.specs.Serving.{turned_by};
+ghost use Rattle.cancellation.specs.Cancelling.{left_by};
+ghost use Rattle.dispatcher.specs.Bridge.{held_in, dispatcher_in, Holds, emptied, answer_in, told_of, served_as, unanswered_as, refused_as, AdmitOf, TurnOf, CancelOf};
 
-use admission::Part;
+use admission::{Entry, Part};
 use answer_words::served::{ADMITTED, ANSWERED, CANCELLED, IDLE, REFUSED, TAKEN};
 use head_turn::Turn;
 pub use held_jobs::Boards;
@@ -57,21 +62,66 @@ impl Dispatcher {
         }
     }
 
-    // A call refused: the dispatcher stays as it was.
-    fn refused(&self, refusal: Refusal) -> DispatcherAnswer
-        requires { refusal.line < 2 ^ 32 }
-        ensures { answer_in result ≡ refused_as refusal self.now }
+    // What an admission tells, with what it leaves put in place. Where it is refused the dispatcher stays as it was.
+    fn entered(&mut self, place: usize, outcome: Result<Entry, Refusal>) -> Told
+        requires place_lt_jobs_most { place < jobs_most }
+        requires fits { LineFits outcome }
+        ensures { served_as result self.new ≡ entered_by (held_in self.old) place outcome }
     {
-        DispatcherAnswer {
-            word: REFUSED,
-            one: refusal.reason.number(),
-            two: refusal.line as u32,
-            answer: Numbers::zero(),
-            next: *self,
+        match outcome {
+            Err(refusal) => refused(refusal),
+            Ok(entry) => {
+                self.queue = entry.queue;
+                self.given = entry.given;
+                self.races[place] = entry.race;
+                self.boards[place] = entry.boards;
+                unanswered(ADMITTED, entry.number, entry.place)
+            }
         }
     }
 
-    // An admission: the new sheet and its code are lent in the place that it takes.
+    // The same of a turn. One that is idle changes nothing either.
+    fn turned(&mut self, place: usize, outcome: Result<Turn, Refusal>) -> Told
+        requires place_lt_jobs_most { place < jobs_most }
+        requires fits { LineFits outcome }
+        ensures { served_as result self.new ≡ turned_by (held_in self.old) place outcome }
+    {
+        match outcome {
+            Err(refusal) => refused(refusal),
+            Ok(Turn::Idle) => unanswered(IDLE, 0, 0),
+            Ok(Turn::Taken(number, found, queue)) => {
+                self.queue = queue;
+                self.races[place] = found;
+                unanswered(TAKEN, number, 0)
+            }
+            Ok(Turn::Answered(number, answer, queue)) => {
+                self.queue = queue;
+                Told {
+                    word: ANSWERED,
+                    one: number,
+                    two: 0,
+                    answer,
+                }
+            }
+        }
+    }
+
+    // The same of a cancellation.
+    fn left(&mut self, number: u32, outcome: Result<Queue, Refusal>) -> Told
+        requires { LineFits outcome }
+        ensures { served_as result self.new ≡ left_by (held_in self.old) number outcome }
+    {
+        match outcome {
+            Err(refusal) => refused(refusal),
+            Ok(queue) => {
+                self.queue = queue;
+                unanswered(CANCELLED, number, 0)
+            }
+        }
+    }
+
+    // An admission: the new sheet and its code are lent in the place that it takes. The dispatcher is changed where it stands, since a value is
+    // copied whole wherever it goes.
     pub fn admit(
         self,
         sheets: &[u8],
@@ -82,24 +132,18 @@ impl Dispatcher {
         ensures { AdmitOf self sheets.now lengths.now codes.now words.old words.new (answer_in result) × WholeLists dispatcher_in Holds emptied }
     {
         let mut next = self;
-        let place = taken_places::spare_place(self.queue);
+        let place = taken_places::spare_place(next.queue);
         let part = Part {
-            queue: self.queue,
-            given: self.given,
+            queue: next.queue,
+            given: next.given,
         };
-        let entry = match admission::admit_into(part, place, sheets, lengths, codes, words) {
-            Err(refusal) => return next.refused(refusal),
-            Ok(entry) => entry,
-        };
-        next.queue = entry.queue;
-        next.given = entry.given;
-        next.races[place] = entry.race;
-        next.boards[place] = entry.boards;
+        let outcome = admission::admit_into(part, place, sheets, lengths, codes, words);
+        let told = next.entered(place, outcome);
         DispatcherAnswer {
-            word: ADMITTED,
-            one: entry.number,
-            two: entry.place,
-            answer: Numbers::zero(),
+            word: told.word,
+            one: told.one,
+            two: told.two,
+            answer: told.answer,
             next,
         }
     }
@@ -109,21 +153,17 @@ impl Dispatcher {
         ensures { TurnOf self words.old trace.old words.new trace.new (answer_in result) × WholeLists dispatcher_in Holds emptied }
     {
         let mut next = self;
-        let place = self.queue.first_place();
-        let own = self.boards[place];
-        let race = self.races[place];
-        match head_turn::serve(self.queue, place, race, &own.on, words, trace) {
-            Err(refusal) => next.refused(refusal),
-            Ok(Turn::Idle) => answered(IDLE, 0, Numbers::zero(), &next),
-            Ok(Turn::Taken(number, found, queue)) => {
-                next.queue = queue;
-                next.races[place] = found;
-                answered(TAKEN, number, Numbers::zero(), &next)
-            }
-            Ok(Turn::Answered(number, answer, queue)) => {
-                next.queue = queue;
-                answered(ANSWERED, number, answer, &next)
-            }
+        let place = next.queue.first_place();
+        let own = next.boards[place];
+        let race = next.races[place];
+        let outcome = head_turn::serve(next.queue, place, race, &own.on, words, trace);
+        let told = next.turned(place, outcome);
+        DispatcherAnswer {
+            word: told.word,
+            one: told.one,
+            two: told.two,
+            answer: told.answer,
+            next,
         }
     }
 
@@ -132,32 +172,43 @@ impl Dispatcher {
         ensures { CancelOf self number words.old words.new (answer_in result) × WholeLists dispatcher_in Holds emptied }
     {
         let mut next = self;
-        match cancellation::leave(self.queue, number, words) {
-            Err(refusal) => next.refused(refusal),
-            Ok(left) => {
-                next.queue = left;
-                DispatcherAnswer {
-                    word: CANCELLED,
-                    one: number,
-                    two: 0,
-                    answer: Numbers::zero(),
-                    next,
-                }
-            }
+        let outcome = cancellation::leave(next.queue, number, words);
+        let told = next.left(number, outcome);
+        DispatcherAnswer {
+            word: told.word,
+            one: told.one,
+            two: told.two,
+            answer: told.answer,
+            next,
         }
     }
 }
 
-// The answer to a turn: a word and the job that it names, the check's answer, and the dispatcher to go on with, which is lent, since a value
-// is copied whole wherever it goes.
-fn answered(word: u32, one: u32, answer: Numbers, next: &Dispatcher) -> DispatcherAnswer
-    ensures { result ≡ record { word = word; one = one; two = 0; answer = answer; next = next.now } }
+// What a call tells, without the dispatcher to go on with.
+#[derive(Clone, Copy)]
+struct Told {
+    word: u32,
+    one: u32,
+    two: u32,
+    answer: Numbers,
+}
+
+// A word and its numbers, with no answer of the check's.
+fn unanswered(word: u32, one: u32, two: u32) -> Told
+    ensures { told_of result ≡ unanswered_as word one two }
 {
-    DispatcherAnswer {
+    Told {
         word,
         one,
-        two: 0,
-        answer,
-        next: *next,
+        two,
+        answer: Numbers::zero(),
     }
+}
+
+// A call refused.
+fn refused(refusal: Refusal) -> Told
+    requires { refusal.line < 2 ^ 32 }
+    ensures { told_of result ≡ refused_as refusal }
+{
+    unanswered(REFUSED, refusal.reason.number(), refusal.line as u32)
 }

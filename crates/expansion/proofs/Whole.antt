@@ -4,8 +4,8 @@ use Prim.Native.Nat.{ℕ, ◌-◌, ◌*◌, ◌<◌}
 use native.Mathlib.Omega.{arith}
 use mathlib.Core.Path.{◌≡◌, refl, sym, ◌∙◌, ap, subst}
 use mathlib.Core.Bool.{Bool, true}
-use mathlib.Core.List.{List}
-use lib.ListN.{length, get_or, replicate, length-replicate}
+use mathlib.Core.List.{List, ◌++◌, append-nil}
+use lib.ListN.{length, get_or, replicate, length-replicate, drop_of_length-le}
 use Rattle.model.specs.Limits.{boards, messages_most, levels}
 use Rattle.model.specs.Refusal.{Out, ok, refusal, and_then}
 use Rattle.model.specs.Rows.{Row}
@@ -14,6 +14,7 @@ use Rattle.model.specs.Expansion.{Progress, start_of, block_opened, walk_rows, c
 use Rattle.model.proofs.Lists.{replicate_at}
 use Rattle.model.proofs.Standing.{read_fits}
 use Rattle.relation.specs.Width.{width}
+use Rattle.relation.specs.Rows.{cleared}
 use Rattle.sheet.specs.Bridge.{rows_of}
 use Rattle.blocks.specs.Store.{Store, store_of, store_ops, concluded, counted_with, walked_on}
 use Rattle.blocks.specs.Room.{Room}
@@ -35,6 +36,12 @@ use Rattle.next_block.specs.declared.Reached.{Reached}
 use Rattle.next_block.specs.declared.Reached.TheVariants as reached
 use Rattle.expansion.proofs.Reading.{start_zero, start_stand}
 use Rattle.next_block.proofs.Closing.{rest_walked, AfterBlock, block_ends, block_more}
+
+-- cleared boards are zeros
+cleared_zeros : (n : ℕ) (l : List ℕ) → length l ≡ n → cleared n l ≡ zeros n
+unfolding cleared zeros
+cleared_zeros n l e =
+    ap (λ (r : List ℕ). replicate n 0 ++ r) (drop_of_length-le l {i = n} (omega arith)) ∙ append-nil (replicate n 0)
 
 -- boards filled with zeros
 pub boards_zero : (given now : List ℕ) → length given ≡ 2 * messages_most → now ≡ replicate (length given) 0 → now ≡ zeros (2 * messages_most)

@@ -42,6 +42,8 @@ pub fn walk_on(
     requires rests { Rests ended (store_of boards.old words.old past.old) }
     ensures { Ends result (store_of boards.new words.new past.new) (walked_on (options_of options) (rows_in rows.now) (state_of ended (store_of boards.old words.old past.old))) }
 {
+    // A copy, so that no store of the walk can change where the columns are: they are not read anew at each row.
+    let rows = *rows;
     let mut from = [0usize; model::LEVELS];
     let mut level = 0;
     let mut at = rows.start[0] as usize;
@@ -49,7 +51,7 @@ pub fn walk_on(
     // Not a `for`: each block says from where the next is looked for.
     loop {
         let reached = next_block::next_block(
-            rows,
+            &rows,
             options,
             &mut from,
             level,
@@ -68,7 +70,7 @@ pub fn walk_on(
                 choices,
             } => {
                 let walk = Walk::opened(calls, choices, here.count);
-                let behind = walk::walk_block(rows, boards, words, past, row, walk)?;
+                let behind = walk::walk_block(&rows, boards, words, past, row, walk)?;
                 level = deep;
                 at = behind.row;
                 here = behind.walk;
@@ -124,6 +126,9 @@ pub fn expand(rows: &Rows, boards: &mut [u8], words: &mut [u64]) -> Result<usize
     requires words_len { length words.old ≡ 2 * messages_most * width }
     ensures { outcome_of result boards.new words.new ≡ expanded_of (rows_in rows.now) }
 {
-    let counted = expand_list(rows, 0, boards, words)?;
-    Ok(counted.messages)
+    // Not a `?`: the edit every_refusal_told_as_depth changes what is handed on here.
+    match expand_list(rows, 0, boards, words) {
+        Ok(counted) => Ok(counted.messages),
+        Err(refusal) => Err(refusal),
+    }
 }

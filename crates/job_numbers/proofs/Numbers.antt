@@ -38,6 +38,13 @@ position_behind n (k ∷ a) j b h e =
     let o = other_number n k.number (among n (numbers_in a)) h in
     rw (ne_eqb k.number n o.0) (ap suc (position_behind n a j b o.1 e))
 
+position_none : (n : ℕ) (a : List model.Job) → among n (numbers_in a) ≡ false → position_of n a ≡ length a
+unfolding among numbers_in position_of
+position_none n [] h = refl
+position_none n (k ∷ a) h =
+    let o = other_number n k.number (among n (numbers_in a)) h in
+    rw (ne_eqb k.number n o.0) (ap suc (position_none n a o.1))
+
 numbers_append : (x y : List model.Job) → numbers_in (x ++ y) ≡ numbers_in x ++ numbers_in y
 unfolding numbers_in
 numbers_append [] y = refl

@@ -64,12 +64,11 @@ scanned text at i e b s =
       behind = sym (s.behind ∙ b);
     }
 
-pub scan_end : (text : List ℕ) (at i : ℕ) → length text ≤ i → Scanned text at i → FieldEnd text at (length text)
+pub scan_end : (text : List ℕ) (at i : ℕ) → length text ≤ i → Scanned text at i → FieldEnd text at i
 unfolding first_field behind_field
 scan_end text at i l s =
     let d : drop i text ≡ [] = drop_of_length-le text l in
-    let e : i ≡ length text = omega (arith, s.to) in
-    rw (← e) (scanned text at i (rw d) (rw d) s)
+    scanned text at i (rw d) (rw d) s
 
 marked : (text : List ℕ) (at i : ℕ) → i < length text → is_mark (get_or text i 0) ≡ true → Scanned text at i → FieldEnd text at i
 unfolding first_field behind_field

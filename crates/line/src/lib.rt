@@ -24,13 +24,16 @@ fn field_end(text: &[u8], at: usize) -> usize
     requires { at ≤ length text.now }
     ensures { FieldEnd text.now at result }
 {
-    for i in at..text.len() {
+    let mut i = at;
+    // Not a `for`: with one end for the text and for a mark the reader of each field takes fewer instructions.
+    while i < text.len() {
         let b = text[i];
         if b == SPACE || b == LINE_END {
             return i;
         }
+        i += 1;
     }
-    text.len()
+    i
 }
 
 // The line that begins at `at`, if it has its end and three fields.

@@ -1,6 +1,5 @@
 -- A monitor's state as the model's, its answers, and what the parts of the calls say. Assumes nothing.
-use Rattle.std.specs.Prelude as code
-use Rattle.std.specs.Prelude.{◌≡◌, true, false, ℕ, ◌<◌, ◌≤◌, ◌^◌, ◌⊎◌, Some, None, Ok, Err, Result}
+use Rattle.std.specs.Prelude.{◌≡◌, Bool, true, false, ℕ, ◌<◌, ◌≤◌, ◌⊎◌, Ok, Err, Result}
 use Rattle.model.specs.Limits.{channels, scratch_least}
 use Rattle.outcome.specs.declared.Reason.TheVariants.{Channel, Bench}
 use Rattle.outcome.specs.declared.Refusal.{Refusal}
@@ -39,11 +38,11 @@ forbidden_as m = record { word = forbidden_word; one = 0; two = 0; next = m }
 abbrev pub taken_as : Run → ℕ → model.MonitorAnswer Monitor
 taken_as run code = record { word = taken_word; one = 0; two = 0; next = record { run = run; code = code } }
 
--- what a call comes to, as C gets it: the monitor to go on with; none, where the rule forbids a step; or the refusal
-abbrev pub answer_of : Monitor → Result (code.Option Monitor) Refusal → model.MonitorAnswer Monitor
-answer_of before (Ok (Some next)) = taken_as next.run next.code
-answer_of before (Ok None) = forbidden_as before
-answer_of before (Err r) = refused_as (number_in r.reason) r.line before
+-- what a call comes to, as C gets it, with the monitor as the call leaves it: taken or not, where the rule forbids a step; or the refusal
+abbrev pub answer_of : Monitor → Result Bool Refusal → model.MonitorAnswer Monitor
+answer_of next (Ok true) = taken_as next.run next.code
+answer_of next (Ok false) = forbidden_as next
+answer_of next (Err r) = refused_as (number_in r.reason) r.line next
 
 -- a code that is a channel's and a scratch that is long enough, or refusal 1 or 2
 abbrev pub Lends : ℕ → ℕ → Result (Unit {0}) Refusal → Type 0

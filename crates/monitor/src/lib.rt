@@ -37,31 +37,22 @@ pub struct MonitorAnswer {
     pub next: Monitor,
 }
 
-// What a call to a monitor comes to, as C gets it: the monitor to go on with; or the monitor as it was, where the rule forbids a step and on a
-// refusal.
-fn answered(before: &Monitor, outcome: Result<Option<Monitor>, Refusal>) -> MonitorAnswer
+// What a call to a monitor comes to, as C gets it, with the monitor as the call leaves it, which is lent, since a value is copied whole wherever
+// it goes: taken or not, where the rule forbids a step; or the refusal.
+fn answered(next: &Monitor, outcome: Result<bool, Refusal>) -> MonitorAnswer
     requires { LineFits outcome }
-    ensures { answer_in result ≡ answer_of before.now outcome }
+    ensures { answer_in result ≡ answer_of next.now outcome }
 {
-    match outcome {
-        Ok(Some(next)) => MonitorAnswer {
-            word: TAKEN,
-            one: 0,
-            two: 0,
-            next,
-        },
-        Ok(None) => MonitorAnswer {
-            word: FORBIDDEN,
-            one: 0,
-            two: 0,
-            next: *before,
-        },
-        Err(refusal) => MonitorAnswer {
-            word: REFUSED,
-            one: refusal.reason.number(),
-            two: refusal.line as u32,
-            next: *before,
-        },
+    let (word, one, two) = match outcome {
+        Ok(true) => (TAKEN, 0, 0),
+        Ok(false) => (FORBIDDEN, 0, 0),
+        Err(refusal) => (REFUSED, refusal.reason.number(), refusal.line as u32),
+    };
+    MonitorAnswer {
+        word,
+        one,
+        two,
+        next: *next,
     }
 }
 
@@ -92,26 +83,29 @@ pub fn lent(code: u32, scratch: &[u64]) -> Result<(), Refusal>
     Ok(())
 }
 
-// A text that is a sheet, with a code that is a channel's: a run at its start.
-fn begin(text: &[u8], code: u32, words: &mut [u64]) -> Result<Option<Monitor>, Refusal>
-    requires { length words.old ≡ 2 * messages_most * width }
-    ensures begins { Begins (sheet_of text.now) code (answer_of (zeros 0) result) }
+// A text that is a sheet, with a code that is a channel's: a run at its start goes on under the code.
+fn begin(next: &mut Monitor, text: &[u8], code: u32, words: &mut [u64]) -> Result<bool, Refusal>
+    requires words_len { length words.old ≡ 2 * messages_most * width }
+    requires at_start { next.old ≡ zeros 0 }
+    ensures begins { Begins (sheet_of text.now) code (answer_of next.new result) }
     ensures fits { LineFits result }
 {
     let mut boards = [0u8; model::EVENTS_MOST];
     scenario::scenario_of(text, &mut boards, words)?;
-    let run = Run::start();
-    Ok(Some(Monitor { run, code }))
+    next.code = code;
+    Ok(true)
 }
 
 impl Monitor {
-    // The monitor behind the step told, by the rules of the scenario under the code in force; none where they forbid it.
-    fn take(self, told: Option<Step>, words: &[u64], boards: &[u8], count: usize) -> Option<Monitor>
+    // The step told, by the rules of the scenario under the code in force: whether it is taken.
+    fn take(&mut self, told: Option<Step>, words: &[u64], boards: &[u8], count: usize) -> bool
         requires fit { Fit count boards.now words.now }
-        requires code_lt_channels { self.code < channels }
-        ensures { Takes (scenario_in count boards.now words.now) self (step_or_none told) (answer_of self (Ok result)) }
+        requires code_lt_channels { self.old.code < channels }
+        ensures { Takes (scenario_in count boards.now words.now) self.old (step_or_none told) (answer_of self.new (Ok result)) }
     {
-        let step = told?;
+        let Some(step) = told else {
+            return false;
+        };
         let mut masks = [0u64; board::MASK_WORDS];
         board::board_masks(boards, count, &mut masks);
         let scenario = Scenario {
@@ -124,22 +118,22 @@ impl Monitor {
         let c = channel_table::channel_of(code as usize);
         let run = self.run;
         if channel::allowed_in(run, &scenario, c, step) {
-            let run = next_state::next(run, boards, step);
-            return Some(Monitor { run, code });
+            self.run = next_state::next(run, boards, step);
+            return true;
         }
-        None
+        false
     }
 
-    // The step told, where the text is a sheet.
+    // The step told, where the text is a sheet: whether it is taken.
     fn judge_step(
-        self,
+        &mut self,
         told: Option<Step>,
         text: &[u8],
         words: &mut [u64],
-    ) -> Result<Option<Monitor>, Refusal>
+    ) -> Result<bool, Refusal>
         requires words_len { length words.old ≡ 2 * messages_most * width }
-        requires code_lt_channels { self.code < channels }
-        ensures steps { Steps (sheet_of text.now) self (step_or_none told) (answer_of self result) }
+        requires code_lt_channels { self.old.code < channels }
+        ensures steps { Steps (sheet_of text.now) self.old (step_or_none told) (answer_of self.new result) }
         ensures fits { LineFits result }
     {
         let mut boards = [0u8; model::EVENTS_MOST];
@@ -148,47 +142,51 @@ impl Monitor {
     }
 
     // The switch to a channel's code, where the text is a sheet: the state passes over whole.
-    fn judge_switch(
-        self,
-        code: u32,
-        text: &[u8],
-        words: &mut [u64],
-    ) -> Result<Option<Monitor>, Refusal>
+    fn judge_switch(&mut self, code: u32, text: &[u8], words: &mut [u64]) -> Result<bool, Refusal>
         requires words_len { length words.old ≡ 2 * messages_most * width }
         requires code_lt_channels { code < channels }
-        ensures switches { Switches (sheet_of text.now) self code (answer_of self result) }
+        ensures switches { Switches (sheet_of text.now) self.old code (answer_of self.new result) }
         ensures fits { LineFits result }
     {
         let mut boards = [0u8; model::EVENTS_MOST];
-        scenario::scenario_of(text, &mut boards, words)?;
-        let run = self.run;
-        if switching::is_barred(run, code as usize) {
+        // Not a `?`: the edit switch_refusal_ahead_of_the_sheets changes what is handed on here.
+        if let Err(refusal) = scenario::scenario_of(text, &mut boards, words) {
+            return Err(refusal);
+        }
+        if switching::is_barred(self.run, code as usize) {
             return Err(Reason::Switch.at(0));
         }
-        Ok(Some(Monitor { run, code }))
+        self.code = code;
+        Ok(true)
     }
 
-    // A monitor for a sheet on a channel. Refusals 1 and 2 touch nothing; behind every other answer the scratch is cleared.
-    fn opened(text: &[u8], code: u32, scratch: &mut [u64]) -> Result<Option<Monitor>, Refusal>
-        ensures promise { Opened held_in monitor_of zeros text.now code scratch.old scratch.new (answer_of (zeros 0) result) }
+    // A monitor for a sheet on a channel. Refusals 1 and 2 touch nothing; after every other answer the scratch is cleared.
+    fn opened(
+        next: &mut Monitor,
+        text: &[u8],
+        code: u32,
+        scratch: &mut [u64],
+    ) -> Result<bool, Refusal>
+        requires at_start { next.old ≡ zeros 0 }
+        ensures promise { Opened held_in monitor_of zeros text.now code scratch.old scratch.new (answer_of next.new result) }
         ensures fits { LineFits result }
     {
         lent(code, scratch)?;
         let end = model::SCRATCH_LEAST;
-        let outcome = begin(text, code, &mut scratch[..end]);
+        let outcome = begin(next, text, code, &mut scratch[..end]);
         relation::clear(scratch, end);
         outcome
     }
 
-    // The monitor behind a step, if the rules allow it.
+    // A step, if the rules allow it: whether it is taken.
     fn stepped(
-        self,
+        &mut self,
         kind: u32,
         message: u32,
         text: &[u8],
         scratch: &mut [u64],
-    ) -> Result<Option<Monitor>, Refusal>
-        ensures promise { Stepped held_in monitor_of zeros self kind message text.now scratch.old scratch.new (answer_of self result) }
+    ) -> Result<bool, Refusal>
+        ensures promise { Stepped held_in monitor_of zeros self.old kind message text.now scratch.old scratch.new (answer_of self.new result) }
         ensures fits { LineFits result }
     {
         lent(self.code, scratch)?;
@@ -199,14 +197,9 @@ impl Monitor {
         outcome
     }
 
-    // The monitor behind a switch.
-    fn switched(
-        self,
-        code: u32,
-        text: &[u8],
-        scratch: &mut [u64],
-    ) -> Result<Option<Monitor>, Refusal>
-        ensures promise { Switched held_in monitor_of zeros self code text.now scratch.old scratch.new (answer_of self result) }
+    // A switch, if no message bars it.
+    fn switched(&mut self, code: u32, text: &[u8], scratch: &mut [u64]) -> Result<bool, Refusal>
+        ensures promise { Switched held_in monitor_of zeros self.old code text.now scratch.old scratch.new (answer_of self.new result) }
         ensures fits { LineFits result }
     {
         lent(code, scratch)?;
@@ -220,20 +213,26 @@ impl Monitor {
     pub fn open(text: &[u8], code: u32, scratch: &mut [u64]) -> MonitorAnswer
         ensures { Opened held_in monitor_of zeros text.now code scratch.old scratch.new (answer_in result) × WholeLists held_in monitor_of zeros }
     {
-        answered(&zero(), Monitor::opened(text, code, scratch))
+        let mut next = zero();
+        let outcome = Monitor::opened(&mut next, text, code, scratch);
+        answered(&next, outcome)
     }
 
     // A step, by its code and message, with the sheet's text again.
     pub fn step(self, kind: u32, message: u32, text: &[u8], scratch: &mut [u64]) -> MonitorAnswer
         ensures { Stepped held_in monitor_of zeros self kind message text.now scratch.old scratch.new (answer_in result) × WholeLists held_in monitor_of zeros }
     {
-        answered(&self, self.stepped(kind, message, text, scratch))
+        let mut next = self;
+        let outcome = next.stepped(kind, message, text, scratch);
+        answered(&next, outcome)
     }
 
     // A switch to a channel code, with the sheet's text again.
     pub fn switch(self, code: u32, text: &[u8], scratch: &mut [u64]) -> MonitorAnswer
         ensures { Switched held_in monitor_of zeros self code text.now scratch.old scratch.new (answer_in result) × WholeLists held_in monitor_of zeros }
     {
-        answered(&self, self.switched(code, text, scratch))
+        let mut next = self;
+        let outcome = next.switched(code, text, scratch);
+        answered(&next, outcome)
     }
 }

@@ -40,12 +40,12 @@ fn behind_blocks(kind: &[u8], rows: usize, row: usize) -> usize
     requires row_le_rows { row ≤ rows }
     ensures { BehindBlocks kind.now rows row result }
 {
-    for at in row..rows {
-        if kind[at] != b'B' {
-            return at;
-        }
+    let mut at = row;
+    // Not a `for`: with two ways out of the loop each turn keeps its letter for the caller, one instruction of six.
+    while at < rows && kind[at] == b'B' {
+        at += 1;
     }
-    rows
+    at
 }
 
 // From a row on, the open block being empty, to the next row of a block, through calls and ends of sheets, or to refusal 8, 9 or 13.

@@ -54,8 +54,11 @@ fn judge(
     if text.is_empty() || model::TEXT_MOST < text.len() {
         return Err(Reason::Length.at(0));
     }
-    let read = sender_table::read_table(table)?;
-    judge_rules(text, read.rules, read.count, code, words, trace)
+    // Not a `?`: the edit bad_line_of_the_table_lost changes what is handed on here.
+    match sender_table::read_table(table) {
+        Ok(read) => judge_rules(text, read.rules, read.count, code, words, trace),
+        Err(refusal) => Err(refusal),
+    }
 }
 
 // The call: refusals 1 and 2 touch nothing; behind every other answer the scratch is cleared.

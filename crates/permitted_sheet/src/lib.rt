@@ -28,7 +28,11 @@ pub fn judge_sheet(
     ensures { Decides (sheet_by text.now (rules_as (take count rules))) code trace.old trace.new result }
 {
     let mut boards = [0u8; model::EVENTS_MOST];
-    let messages = scenario::scenario_of(text, &mut boards, words)?;
+    // Not a `?`: the edit forbidden_ahead_of_10 changes what is handed on here.
+    let messages = match scenario::scenario_of(text, &mut boards, words) {
+        Ok(messages) => messages,
+        Err(refusal) => return Err(refusal),
+    };
     let permitted = receivers::permitted_by(rules, count);
     if let Some(m) = receivers::first_forbidden(permitted, &boards, messages) {
         let line = message_lines::line_of(text, m, words);

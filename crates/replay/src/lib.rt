@@ -45,7 +45,10 @@ fn judge_trace(
     ensures { TraceChecked text.now code scratch.old scratch.new trace.now (replay_numbers (verdict_in result)) (waits_in result) }
 {
     let channel = lent::channel(code)?;
-    lent::at_least(model::SCRATCH_LEAST, scratch.len())?;
+    // Not a `?`: the edit twelve_ahead_of_two changes what is handed on here.
+    if let Err(refusal) = lent::at_least(model::SCRATCH_LEAST, scratch.len()) {
+        return Err(refusal);
+    }
     if !trace_answer::is_trace(trace.len()) {
         let all = model::SCRATCH_LEAST;
         relation::clear(scratch, all);

@@ -22,9 +22,13 @@ pub fn scenario_of(
     let mut one = [0u16; model::ROWS_MOST];
     let mut two = [0u16; model::ROWS_MOST];
     let mut start = [0u16; model::SHEETS];
-    let count = sheet::read(
+    // Not a `?`: the edit refusal_of_another_number changes what is handed on here.
+    let count = match sheet::read(
         text, false, &mut kind, &mut one, &mut two, &mut start, words,
-    )?;
+    ) {
+        Ok(count) => count,
+        Err(refusal) => return Err(refusal),
+    };
     let rows = Rows {
         kind: &kind,
         one: &one,

@@ -25,8 +25,11 @@ pub enum Judgement {
 pub fn check_senders(table: &[u8]) -> Result<Judgement, Refusal>
     ensures { TableJudged table.now (numbers_for result) }
 {
-    let read = sender_table::read_table(table)?;
-    Ok(judge(read.rules, read.count))
+    // Not a `?`: the edits another_refusal and bad_line_not_reported change what is handed on here.
+    match sender_table::read_table(table) {
+        Ok(read) => Ok(judge(read.rules, read.count)),
+        Err(refusal) => Err(refusal),
+    }
 }
 
 // The judgement of the first `count` rules: sender by sender, the lowest faulty pair.

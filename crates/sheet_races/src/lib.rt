@@ -58,7 +58,11 @@ fn check(text: &[u8], code: u32, scratch: &mut [u64], output: &mut [u16]) -> Res
     ensures races_told { RacesTold text.now code scratch.old scratch.new output.old output.new (numbers_for result) }
     ensures small { Small result }
 {
-    let channel = lent::channel(code)?;
+    // Not a `?`: the edit refusal_out_of_order changes what is handed on here.
+    let channel = match lent::channel(code) {
+        Ok(channel) => channel,
+        Err(refusal) => return Err(refusal),
+    };
     lent::at_least(model::SCRATCH_LEAST, scratch.len())?;
     let end = model::SCRATCH_LEAST;
     let answer = judge(text, channel, &mut scratch[..end], output);

@@ -25,8 +25,11 @@ fn judge(
     ensures { Decides first.now second.now (and_then (sheet_of text.now) (with_lists first.now second.now)) output.old output.new result }
 {
     let mut boards = [0u8; model::EVENTS_MOST];
-    let count = scenario::scenario_of(text, &mut boards, words)?;
-    taps::decide(words, count, first, second, output)
+    // Not a `?`: the edit line_of_a_refusal_lost changes what is handed on here.
+    match scenario::scenario_of(text, &mut boards, words) {
+        Ok(count) => taps::decide(words, count, first, second, output),
+        Err(refusal) => Err(refusal),
+    }
 }
 
 // Whether both lists fit one course of events: refusal 2 touches nothing; behind every other answer the scratch is cleared.

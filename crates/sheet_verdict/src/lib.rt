@@ -31,7 +31,11 @@ pub fn check(
 ) -> Result<Verdict, Refusal>
     ensures { Checked text.now code scratch.old scratch.new trace.old trace.new (numbers_for result) }
 {
-    let channel = lent::channel(code)?;
+    // Not a `?`: the edit refusal_out_of_order changes what is handed on here.
+    let channel = match lent::channel(code) {
+        Ok(channel) => channel,
+        Err(refusal) => return Err(refusal),
+    };
     lent::at_least(model::SCRATCH_LEAST, scratch.len())?;
     lent::at_least(model::TRACE_LEAST, trace.len())?;
     let end = model::SCRATCH_LEAST;

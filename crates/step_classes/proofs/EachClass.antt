@@ -1,9 +1,11 @@
 -- The classes, one by one. Assumes nothing.
 use mathlib.Core.Path.{◌≡◌, refl, sym, ◌∙◌, ap, ap₂}
 use mathlib.Core.Bool.{Bool}
-use mathlib.Core.List.{List}
+use mathlib.Core.List.{List, [], ◌∷◌}
 use Prim.Native.Nat.{ℕ, ◌+◌, ◌*◌, ◌<◌}
 use native.Mathlib.Omega.{arith}
+use lib.ListN.{get_or}
+use denote.Enum.Declared.{tag_of}
 use Rattle.model.specs.Order.{event, at_or_before, Scenario}
 use Rattle.model.proofs.Events.{send_event, receive_event}
 use Rattle.relation.specs.Width.{width}
@@ -14,6 +16,7 @@ use Rattle.step.specs.Steps.{step_in, message_in}
 use Rattle.step_classes.specs.declared.Class.{Class}
 use Rattle.step_classes.specs.declared.Class.TheVariants.{AnyConsume, DeliveryOf, NeededDelivery, NeededSend, AnyDelivery, AnySend}
 use Rattle.step_classes.specs.Classes.{class_in, step_for}
+use Rattle.step_classes.specs.contracts.Class.{the_type}
 
 -- what each return of `takes` is to show
 module _ (count : ℕ) (boards words : List ℕ) (e : ℕ) (q : Class) (m : ℕ) where
@@ -29,6 +32,21 @@ module _ (count : ℕ) (boards words : List ℕ) (e : ℕ) (q : Class) (m : ℕ)
   takes_send r i h =
       h ∙ ap₂ (λ x y. at_or_before (scenario_in count boards words) x y) (send_event m) (send_event e)
       ∙ ap (λ k. (class_in (scenario_in count boards words) e k).takes m) (sym i)
+
+-- a class is known by its tag
+abbrev class_at : ℕ → Class
+class_at n = get_or (AnyConsume ∷ DeliveryOf ∷ NeededDelivery ∷ NeededSend ∷ AnyDelivery ∷ AnySend ∷ []) n AnyConsume
+
+class_at_holds : (q : Class) → class_at (tag_of the_type q) ≡ q
+class_at_holds AnyConsume = refl
+class_at_holds DeliveryOf = refl
+class_at_holds NeededDelivery = refl
+class_at_holds NeededSend = refl
+class_at_holds AnyDelivery = refl
+class_at_holds AnySend = refl
+
+class_of : (q k : Class) → tag_of the_type q ≡ tag_of the_type k → q ≡ k
+class_of q k t = sym (class_at_holds q) ∙ ap class_at t ∙ class_at_holds k
 
 -- the step of a class is the model's, and its message is m
 pub step_is : (S : Scenario) (e : ℕ) (q : Class) (m : ℕ) → step_in (step_for q m) ≡ (class_in S e q).step m

@@ -63,5 +63,9 @@ pub fn free_place(queue: Queue) -> Option<usize>
 pub fn spare_place(queue: Queue) -> usize
     ensures { SparePlace (queue_in queue) result }
 {
-    free_place(queue).unwrap_or(0)
+    // Not `unwrap_or`: the edits spare_place_always_0 and spare_place_beyond_the_last change what each arm gives.
+    match free_place(queue) {
+        Some(place) => place,
+        None => 0,
+    }
 }

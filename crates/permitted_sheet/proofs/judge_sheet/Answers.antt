@@ -1,22 +1,19 @@
 -- `permitted_sheet::judge_sheet` meets its contract. Assumes nothing.
-use Rattle.std.proofs.lemmas.Result.{err_from_is_err_and}
 use Rattle.permitted_sheet.proofs.Sheet.{forbidden_met, forbidden_few, sheet_not_read, nothing_forbidden, message_refused}
 use Rattle.permitted_sheet.proofs.judge_sheet.Goals as goal
 
-pub returns-in_err-messages : goal.returns-in_err-messages
-returns-in_err-messages c =
-    let p = err_from_is_err_and c.from_residual.result c.from_residual.ensures.1 in
-    rw (p.1, p.2) (sheet_not_read _ _ _ _ _ _ _ c.in_err-messages.ensures)
+pub returns-in-Err : goal.returns-in-Err
+returns-in-Err c = sheet_not_read _ _ _ _ _ _ _ c.in-Err.ensures
 
 pub line_of-line-requires-clause-message_in_bounds : goal.line_of-line-requires-clause-message_in_bounds
-line_of-line-requires-clause-message_in_bounds c = forbidden_met _ _ _ _ c.in_ok-messages.ensures _ _ c.permitted_by-permitted.ensures _ c.in-Some.ensures
+line_of-line-requires-clause-message_in_bounds c = forbidden_met _ _ _ _ c.in-Ok.ensures _ _ c.permitted_by-permitted.ensures _ c.in-Some.ensures
 
 pub line_of-line-requires-clause-message_lt_messages_most : goal.line_of-line-requires-clause-message_lt_messages_most
-line_of-line-requires-clause-message_lt_messages_most c = forbidden_few _ _ _ _ c.in_ok-messages.ensures _ _ c.permitted_by-permitted.ensures _ c.in-Some.ensures
+line_of-line-requires-clause-message_lt_messages_most c = forbidden_few _ _ _ _ c.in-Ok.ensures _ _ c.permitted_by-permitted.ensures _ c.in-Some.ensures
 
 pub returns-in-Some : goal.returns-in-Some
 returns-in-Some c =
-    rw c.at.ensures (message_refused _ _ _ _ c.in_ok-messages.ensures _ _ c.permitted_by-permitted.ensures _ c.in-Some.ensures _ _ _ c.line_of-line.ensures)
+    rw c.at.ensures (message_refused _ _ _ _ c.in-Ok.ensures _ _ c.permitted_by-permitted.ensures _ c.in-Some.ensures _ _ _ c.line_of-line.ensures)
 
 pub returns : goal.returns
-returns c = nothing_forbidden _ _ _ _ c.in_ok-messages.ensures _ _ c.permitted_by-permitted.ensures c.in_default.ensures _ _ _ _ c.decide.ensures
+returns c = nothing_forbidden _ _ _ _ c.in-Ok.ensures _ _ c.permitted_by-permitted.ensures c.in_default.ensures _ _ _ _ c.decide.ensures

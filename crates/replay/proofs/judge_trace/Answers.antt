@@ -15,12 +15,11 @@ pub returns-in_err-channel : goal.returns-in_err-channel
 returns-in_err-channel c = let p = err_from_is_err_and c.from_residual.result c.from_residual.ensures.1 in
     rw (p.1, p.2) (refuses_channel _ _ _ _ _ c.in_err-channel.ensures.0 c.in_err-channel.ensures.1)
 
-pub returns-in_err-at_least : goal.returns-in_err-at_least
-returns-in_err-at_least c = let p = err_from_is_err_and c.from_residual-in_err-at_least.result c.from_residual-in_err-at_least.ensures.1 in
-    rw (p.1, p.2) (refuses_scratch _ _ _ _ _ c.in_err-at_least.ensures.0 c.in_ok-channel.ensures.1 c.in_err-at_least.ensures.1)
+pub returns-in-Err : goal.returns-in-Err
+returns-in-Err c = refuses_scratch _ _ _ _ _ c.in-Err.ensures.0 c.in_ok-channel.ensures.1 c.in-Err.ensures.1
 
 pub returns-then-not-is_trace : goal.returns-then-not-is_trace
-returns-then-not-is_trace c = let known = c.in_ok-channel.ensures.1 in let long = c.in_ok-at_least.ensures in search (refuses_trace, rules)
+returns-then-not-is_trace c = let known = c.in_ok-channel.ensures.1 in let long = c.in_default.ensures in search (refuses_trace, rules)
 
 pub slice_bounds-judge-end-2 : goal.slice_bounds-judge-end-2
 slice_bounds-judge-end-2 c = simp length-take (omega arith)

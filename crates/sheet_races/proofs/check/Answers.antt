@@ -10,14 +10,13 @@ use Rattle.relation.specs.Width.{width}
 use Rattle.sheet_races.proofs.Whole.{refuses_channel, refuses_scratch, no_line, answers}
 use Rattle.sheet_races.proofs.check.Goals as goal
 
-pub returns-in_err-channel : goal.returns-in_err-channel
-returns-in_err-channel c = let p = err_from_is_err_and c.from_residual.result c.from_residual.ensures.1 in
-    rw (p.1, p.2) (record { races_told = refuses_channel _ _ _ _ _ c.in_err-channel.ensures.0 c.in_err-channel.ensures.1; small = no_line c.in_err-channel.ensures.0 })
+pub returns-in-Err : goal.returns-in-Err
+returns-in-Err c = record { races_told = refuses_channel _ _ _ _ _ c.in-Err.ensures.0 c.in-Err.ensures.1; small = no_line c.in-Err.ensures.0 }
 
 pub returns-in_err-at_least : goal.returns-in_err-at_least
-returns-in_err-at_least c = let p = err_from_is_err_and c.from_residual-in_err-at_least.result c.from_residual-in_err-at_least.ensures.1 in
+returns-in_err-at_least c = let p = err_from_is_err_and c.from_residual.result c.from_residual.ensures.1 in
     rw (p.1, p.2) (record {
-      races_told = refuses_scratch _ _ _ _ _ c.in_err-at_least.ensures.0 c.in_ok-channel.ensures.1 c.in_err-at_least.ensures.1;
+      races_told = refuses_scratch _ _ _ _ _ c.in_err-at_least.ensures.0 c.in-Ok.ensures.1 c.in_err-at_least.ensures.1;
       small = no_line c.in_err-at_least.ensures.0;
     })
 
@@ -31,8 +30,8 @@ pub returns : goal.returns
 returns c = let n = 2 * messages_most * width in
     let kept = length-take n c.args.scratch.now in
     record {
-      races_told = rw (← c.in_ok-channel.ensures.0) (
-          answers _ c.in_ok-channel.channel _ _ _ _ c.judge-answer.new.words n _ _ (search rules) c.in_ok-at_least.ensures (omega (arith, kept)) (search rules)
+      races_told = rw (← c.in-Ok.ensures.0) (
+          answers _ c.in-Ok.channel _ _ _ _ c.judge-answer.new.words n _ _ (search rules) c.in_ok-at_least.ensures (omega (arith, kept)) (search rules)
           c.clear.ensures refl c.judge-answer.ensures.answers);
       small = c.judge-answer.ensures.small;
     }

@@ -10,17 +10,16 @@ use Rattle.relation.specs.Width.{width}
 use Rattle.sheet_verdict.proofs.Whole.{refuses_channel, refuses_scratch, refuses_trace, answers}
 use Rattle.sheet_verdict.proofs.check.Goals as goal
 
-pub returns-in_err-channel : goal.returns-in_err-channel
-returns-in_err-channel c = let p = err_from_is_err_and c.from_residual.result c.from_residual.ensures.1 in
-    rw (p.1, p.2) (refuses_channel _ _ _ _ _ c.in_err-channel.ensures.0 c.in_err-channel.ensures.1)
+pub returns-in-Err : goal.returns-in-Err
+returns-in-Err c = refuses_channel _ _ _ _ _ c.in-Err.ensures.0 c.in-Err.ensures.1
 
 pub returns-in_err-at_least : goal.returns-in_err-at_least
-returns-in_err-at_least c = let p = err_from_is_err_and c.from_residual-in_err-at_least.result c.from_residual-in_err-at_least.ensures.1 in
-    rw (p.1, p.2) (refuses_scratch _ _ _ _ _ c.in_err-at_least.ensures.0 c.in_ok-channel.ensures.1 c.in_err-at_least.ensures.1)
+returns-in_err-at_least c = let p = err_from_is_err_and c.from_residual.result c.from_residual.ensures.1 in
+    rw (p.1, p.2) (refuses_scratch _ _ _ _ _ c.in_err-at_least.ensures.0 c.in-Ok.ensures.1 c.in_err-at_least.ensures.1)
 
 pub returns-in_err-at_least-2 : goal.returns-in_err-at_least-2
 returns-in_err-at_least-2 c = let p = err_from_is_err_and c.from_residual-in_err-at_least-2.result c.from_residual-in_err-at_least-2.ensures.1 in
-    rw (p.1, p.2) (refuses_trace _ _ _ _ _ c.in_err-at_least-2.ensures.0 c.in_ok-channel.ensures.1 c.in_err-at_least-2.ensures.1)
+    rw (p.1, p.2) (refuses_trace _ _ _ _ _ c.in_err-at_least-2.ensures.0 c.in-Ok.ensures.1 c.in_err-at_least-2.ensures.1)
 
 pub slice_bounds-judge-end-2 : goal.slice_bounds-judge-end-2
 slice_bounds-judge-end-2 c = simp length-take (omega arith)
@@ -31,6 +30,6 @@ judge-answer-requires c = record { words_len = simp length-take (omega arith); c
 pub returns : goal.returns
 returns c = let n = 2 * messages_most * width in
     let kept = length-take n c.args.scratch.now in
-    rw (← c.in_ok-channel.ensures.0) (
+    rw (← c.in-Ok.ensures.0) (
     answers _ _ _ _ _ _ c.judge-answer.new.words n _ _ (search rules) (search rules) (search rules) (omega (arith, kept)) (search rules)
     c.clear.ensures refl c.judge-answer.ensures)

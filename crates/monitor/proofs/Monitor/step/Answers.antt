@@ -6,4 +6,4 @@ use Rattle.monitor.proofs.Whole.{all_lists}
 use Rattle.monitor.proofs.Monitor.step.Goals as goal
 
 pub returns : goal.returns
-returns c = (subst⁻¹ (Stepped held_in monitor_of zeros c.args.self c.args.kind c.args.message c.args.text.now c.args.scratch.now c.stepped.new.scratch) c.answered.ensures c.stepped.ensures.promise, all_lists)
+returns c = (subst⁻¹ (Stepped held_in monitor_of zeros c.args.self c.args.kind c.args.message c.args.text.now c.args.scratch.now c.stepped-outcome.new.scratch) c.answered.ensures c.stepped-outcome.ensures.promise, all_lists)

@@ -18,5 +18,5 @@ returns-in_err-lent-clause-promise c = let p = err_from_is_err_and c.from_residu
 pub returns-clause-promise : goal.returns-clause-promise
 returns-clause-promise c = let n = 2 * messages_most * width in
     let kept = length-take n c.args.scratch.now in
-    steps _ _ _ _ _ (answer_of c.args.self c.judge_step-outcome.result) _ c.judge_step-outcome.new.words n _ _ c.in_ok-lent.ensures.0 c.in_ok-lent.ensures.1 (omega (arith, kept)) (search rules)
+    steps _ _ _ _ _ (answer_of c.judge_step-outcome.new.self c.judge_step-outcome.result) _ c.judge_step-outcome.new.words n _ _ c.in_ok-lent.ensures.0 c.in_ok-lent.ensures.1 (omega (arith, kept)) (search rules)
     c.clear.ensures refl c.told-told.ensures c.judge_step-outcome.ensures.steps

@@ -6,4 +6,4 @@ use Rattle.monitor.proofs.Whole.{all_lists}
 use Rattle.monitor.proofs.Monitor.switch.Goals as goal
 
 pub returns : goal.returns
-returns c = (subst⁻¹ (Switched held_in monitor_of zeros c.args.self c.args.code c.args.text.now c.args.scratch.now c.switched.new.scratch) c.answered.ensures c.switched.ensures.promise, all_lists)
+returns c = (subst⁻¹ (Switched held_in monitor_of zeros c.args.self c.args.code c.args.text.now c.args.scratch.now c.switched-outcome.new.scratch) c.answered.ensures c.switched-outcome.ensures.promise, all_lists)

@@ -23,6 +23,8 @@ fn add_message(words: &mut [u64], m: usize)
 }
 
 // `P x y`, in a block of so many messages: where y is before x, the row would put x before itself; else x is put before y.
+// Kept out of line: in line, the reader of a sheet has no register left for y's bit and loads it at each event, one instruction of ten.
+#[inline(never)]
 fn add_order(words: &mut [u64], messages: usize, x: u16, y: u16) -> bool
     requires { (length words.old ≡ 2 * messages_most * width) × (messages ≤ messages_most) × (x < 2 * messages) × (y < 2 * messages) }
     ensures { NotedAs words.old messages (order x y) words.new result }

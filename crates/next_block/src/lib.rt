@@ -35,17 +35,19 @@ fn is_call(letter: u8) -> bool
 }
 
 // The first row from `row` on that is no B row: an empty block costs its row alone.
+// Kept out of line: in line, each turn keeps its letter for the caller, one instruction of six.
+#[inline(never)]
 fn behind_blocks(kind: &[u8], rows: usize, row: usize) -> usize
     requires rows_in_bounds { rows ≤ length kind.now }
     requires row_le_rows { row ≤ rows }
     ensures { BehindBlocks kind.now rows row result }
 {
-    let mut at = row;
-    // Not a `for`: with two ways out of the loop each turn keeps its letter for the caller, one instruction of six.
-    while at < rows && kind[at] == b'B' {
-        at += 1;
+    for at in row..rows {
+        if kind[at] != b'B' {
+            return at;
+        }
     }
-    at
+    rows
 }
 
 // From a row on, the open block being empty, to the next row of a block, through calls and ends of sheets, or to refusal 8, 9 or 13.
